@@ -1,5 +1,6 @@
-use Rattle.std.proofs.Common.{◌≡◌, [], ◌∷◌, Some, None, refl, sym, ap, ◌∙◌}
-use Rattle.std.specs.Prelude.{option_map}
+use Rattle.std.proofs.Common.{◌≡◌, true, false, [], ◌∷◌, Some, None, refl, sym, ap, subst, ◌∙◌}
+use Rattle.std.specs.Prelude.{IfSome, option_map}
+use Rattle.secs_item.specs.Spelling.{IsText}
 use Rattle.secs_text.specs.View.{content}
 use Rattle.hsms_entity.specs.Act.{asks}
 use Rattle.hsms_entity.specs.Frame.{fitting_text, message_frame}
@@ -49,3 +50,22 @@ returns-in_default-2 g c =
 
 pub invariant_of-self-2 : goal.invariant_of-self-2
 invariant_of-self-2 g c = λ b. c.in_ok-send.ensures.sound
+
+pub send-requires-clause-sound : goal.send-requires-clause-sound
+send-requires-clause-sound g c = c.self.invariant c.in_ok-ready.ensures.fresh
+
+pub send-requires-clause-unhindered : goal.send-requires-clause-unhindered
+send-requires-clause-unhindered g c = sym c.in_default.ensures
+
+pub send-requires-clause-fits : goal.send-requires-clause-fits
+send-requires-clause-fits g c =
+    ap (λ item. fitting_text c.self.inside.state.settings item) (sym c.item.ensures) ∙ sym c.in_ok-text.ensures.value ∙ ap (λ text. option_map (λ octets. octets.items) text) c.in-Some-2.is
+
+pub send-requires-clause-spelled : goal.send-requires-clause-spelled
+send-requires-clause-spelled g c = subst (λ text. IfSome text (λ octets. IsText c.self.inside.state.settings.depth octets.items)) c.in-Some-2.is c.in_ok-text.ensures.spelled
+
+pub invariant_of-self : goal.invariant_of-self
+invariant_of-self g c = λ b. absurd (let d : true ≡ false = b in cc)
+
+pub invariant_of-self-in_err-send : goal.invariant_of-self-in_err-send
+invariant_of-self-in_err-send g c = λ b. absurd (let d : true ≡ false = b in cc)
