@@ -58,9 +58,9 @@ impl EquipmentDesk {
     fn identity(&self, alloc: Global) -> Result<Item, AllocError>
         ensures { IfOk result (λ item. view item ≡ equipment_identity self.now.mdln.items self.now.softrev.items) }
     {
-        let mdln = Item::Ascii(Vec::from_slice(alloc, &self.mdln)?);
-        let softrev = Item::Ascii(Vec::from_slice(alloc, &self.softrev)?);
-        Ok(Item::List(vec![in alloc; mdln, softrev]?))
+        let mdln = Vec::from_slice(alloc, &self.mdln)?;
+        let softrev = Vec::from_slice(alloc, &self.softrev)?;
+        Ok(Item::List(vec![in alloc; Item::Ascii(mdln), Item::Ascii(softrev)]?))
     }
 }
 
@@ -73,8 +73,8 @@ ghost use Rattle.hsms_entity.specs.Desk.{acknowledged as acknowledgement, looped
 fn acknowledged(alloc: Global, identity: Item) -> Result<Item, AllocError>
     ensures { IfOk result (λ item. view item ≡ acknowledgement (view identity)) }
 {
-    let accepted = Item::Binary(vec![in alloc; 0]?);
-    Ok(Item::List(vec![in alloc; accepted, identity]?))
+    let accepted = vec![in alloc; 0]?;
+    Ok(Item::List(vec![in alloc; Item::Binary(accepted), identity]?))
 }
 
 /// What S2F25 is answered by.

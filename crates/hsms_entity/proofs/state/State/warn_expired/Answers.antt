@@ -1,8 +1,11 @@
 use Rattle.std.proofs.Common.{List, [], refl, ap, subst, ◌∙◌}
+use Rattle.std.proofs.lemmas.List.{take_all}
 use Rattle.hsms_frame.specs.declared.header.Header.{Header}
 use Rattle.hsms_entity.specs.Act.{Act}
+use Rattle.hsms_entity.specs.Expiring.{warnings_of}
 use Rattle.hsms_entity.specs.Performing.{Performs}
 use Rattle.hsms_entity.specs.Reaction.{is_equipment}
+use Rattle.hsms_entity.specs.Sound.{Completes}
 use Rattle.hsms_entity.specs.Turn.{is_up}
 use Rattle.hsms_entity.proofs.AwaitingReplies.{sound_awaits, peers_transactions_are_none_between_calls, awaits_own, does_nothing}
 use Rattle.hsms_entity.proofs.Notices.{no_warning, one_warned, may_warn, still_may_warn}
@@ -40,3 +43,8 @@ loop-header-preserved c =
       settings = c.in_ok-warn.ensures.same.settings ∙ c.loop-header.invariant.settings;
       selected = still_may_warn c.loop-header.self.tracker.phase c.warn.new.self.tracker.phase c.args.expired.now (c.in_ok-warn.ensures.same.phase ∙ selected);
     }
+
+pub returns : goal.returns
+returns c =
+    subst (λ hs. Completes c.args.self.now c.args.entries.now.items (warnings_of c.args.self.now.settings hs) c.loop-header.self c.loop-header.entries.items)
+    (take_all c.loop-header.header-index c.args.expired.now c.loop-header-test.false) c.loop-header.invariant.told
