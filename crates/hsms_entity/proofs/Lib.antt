@@ -28,3 +28,4 @@ pub mod Numbers
 pub mod ExpiryOrder
 pub mod Single
 pub mod Outcomes
+pub mod Building
