@@ -43,3 +43,6 @@ returns-in-Active c =
           (started_up c.args.self.now c.args.now c.requires.sound before c.log.new.self after)
           c.free_number-number.result (started_room c.args.self.now c.args.now c.requires.sound before c.log.new.self after) c.free_number-number.ensures.free);
     })
+
+pub send_numbered-requires-clause-free : goal.send_numbered-requires-clause-free
+send_numbered-requires-clause-free c = c.free_number-number.ensures
