@@ -1,6 +1,8 @@
 //! When a timer runs out and what is logged then, and when the link is to be tested.
 
 ghost use Rattle.std.specs.Prelude.{◌≡◌, true, false, OnOk, IfOk};
+ghost use Rattle.hsms_machine.specs.declared.entry.Event.TheVariants.{Down};
+ghost use Rattle.hsms_machine.specs.Step.{IsBrokenAt};
 ghost use Rattle.hsms_entity.specs.Turn.{is_up as is_connection_up, is_t8_overdue, overdue_cause, expiries};
 ghost use Rattle.hsms_entity.specs.Sound.{IsSound, Completes};
 ghost use Rattle.hsms_entity.specs.Expiring.{IsLate, HasExpired, MayWarn, is_data_overdue, overdue_of, warnings_of};
@@ -9,7 +11,7 @@ ghost use Rattle.hsms_entity.specs.Due.{octets_due, next_due, test_due};
 
 use crate::state::State;
 use hsms_frame::Header;
-use hsms_machine::{Cause, Entry, Event, earlier};
+use hsms_machine::{Cause, Entry, Event, Rule, earlier};
 use std::alloc::AllocError;
 
 impl State {
@@ -62,22 +64,29 @@ impl State {
         Ok(expired)
     }
 
+    /// The first rule that a `down` would break at the end's moment.
+    fn judge_down(&self) -> Option<Rule>
+        ensures { IsBrokenAt self.now.tracker (record { time = self.now.moment; event = Down }) result }
+    {
+        let down = Entry {
+            time: self.moment,
+            event: Event::Down,
+        };
+        self.tracker.check(&down)
+    }
+
     /// Why the connection is to be cut, where no own primary is overdue.
     fn overdue_cause(&self) -> Option<Cause>
         requires late { IsLate self.now }
         requires in_time { is_data_overdue self.now ≡ false }
         ensures { result ≡ overdue_cause (known self.now) }
     {
-        let down = Entry {
-            time: self.moment,
-            event: Event::Down,
-        };
         if self
             .overdue(self.tracker.oldest_control(), self.settings.t6())
             .is_some()
         {
             Some(Cause::T6)
-        } else if self.tracker.check(&down).is_some() {
+        } else if self.judge_down().is_some() {
             // T7 is overdue: nothing else could keep the tracker from taking a `down` without a cut.
             Some(Cause::T7)
         } else if self.is_t8_overdue() {

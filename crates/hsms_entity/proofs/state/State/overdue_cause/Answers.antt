@@ -15,4 +15,4 @@ returns-then-is_some-2 c =
     ∙ ap (λ oldest. overdue_of c.t6.result end.moment oldest) c.oldest_control.ensures
     ∙ ap (λ limit. overdue_of limit end.moment (oldest_of end.tracker.sent_control)) c.t6.ensures.value))
     ∙ c.if-is_some.false in
-    cause_behind end c.requires.late c.requires.in_time t6 c.check.result true (Some T7) (sym c.is_some-else-is_some.ensures ∙ c.if-is_some-2.true) c.check.ensures.told refl
+    cause_behind end c.requires.late c.requires.in_time t6 c.judge_down.result true (Some T7) (sym c.is_some-else-is_some.ensures ∙ c.if-is_some-2.true) c.judge_down.ensures refl
