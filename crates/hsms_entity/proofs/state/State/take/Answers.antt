@@ -1,7 +1,4 @@
-use Rattle.hsms_entity.specs.Reaction.{answers_primary}
-use Rattle.hsms_entity.specs.Inside.{after_asking}
-use Rattle.hsms_machine.specs.Settings.{Parameters}
-use Rattle.std.proofs.Common.{◌≡◌, ℕ, [], ◌∷◌, ◌∙◌, Bool, true, refl, ap, subst, sym, if◌then◌else◌}
+use Rattle.std.proofs.Common.{◌≡◌, ℕ, [], ◌∷◌, ◌∙◌, Bool, true, refl, ap, sym, if◌then◌else◌}
 use Rattle.std.specs.Int.{from_bool}
 use Rattle.hsms_frame.specs.Build.{control_header_of}
 use Rattle.hsms_frame.specs.declared.header.Header.{Header}
@@ -11,15 +8,14 @@ use Rattle.hsms_frame.specs.Header.{kind_of}
 use Rattle.hsms_frame.specs.declared.kinds.Kind.TheVariants.{SelectReq, LinktestReq, Separate, Primary}
 use Rattle.hsms_machine.specs.declared.entry.Event.TheVariants.{Taken, Down}
 use Rattle.hsms_entity.specs.declared.state.State.{State}
-use Rattle.hsms_entity.specs.Answer.{quiet, answered}
+use Rattle.hsms_entity.specs.Answer.{quiet}
 use Rattle.hsms_entity.specs.Act.{logs}
 use Rattle.hsms_entity.specs.Frame.{bare, select_rsp, linktest_rsp}
-use Rattle.hsms_entity.specs.Performing.{Performs}
-use Rattle.hsms_entity.specs.AwaitingReply.{is_silent, CanTake, IsAsked}
+use Rattle.hsms_entity.specs.AwaitingReply.{is_silent}
 use Rattle.hsms_entity.proofs.Acts.{does_then, then_ok}
 use Rattle.hsms_entity.proofs.Controls.{select_rsp_lawful, select_settles, linktest_rsp_lawful, linktest_settles, status_of}
 use Rattle.hsms_entity.proofs.AwaitingReplies.{peers_transactions_are_none_between_calls}
-use Rattle.hsms_entity.proofs.Takings.{handled_kind, handled_settled, handled_silent, asked_to_select, asked_for_link, separated_down, separated_sound, owes_nothing, silent_of, readable, asked_by_primary, can_take_later, counted}
+use Rattle.hsms_entity.proofs.Takings.{handled_kind, handled_settled, handled_silent, asked_to_select, asked_for_link, separated_down, separated_sound, owes_nothing, silent_of}
 use Rattle.hsms_entity.proofs.state.State.take.Goals as goal
 
 -- ---- Select.req
