@@ -14,10 +14,10 @@ warn-requires-clause-awaits c = awaits_own c.args.self.now _ [] c.requires.await
 
 pub warn-requires-clause-odd : goal.warn-requires-clause-odd
 warn-requires-clause-odd c = elim c.match-answer.branch [
-    | in-NoStream w ↦ ap (λ n. n % 2 == 1) w.function-is
-    | in-NoFunction w ↦ ap (λ n. n % 2 == 1) w.function-is
-    | in-Illegal w ↦ ap (λ n. n % 2 == 1) w.function-is
-  ]
+  | in-NoStream w ↦ ap (λ n. n % 2 == 1) w.function-is
+  | in-NoFunction w ↦ ap (λ n. n % 2 == 1) w.function-is
+  | in-Illegal w ↦ ap (λ n. n % 2 == 1) w.function-is
+]
 
 pub returns-in_default : goal.returns-in_default
 returns-in_default c =
