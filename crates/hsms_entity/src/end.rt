@@ -196,6 +196,7 @@ impl<D: TurnDesk> End<D> {
     /// # Errors
     ///
     /// Each of [`EndFault`], in its order, but `TooDeep` before `TooLong`. `Memory` may come in place of `TooLong`.
+    #[tactic(auto, using(crate::proofs::Sent::send_refused, crate::proofs::Calls::completed_sound), unfolding(crate::specs::Fault::Meets))]
     pub fn send(&mut self, message: &Message) -> Result<Vec<Entry>, EndFault>
         ensures { Answers D.answers_after self.old (send (content message.now)) result self.new }
     {

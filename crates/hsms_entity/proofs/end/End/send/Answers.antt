@@ -64,8 +64,5 @@ send-requires-clause-fits g c =
 pub send-requires-clause-spelled : goal.send-requires-clause-spelled
 send-requires-clause-spelled g c = subst (λ text. IfSome text (λ octets. IsText c.self.inside.state.settings.depth octets.items)) c.in-Some-2.is c.in_ok-text.ensures.spelled
 
-pub invariant_of-self : goal.invariant_of-self
-invariant_of-self g c = λ b. absurd (let d : true ≡ false = b in cc)
-
 pub invariant_of-self-in_err-send : goal.invariant_of-self-in_err-send
 invariant_of-self-in_err-send g c = λ b. absurd (let d : true ≡ false = b in cc)
