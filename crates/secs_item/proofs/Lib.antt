@@ -2,7 +2,6 @@ pub mod Octets
 pub mod Codecs
 pub mod Bodies
 pub mod Headers
-pub mod Heads
 pub mod Items
 pub mod Again
 pub mod Faults

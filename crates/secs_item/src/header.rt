@@ -96,14 +96,14 @@ pub fn read_header(octets: &[u8], place: usize, depth: u8) -> Result<Header, Ite
     let Some(format) = Format::from_code(first / 4) else {
         return Err(ItemFault::Format { at: place });
     };
-    if format.is_list() && depth == 0 {
+    if format == Format::List && depth == 0 {
         return Err(ItemFault::Deep { at: place });
     }
     if rest.len() < length_octets {
         return Err(ItemFault::Truncated { at: place });
     }
     let length = read_length(rest, length_octets);
-    if !format.is_list() {
+    if format != Format::List {
         if !format.is_whole(length) {
             return Err(ItemFault::Ragged { at: place });
         }
