@@ -12,17 +12,17 @@ _hsms() {
     --link) mapfile -t COMPREPLY < <(compgen -W 'active passive' -- "$word") && return ;;
   esac
   if [ "$COMP_CWORD" = 1 ]; then
-    words='show encode audit explain capture serve help --help --version'
+    words='show encode audit explain capture serve help --help --version --verbose'
   else
     case ${COMP_WORDS[1]} in
-      show) words='--max --depth --hex --bare --help' ;;
-      encode) words='--device --system --max --depth --hex --help' ;;
-      audit) words='--help' ;;
-      explain) words='--only --around --from --to --form --utc --help' ;;
-      capture) words='--port --with --active --log --joined --device --t3 --t6 --t7 --t8 --max --depth --help' ;;
+      show) words='--max --depth --hex --bare --help --verbose' ;;
+      encode) words='--device --system --max --depth --hex --help --verbose' ;;
+      audit) words='--help --verbose' ;;
+      explain) words='--only --around --from --to --form --utc --help --verbose' ;;
+      capture) words='--port --with --active --log --joined --device --t3 --t6 --t7 --t8 --max --depth --help --verbose' ;;
       serve)
         words='--role --link --address --port --device --t3 --t6 --t7 --t8 --linktest --max --depth --first-system'
-        words+=' --turns --mdln --softrev --send --answer --all-sent --again --once --connections --t5 --help'
+        words+=' --turns --mdln --softrev --send --answer --all-sent --again --once --connections --t5 --help --verbose'
         ;;
       help) words='show encode audit explain capture serve' ;;
       *) return ;;

@@ -21,7 +21,7 @@ import sys
 from concurrent.futures import ProcessPoolExecutor
 from dataclasses import fields, replace
 from functools import partial
-from typing import Dict, Iterator, List, Optional, Tuple
+from typing import Dict, Iterable, Iterator, List, Optional, Tuple
 
 # The modules below leave no compiled files in the repository.
 sys.dont_write_bytecode = True
@@ -29,7 +29,7 @@ sys.dont_write_bytecode = True
 import captures
 from command import PROGRAM, TOP, Answer, answer_of
 from made_captures import ACK, ACTIVE, BEGIN, PASSIVE, PUSH, SELECT, SYN, Capture, Talk, message
-from made_sessions import Made, damaged, made
+from made_sessions import NOT_ONE_MESSAGE, ONE_MESSAGE, Made, damaged, made
 from second_reading import capturing
 from second_reading.capturing import Options
 from second_reading.session import audit
@@ -131,7 +131,7 @@ def known_whole(case: Made, answers: Dict[Optional[str], Answer]) -> Optional[st
     told = [int(verdict.split()[1].split("=")[1]) for verdict in verdicts if verdict.startswith("pass")]
     if sorted(told) != sorted(wanted * 2):
         return f"sessions of {wanted} entries are told as {verdicts}"
-    status = 0 if wanted else 2
+    status = 2 if not wanted or case.has_unjudged else 0
     return None if answers[None].status == status else f"status {answers[None].status}"
 
 
@@ -174,6 +174,11 @@ SMALLEST = {
     "span-and-loss": ("incomplete packet=8 pass entries=3 sent=1 taken=1", None, "Lost packet=8"),
     "own-order": ("pass entries=5 sent=2 taken=2", None, None),
     "stale-ack": ("pass entries=3 sent=1 taken=1", None, None),
+    "keep-alive-and-gap": (
+        "pass entries=5 sent=2 taken=2 discarded=0 expired=0 waiting=1", "pass entries=5 sent=2 taken=2", None,
+    ),
+    "reset-old": ("fail line=11 packet=10 rule=T3Overdue", "pass entries=5 sent=2 taken=2", None),
+    "reset-with-text": ("pass entries=4 sent=1 taken=1", None, None),
     "gap-at-end": ("incomplete packet=7 pass entries=3 sent=1 taken=1", None, "Lost packet=7"),
     "clock": ("pass entries=5 sent=2 taken=2", None, None),
 }
@@ -501,7 +506,7 @@ def worked_cases() -> Iterator[Case]:
     yield "zstd", bytes.fromhex("28b52ffd") + late, Options(log="host"), [], "Capture Zstd octet=0", 2
     yield "almost zstd", bytes.fromhex("28b52ffc") + late, Options(), [], "Capture Unknown octet=0", 2
     yield "almost gzip", bytes.fromhex("1f8a0800") + late, Options(), [], "Capture Unknown octet=0", 2
-    yield "another port", late, Options(port=5001), [], "NoConnection", 2
+    yield "another port", late, Options(port=5001), ["# not judged: HSMS at another port: 5000"], "NoConnection", 2
     yield "another link", of_link(147), Options(), ["# 14 packets left out: link 14"], "NoConnection", 2
     yield "cut within a packet", front[:-1], Options(), lines_of(
         "incomplete packet=5 pass entries=2 sent=1 taken=0", "incomplete packet=5 pass entries=2 sent=0 taken=1"
@@ -560,6 +565,7 @@ def worked_cases() -> Iterator[Case]:
         yield f"no SYN and ACK before {later}", without_answer(later), Options(), [
             end + "incomplete packet=2" for end in ENDS], "Lost packet=2", 2
     yield from wide_cases(log)
+    yield from unjudged_cases(log)
     yield from left_out_cases()
 
 
@@ -615,15 +621,19 @@ def wide_cases(log: List[str]) -> Iterator[Case]:
     yield "a port again", one_after_another(same), Options(), one + one, None, 0
     more = log + ["# packet 6", f"{BEGIN // 1000 + 3} down"]
     yield "two peers, in a log", one_after_another(other), Options(log="host"), more, "Peer packet=9", 2
-    yield "one of two peers", one_after_another(other), Options(with_="10.0.0.1"), one, None, 0
+    others = ["# not judged: 1 session of other addresses (--with)"]
+    yield "one of two peers", one_after_another(other), Options(with_="10.0.0.1"), one + others, None, 0
     yield "both, by the address of the one that listens", one_after_another(other), Options(with_="10.0.0.2"), one + [
         line.replace("10.0.0.1", "10.0.0.3") for line in one], None, 0
-    yield "none of two peers", one_after_another(other), Options(with_="::1"), [], "NoConnection", 2
+    none = ["# not judged: 2 sessions of other addresses (--with)"]
+    yield "none of two peers", one_after_another(other), Options(with_="::1"), none, "NoConnection", 2
     again = [f"# packet {int(line.split()[2]) + 6}" if line.startswith("#") else
              f"{int(line.split()[0]) + 1000} {line.split(' ', 1)[1]}" for line in more[1:]]
-    yield "one of two peers, in a log", one_after_another(other), Options(log="host", with_="10.0.0.1"), more, None, 0
+    first = Options(log="host", with_="10.0.0.1")
+    yield "one of two peers, in a log", one_after_another(other), first, more + others, None, 0
     later = [more[0]] + again
-    yield "the other one, in a log", one_after_another(other), Options(log="host", with_="10.0.0.3"), later, None, 0
+    second_one = Options(log="host", with_="10.0.0.3")
+    yield "the other one, in a log", one_after_another(other), second_one, later + others, None, 0
     yield "a port again, in a log", one_after_another(same), Options(log="host"), more + again, None, 0
     equals = selected(Capture(ports=(5000, 5000))).capture.octets
     short = lines_of("pass entries=3 sent=1 taken=1")
@@ -672,6 +682,72 @@ def differing(case: Case, program: Optional[str]) -> Optional[str]:
         return f"{name}\n  wanted: {shown(wanted)}\n  second reading: {shown(read)}"
     wrong = tried(Made(octets, options), program)
     return f"{name}: {wrong}" if wrong else None
+
+
+LINKTEST = message("ffff0000000500000007")
+
+
+def with_more(ports: Iterable[Tuple[int, int]], way=ACTIVE, data=LINKTEST, octets=None, **how) -> bytes:
+    """A connection that passes, or another capture, and then a segment with these bytes of each of these ports."""
+    capture = Capture()
+    if octets is None:
+        selected(capture).end(3)
+    else:
+        capture.octets = octets
+    for ends in ports:
+        capture.segment(BEGIN + 10**7, way, 77, PUSH | ACK, data, 99, ports=ends, **how)
+    return capture.octets
+
+
+def unjudged_cases(log: List[str]) -> Iterator[Case]:
+    """Sessions that are not judged."""
+    passes, is_refused = lines_of("pass entries=4 sent=1 taken=1"), ("NotJudged", 2)
+    one = "# not judged: 1 session that was running before the capture (--joined)"
+    running = contents(f"{TOP}/tests/captures/running.pcap")
+    open_one = lines_of("pass entries=3 sent=1 taken=1")
+    yield "running", running, Options(), open_one + [one], *is_refused
+    later = [f"# packet {int(line.split()[2]) + 3}" if line.startswith("#") else line for line in log]
+    later = [line if line[0] in "#h" else f"{int(line.split(' ', 1)[0]) + 12} {line.split(' ', 1)[1]}" for line in later]
+    yield "running, in a log", running, Options(log="host"), later + [one], *is_refused
+    several = one.replace("1 session that was", "2 sessions that were")
+    devices = contents(f"{TOP}/tests/captures/devices.pcap")
+    yield "devices, running", devices, Options(), [several], "NoConnection", 2
+    both = with_more([(41000, 5000)], octets=with_more([(41000, 5000)]), way=PASSIVE)
+    yield "both directions are one session", both, Options(), passes + [one], *is_refused
+    equal = with_more([(5000, 5000)], octets=with_more([(5000, 5000)]), way=PASSIVE)
+    yield "both directions, both at the port", equal, Options(), passes + [one], *is_refused
+    most = with_more((port, 5000) for port in range(50001, 50001 + 4096))
+    more = with_more([(49000, 5000)], octets=most)
+    yield "4096 running", most, Options(), passes + [several.replace("2", "4096", 1)], *is_refused
+    yield "4097 running", more, Options(), passes + [several.replace("2", "4096 or more", 1)], *is_refused
+    ports = [(41000, 5019 - number) for number in range(9)]
+    listed = "# not judged: HSMS at other ports: 5011, 5012, 5013, 5014, 5015, 5016, 5017, 5018"
+    at_one = "# not judged: HSMS at another port: "
+    yield "nine other ports", with_more(ports), Options(), passes + [f"{listed} .."], *is_refused
+    seen_twice = with_more(ports[1:] * 2)
+    yield "eight other ports", seen_twice, Options(), passes + [listed.replace("5011", "5011")], *is_refused
+    yield "the lower port", with_more([(4999, 6000)]), Options(), passes + [f"{at_one}4999"], *is_refused
+    with_late = with_more([(41000, 5000)], octets=captures.late_reply().octets)
+    yield "a log fails", with_late, Options(t3=1000), lines_of(
+        "fail line=15 packet=9 rule=T3Overdue", "pass entries=12 sent=4 taken=6") + [one], None, 1
+    capture = Capture(ports=(40000, 5001))
+    selected(capture)
+    given_port = with_more([(41000, 5000)], octets=capture.octets)
+    named = [line.replace(":5000", ":5001") for line in open_one]
+    yield "a port is given", given_port, Options(port=5001), named + [f"{at_one}5000"], None, 0
+    peer = Options(with_="10.0.0.1")
+    elsewhere = with_more([(41000, 5000), (41000, 5010)], hosts=(3, 4))
+    of_others = "# not judged: 2 sessions of other addresses (--with)"
+    yield "an address is given", elsewhere, peer, passes + [of_others], None, 0
+    all_of_it = with_more([(41000, 5010), (41000, 5000)], octets=elsewhere)
+    parts = f"{one}; {of_others[14:]}; {at_one[14:]}5010"
+    yield "three parts", all_of_it, peer, passes + [parts], *is_refused
+    for data in ONE_MESSAGE:
+        octets = with_more([(41000, 5010)], data=bytes.fromhex(data))
+        yield f"one message {data}", octets, Options(), passes + [f"{at_one}5010"], *is_refused
+    for data in NOT_ONE_MESSAGE:
+        octets = with_more([(41000, 5010), (41000, 5000)], data=bytes.fromhex(data))
+        yield f"not one message {data}", octets, Options(), passes, None, 0
 
 
 def given() -> argparse.Namespace:

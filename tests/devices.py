@@ -39,6 +39,7 @@ SMALL = [
     (["capture", "--t3", "1000"], "examples/late-reply.pcap"),
     (["capture", "--log", "equipment"], "examples/late-reply.pcap"),
     (["capture", "--joined", "--log", "host"], "tests/captures/joined-status-1.pcap"),
+    (["capture"], "tests/captures/running.pcap"),
     (["show"], "examples/cut-off.bin"),
 ]
 
@@ -160,20 +161,25 @@ def closed_files(run):
 
 
 def calls_that_fail(run, room, library):
-    """Each call moves an octet; then each write fails in turn, and each read."""
+    """Each call moves an octet; then each write fails in turn, and each read: every second one as if a signal came."""
     told = f"{room}/refused"
     env = {"LD_PRELOAD": library, "REFUSED": told, "ONE_OCTET": "1"}
     yield "an octet at a time", answer_of(run.words, run.given, env=env) == run.ample
     for place in range(len(run.ample.output)):
-        answer = answer_of(run.words, run.given, env={**env, "REFUSE_WRITE": str(place + 1)})
+        answer = answer_of(run.words, run.given, env={**env, **failing("WRITE", place)})
         wanted = Answer(NO_WRITE[0], run.ample.output[:place], NO_WRITE[1])
         yield f"a write that fails after {place} octets", answer == wanted
     for place in range(len(run.given) + 1):
         if os.path.exists(told):
             os.remove(told)
-        answer = answer_of(run.words, run.given, env={**env, "REFUSE_READ": str(place + 1)})
+        answer = answer_of(run.words, run.given, env={**env, **failing("READ", place)})
         stopped = (answer.status, answer.error) == NO_READ and answer.output in fronts(run)
         yield f"a read that fails after {place} octets", stopped if os.path.exists(told) else answer == run.ample
+
+
+def failing(what, place):
+    """The environment in which the call after so many octets fails."""
+    return {f"REFUSE_{what}": str(place + 1), "INTERRUPTED": str(place % 2)}
 
 
 def fronts(run):

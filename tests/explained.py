@@ -4,7 +4,8 @@ page of HTML with the text, its last line with what `hsms audit` tells, and the 
 --help`.
 
 Use: tests/explained.py [LOGS] [SEED]. LOGS is the number of random logs, 500 if left out, each also with some of its
-lines several times; those of examples/, the logs at edges and corners and some with markup come besides. SEED is 1 if
+lines several times, and twice as many damaged ones; those of examples/, the logs at edges and corners and some
+with markup come besides. SEED is 1 if
 left out. It runs what `rt ci` has built. The shortest log that is told otherwise is written in hexadecimal. The last
 line is `N passed, M failed`.
 """
@@ -20,7 +21,7 @@ sys.dont_write_bytecode = True
 
 from command import LONGEST_SHOWN, TOP, answer_of
 import pages
-from second_reading import corners, explaining, walks
+from second_reading import corners, explaining, reasons, walks
 from second_reading.explaining import WHOLE, Excerpt
 from second_reading.inputs import Chance
 
@@ -102,7 +103,7 @@ def difference(log: bytes) -> Optional[str]:
         if not (are_answers and is_text and objects_of(in_json.output) == [list(it.items()) for it in wanted.objects]):
             shown = f"log: {log[:LONGEST_SHOWN].hex()}\nsecond reading: {wanted}"
             return f"{' '.join(words)}\n{shown}\ncommand: {told}\nin JSON: {in_json}\naudit: {audited}"
-        fault = pages.fault_of(in_html.output, told.output, excerpt.is_utc)
+        fault = pages.fault_of(in_html.output, wanted.unescaped, excerpt.is_utc)
         if fault:
             return f"{' '.join(words)} --form html\nlog: {log[:LONGEST_SHOWN].hex()}\n{fault}\npage: {in_html}"
     return None
@@ -127,7 +128,7 @@ def help_of_rules() -> Optional[str]:
 def main() -> int:
     count, seed = int(sys.argv[1]) if len(sys.argv) > 1 else 500, sys.argv[2] if len(sys.argv) > 2 else "1"
     random = [walks.random_log(Chance(f"{seed} explain {number}")) for number in range(count)]
-    logs = [*example_logs(), *walks.logs_at_edges(), *corners.logs(), *markup(), *random]
+    logs = [*example_logs(), *walks.logs_at_edges(), *corners.logs(), *markup(), *random, *reasons.damaged_logs(seed, 2 * count)]
     logs += [many_sorts(), many_kinds(), *(repeated(log) for log in random + example_logs())]
     with ProcessPoolExecutor() as pool:
         differences = [(len(log), told) for log, told in zip(logs, pool.map(difference, logs)) if told]

@@ -5,8 +5,9 @@ Random lawful sessions (made_sessions.py) go over the wire, and the capture lack
 of one direction. Each capture is judged, and written as the log of the host and of the equipment: output, standard
 error and status have to be those of the second reading, octet by octet. No log of a lawful session may fail, and none
 of the messages may be made up or stand in another order. Where no packet is swapped and nothing is told to be missing,
-all is told from some message on. The smallest captures are read first, in captures/, and each without `--joined`,
-which shows no connection.
+all is told from some message on. Some captures have sessions of other devices and at other ports too, or the session is
+of another device. The smallest captures are read first, in captures/, and each without `--joined`, which shows no
+connection, but a session that was running.
 
 Use: tests/joined.py [SESSIONS] [SEED]. SESSIONS is how many, 1,000 if left out, and SEED is 1. It runs what `rt ci` has
 built, or `--program P`; with `--alone` no program, and the second reading is compared with what is known. The last line
@@ -24,14 +25,15 @@ sys.dont_write_bytecode = True
 
 from command import PROGRAM, TOP, Answer, answer_of
 from made_captures import ACK, ACTIVE, BEGIN, FIN, PASSIVE, PUSH, RST, SELECT, SYN, Capture, Talk, message
-from made_sessions import Session, captured_of, random_session
+from made_sessions import ONE_MESSAGE, Session, captured_of, random_session
 from second_reading import joined
 from second_reading.capturing import Options
 from second_reading.packets import read_file, segment_of
 from second_reading.session import audit
+from second_reading.unjudged import Unjudged
 from second_reading.wire import Seen
 
-PORT = 5000
+PORT, ACTIVE_PORT = 5000, 40000
 NAMES = "10.0.0.1:40000 10.0.0.2:5000"
 SIDES = ["active", "passive"]
 
@@ -42,6 +44,7 @@ SMALLEST = {
     "linktest": ("entries=5 sent=2 taken=2", 0, "entries=5 sent=2 taken=2", 0, None),
     "one-way": ("entries=4 sent=2 taken=1", 1, "entries=4 sent=1 taken=2", 0, 2),
     "two-pieces": ("entries=6 sent=3 taken=2", 0, "entries=6 sent=2 taken=3", 0, None),
+    "in-flight": ("entries=6 sent=4 taken=1", 0, "entries=6 sent=1 taken=4", 0, None),
     "false-front": ("entries=5 sent=1 taken=3", 0, "entries=5 sent=3 taken=1", 0, None),
 }
 
@@ -49,15 +52,31 @@ SMALLEST = {
 # What the second reading answers.
 
 
-def seen_in(octets: bytes) -> List[Seen]:
-    """The segments of a capture of one connection."""
+def seen_in(octets: bytes, active_port: int = ACTIVE_PORT) -> List[Seen]:
+    """The segments of a connection of a capture, by the port of its active end."""
     found = []
     for packet in read_file(octets).packets:
         segment = segment_of(packet)
-        end = PASSIVE if segment.source[1] == PORT else ACTIVE
-        flags = [bool(segment.flags & flag) for flag in (SYN, FIN, PUSH, RST)]
-        found.append(Seen(end, packet.number, packet.time, segment.number, segment.acknowledged, segment.data, *flags))
+        if {segment.source[1], segment.target[1]} == {active_port, PORT}:
+            end = PASSIVE if segment.source[1] == PORT else ACTIVE
+            flags = [bool(segment.flags & flag) for flag in (SYN, FIN, PUSH, RST)]
+            found.append(Seen(end, packet.number, packet.time, segment.number, segment.acknowledged, segment.data, *flags))
     return found
+
+
+def unjudged_in(octets: bytes, options: Options) -> Unjudged:
+    """What isn't judged of a capture. Connections of other active ports are captured last, and nothing is told of them."""
+    unjudged, active_ports = Unjudged(options), set()
+    for packet in read_file(octets).packets:
+        segment = segment_of(packet)
+        ports = {segment.source[1], segment.target[1]}
+        if PORT in ports:
+            active_ports |= ports - {PORT}
+        else:
+            unjudged.take(segment)
+    for port in active_ports:
+        unjudged.give_up(joined.told_of(seen_in(octets, port), options).given_up)
+    return unjudged
 
 
 def verdicts(told: joined.Told, options: Options) -> List[str]:
@@ -80,21 +99,23 @@ def packet_of(log: bytes, line: int) -> int:
     return max((int(words[2]) for words in comments if len(words) == 3), default=0)
 
 
-def second(told: joined.Told, options: Options) -> Answer:
-    """What the second reading answers to a capture of one connection, of which this is told."""
+def second(told: joined.Told, options: Options, unjudged: Unjudged) -> Answer:
+    """What the second reading answers to a capture of one connection, of which this is told, and what isn't judged."""
     fault = "{} packet={}".format(*told.fault) if told.fault else None if told.lines else "NoConnection"
+    fault = fault or ("NotJudged" if unjudged.is_refused else None)
     error = f"hsms: {fault}\n".encode() if fault else b""
-    status = 2 if fault else 0
+    status, comment = 2 if fault else 0, "".join(f"{line}\n" for line in unjudged.lines()).encode()
     if options.log:
         end = ACTIVE if options.log == options.active else PASSIVE
-        return Answer(status, joined.log_of(told, end, options) if told.lines else b"", error)
+        log = joined.log_of(told, end, options) if told.lines else b""
+        return Answer(status, log if told.fault else log + comment, error)
     if not told.lines and not told.fault:
-        return Answer(status, b"", error)
+        return Answer(status, comment, error)
     said = verdicts(told, options)
     lines = [f"{NAMES} {options.role_of(end)} {SIDES[end]}: {said[end]}\n" for end in (ACTIVE, PASSIVE)]
     if any("fail line=" in verdict for verdict in said):
         status, error = 1, b""
-    return Answer(status, "".join(lines).encode(), error)
+    return Answer(status, "".join(lines).encode() + comment, error)
 
 
 def differs(octets: bytes, told: joined.Told, options: Options, program: Optional[str]) -> Optional[str]:
@@ -102,7 +123,7 @@ def differs(octets: bytes, told: joined.Told, options: Options, program: Optiona
     for role in (None, "host", "equipment") if program else ():
         asked = replace(options, log=role)
         words = ["capture", "--joined", *asked.words()]
-        found, wanted = answer_of(words, octets, program), second(told, asked)
+        found, wanted = answer_of(words, octets, program), second(told, asked, unjudged_in(octets, asked))
         if found != wanted:
             return f"{' '.join(words)}\n  second reading: {wanted}\n  command: {found}"
     return None
@@ -122,9 +143,34 @@ def wrong_with_smallest(name: str, program: Optional[str]) -> Optional[str]:
     found = verdicts(told, Options())
     if found != wanted:
         return f"{found}, incomplete by {told.missing}"
-    if program and answer_of(["capture"], octets, program) != Answer(2, b"", b"hsms: NoConnection\n"):
+    running = b"# not judged: 1 session that was running before the capture (--joined)\n"
+    if program and answer_of(["capture"], octets, program) != Answer(2, running, b"hsms: NoConnection\n"):
         return "without --joined it is passed over"
     return differs(octets, told, Options(), program)
+
+
+def wrong_with_devices(program: Optional[str]) -> Optional[str]:
+    """Sessions of two devices: that of the other one isn't judged, and neither is the one of both, without --device."""
+    with open(f"{TOP}/tests/captures/devices.pcap", "rb") as file:
+        octets = file.read()
+    counts = ["entries=5 sent=2 taken=2", "entries=5 sent=2 taken=2"]
+    ends = ["host active", "equipment passive"]
+    for device, port, other in ((0, 40002, 5), (5, 40001, 0)) if program else ():
+        names = NAMES.replace("40000", str(port))
+        fails = "fail line=15 packet=4 rule=T3Overdue"
+        verdict = [f"pass {count} discarded=0 expired=0 waiting=0" for count in counts]
+        if device == 5:
+            verdict = [fails, "pass entries=7 sent=3 taken=3 discarded=0 expired=0 waiting=0"]
+        lines = "".join(f"{names} {end}: {each}\n" for end, each in zip(ends, verdict))
+        comment = f"# not judged: 1 session of another device: {other}\n"
+        wanted = Answer(1, (lines + comment).encode(), b"") if device else Answer(
+            2, (lines + comment).encode(), b"hsms: NotJudged\n")
+        found = answer_of(["capture", "--joined", "--device", str(device)], octets, program)
+        if found != wanted:
+            return f"--device {device}: {found}"
+    neither = answer_of(["capture", "--joined", "--device", "7"], octets, program) if program else None
+    both = Answer(2, b"# not judged: 2 sessions of other devices: 0, 5\n", b"hsms: NoConnection\n")
+    return None if neither in (None, both) else str(neither)
 
 
 def replaced() -> bytes:
@@ -260,8 +306,9 @@ def wrong_with_two_at_once(program: Optional[str]) -> Optional[str]:
 # Random sessions.
 
 
-def made(rng, session: Session) -> Tuple[bytes, bool]:
-    """A capture of a session that lacks its beginning, and maybe a direction, and whether it lacks one."""
+def made(rng, session: Session, others: int) -> Tuple[bytes, bool]:
+    """A capture of a session that lacks its beginning, and maybe a direction, and whether it lacks one. Behind it stand as
+    many messages of other devices or at other ports."""
     syns = [place for place, packet in enumerate(session.captured) if packet.flags & SYN]
     first = max(syns, default=-1) + 1
     captured = session.captured[rng.randrange(first, len(session.captured)):] if first < len(session.captured) else []
@@ -273,6 +320,10 @@ def made(rng, session: Session) -> Tuple[bytes, bool]:
     for packet in captured:
         when += packet.pause
         capture.segment(when, packet.way, packet.number, packet.flags, packet.data, packet.acknowledged)
+    for number in range(others):
+        data = bytes.fromhex(rng.choice([one for one in ONE_MESSAGE if one[8:12] not in ("ffff", "0000")]))
+        port = rng.choice([PORT, PORT, 5010, 6036])
+        capture.segment(when, rng.randrange(2), 77, PUSH | ACK, data, 99, ports=(41000 + number, port))
     return capture.octets, is_one_way
 
 
@@ -288,11 +339,12 @@ def wrong_with(seed: str, program: Optional[str]) -> Optional[str]:
     session = random_session(rng, (1, 2), (40000, PORT), rng.random() < 0.3)
     swaps, losses = rng.choice([0, 0, 0.1, 0.3]), rng.choice([0, 0, 1])
     captured_of(rng, session, swaps, losses)
-    octets, is_one_way = made(rng, session)
-    options = Options(active=rng.choice(["host", "equipment"]), t3=rng.choice([45000, 45000, 45000, 5]))
+    others, device = rng.choice([0, 0, 0, 1, 3, 10]), rng.choice([0] * 9 + [7])
+    octets, is_one_way = made(rng, session, others)
+    options = Options(active=rng.choice(["host", "equipment"]), t3=rng.choice([45000, 45000, 45000, 5]), device=device)
     told = joined.told_of(seen_in(octets), options)
     wrong = differs(octets, told, options, program)
-    if wrong or not told.lines:
+    if wrong or not told.lines or device:
         return wrong
     said = [(line.end, line.octets[4:].hex()) for line in told.lines if line.octets and line.packet]
     if not is_within(said, session.frames):
@@ -315,6 +367,7 @@ def main():
     program = None if given.alone else given.program
     seeds = [f"{given.seed} {number}" for number in range(given.sessions)]
     wrong = [(f"joined-{name}", wrong_with_smallest(name, program)) for name in SMALLEST]
+    wrong += [("devices", wrong_with_devices(program))]
     wrong += [("replaced", wrong_with_replaced(program))]
     wrong += [("left out", wrong_with_left_out(program))]
     wrong += [("a Linktest.req first", wrong_with_linktest_first(program))]

@@ -33,7 +33,7 @@ def anchor_of(heading):
 
 def documents():
     found = ["README.md", "CONTRIBUTING.md", "CHANGELOG.md", "bench/README.md", "examples/README.md"]
-    return found + sorted(os.path.relpath(path, TOP) for path in glob.glob(f"{TOP}/docs/*.md"))
+    return found + sorted(os.path.relpath(path, TOP) for path in glob.glob(f"{TOP}/docs/**/*.md", recursive=True))
 
 
 def leads(document, link):

@@ -7,6 +7,7 @@ line is `N passed, M failed`.
 import itertools
 import os
 import re
+import resource
 import select
 import signal
 import socket
@@ -1107,8 +1108,10 @@ def command_line_is_refused():
         ("--t5", ["0", "3600001"]),
         ("--linktest", ["-1", "3600001"]),
     ):
-        lines += [WORDS + [option, value] for value in values]
+        lines += [WORDS + ["--again", option, value] for value in values]
     lines += [WORDS + [option, "x"] for option in ("--send", "--answer", "--all-sent")]
+    lines += [WORDS + options for options in (["--once"], ["--connections", "1"], ["--t5", "10000"])]
+    lines += [WORDS + ["--once", "--connections", "2", "--t5", "50"]]
     lines += [WORDS + ["--send=1"], WORDS + ["--t9", "1"], WORDS + ["--mdln"], WORDS + ["x"]]
     for words in lines:
         run = subprocess.run([PROGRAM, *words], input=b"", capture_output=True, timeout=SOON)
@@ -1258,6 +1261,28 @@ def peer_is_away_for_a_while():
     same(ends[2] - ends[1] > 0.25, True)
 
 
+def failed_attempts_are_told_once():
+    """With `-v` each kind of failure has one line, however often an attempt fails so; without it there is none."""
+    port = free_port()
+    options = ["--again", "--t5", "50"]
+    serving, silent = (Serving("host", "active", port, *options, *words) for words in (["-v"], []))
+    time.sleep(A_WHILE)
+    # No further file can be opened then.
+    resource.prlimit(serving.run.pid, resource.RLIMIT_NOFILE, (3, 3))
+    time.sleep(A_WHILE)
+    same(silent.killed(signal.SIGTERM), (-signal.SIGTERM, "", ""))
+    status, log, told = serving.killed(signal.SIGTERM)
+    same((status, log), (-signal.SIGTERM, ""))
+    refused_by = f"connection refused by {HERE}:{port}: nobody listens there. Start the other end first, "
+    same(
+        told.splitlines(),
+        [
+            f"hsms: it tries again: {refused_by}or see --address and --port",
+            "hsms: it tries again: no file descriptor is left for a connection: end what holds them, or allow more (ulimit -n)",
+        ],
+    )
+
+
 def two_processes_again():
     port = free_port()
     equipment = Serving("equipment", "passive", port, "--again", "--connections", "10")
@@ -1354,6 +1379,7 @@ TESTS = [
     host_connects_again,
     script_is_sent_once,
     peer_is_away_for_a_while,
+    failed_attempts_are_told_once,
     two_processes_again,
     terminated_between_connections,
     timers_go_on,

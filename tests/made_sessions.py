@@ -2,7 +2,7 @@
 
 One to three connections go over the wire in pieces that are cut anywhere, come again, overlap or change places. The
 capture may swap the directions, as mirror ports do, and lack packets. Each of the sessions is lawful, so no verdict on
-it may be a failure.
+it may be a failure. Some captures also have messages of sessions that are not judged.
 """
 import random
 from dataclasses import dataclass, field, replace
@@ -32,8 +32,8 @@ class Sent:
 
     @property
     def length(self) -> int:
-        """How many numbers it takes. One octet without PSH asks whether the other end is there, and takes none."""
-        if len(self.data) == 1 and not self.flags & PUSH:
+        """How many numbers it takes. One octet without PSH asks whether the other end is there, and takes none, as a RST."""
+        if len(self.data) == 1 and not self.flags & PUSH or self.flags & RST:
             return 0
         return len(self.data) + bool(self.flags & SYN) + bool(self.flags & FIN)
 
@@ -86,6 +86,7 @@ class Made:
     sessions: Optional[List[Session]] = None
     is_in_turn: bool = True  # whether each connection is over before the next one begins
     has_pauses: bool = False
+    has_unjudged: bool = False
 
     @property
     def is_lawful(self) -> bool:
@@ -159,7 +160,8 @@ class Speaker:
                 self.next[1 - way] += 1
                 self.send(way, ACK)
         elif ends in ("rst", "bare"):
-            self.send(way, RST | ACK if ends == "rst" else RST)
+            text = self.rng.choice([b"", b"", b"closed", b"tcp_close, during connect"])
+            self.send(way, RST | ACK if ends == "rst" else RST, text)
 
 
 def random_session(rng, hosts, ports, has_pauses) -> Session:
@@ -213,6 +215,29 @@ def captured_of(rng, session: Session, swaps, losses) -> List[Sent]:
     return captured
 
 
+def put_old_reset(rng, captured):
+    """Puts a RST in that comes late: its place was acknowledged before."""
+    at = rng.randrange(len(captured) + 1)
+    way = rng.randrange(2)
+    acknowledged = [max((one.acknowledged for one in captured[:at] if one.way == end), default=0) for end in (0, 1)]
+    first = next((one.number for one in captured if one.way == way and one.flags & SYN), None)
+    if first is None or acknowledged[1 - way] <= first:
+        return
+    number = acknowledged[1 - way] - rng.choice([1, 1, min(14, acknowledged[1 - way] - first)])
+    flags = rng.choice([RST, RST | ACK]) if acknowledged[way] else RST
+    text = rng.choice([b"", b"closed"])
+    captured.insert(at, Sent(way, number, flags, text, acknowledged[way] if flags & ACK else 0, rng.randrange(1, 60_000)))
+
+
+def make_up_octets(rng, captured):
+    """Gives keep-alives another octet than was sent, where the capture shows before that its place was acknowledged."""
+    acknowledged = [0, 0]
+    for at, packet in enumerate(captured):
+        if packet.flags == ACK and len(packet.data) == 1 and packet.number < acknowledged[1 - packet.way]:
+            captured[at] = replace(packet, data=rng.choice([packet.data, b"\0", b"\xff"]))
+        acknowledged[packet.way] = max(acknowledged[packet.way], packet.acknowledged)
+
+
 def noise(rng, capture, when):
     """A packet that is none of the connections': of another port, no TCP, a fragment, not whole, or an odd one."""
     kind = rng.randrange(7)
@@ -234,6 +259,32 @@ def noise(rng, capture, when):
         if rng.random() < 0.3:
             capture.order = rng.choice("<>")
             capture.octets += capture.section()
+
+
+# The messages of sessions that are not judged, and segments that are not one message of HSMS: data without a stream, or
+# with no text and no system bytes, no device, another session ID of a control message, a text, another type, a text that
+# is not one item, two messages, a part of one.
+ONE_MESSAGE = [
+    "0000000affff0000000500000001", "0000000affff000000090000ffff", "0000000a00008101000000000001",
+    "0000000c7fff060b0000000000000100", "0000000f00050102000000000007210305ab00",
+]
+NOT_ONE_MESSAGE = [
+    "0000000a00008001000000000001", "0000000a00008101000000000000", "0000000a80008101000000000001",
+    "0000000a00000000000500000001", "0000000cffff00000005000000010100", "0000000affff0000000300000001",
+    "0000000affff0000010500000001", "0000000d0000060b00000000000121030b", "0000000e0000060b00000000000121000100",
+    2 * "0000000affff0000000500000001", "0000000affff00000005000000", "00000009ffff00000005000000", "0000000a",
+]
+
+
+def stranger(rng, capture, when) -> bool:
+    """A segment of a session that is not judged, or one that is not HSMS. Whether it is of such a session."""
+    is_message = rng.random() < 0.5
+    data = bytes.fromhex(rng.choice(ONE_MESSAGE if is_message else NOT_ONE_MESSAGE))
+    ports = rng.choice([(41000, 5010), (41001, 6036), (41000 + rng.randrange(20), rng.randrange(5001, 5020)), (5000, 5000),
+                        (42000 + rng.randrange(3), 5000)])
+    flags = rng.choice([PUSH | ACK, PUSH | ACK, ACK, RST | ACK])
+    capture.segment(when, rng.randrange(2), 77, flags, data, 99, ports=ports, hosts=(7, rng.choice([2, 8])))
+    return is_message and (not flags & RST or 5000 not in ports)
 
 
 def merged(rng, captured: List[List[Sent]], is_in_turn) -> List[Tuple[int, Sent]]:
@@ -281,21 +332,29 @@ def made(seed) -> Made:
     capture = Capture(rng.choice(MORE_FORMS), rng.choice(list(MORE_LINKS)), rng.random() < 0.3)
     swaps, losses = rng.choice([0, 0, 0.1, 0.3]), rng.choice([0, 0, 0, 1, 2])
     captured = [captured_of(rng, session, swaps, losses) for session in sessions]
+    for packets in captured:
+        if rng.random() < 0.2:
+            put_old_reset(rng, packets)
+        make_up_octets(rng, packets)
     noises, backwards = rng.choice([0, 0, 0.1]), rng.choice([0, 0, 0.1])
     shape = rng.choice([None, None, "options", "offload"])
     when = BEGIN + rng.randrange(10**6)
+    other = random.Random(f"strangers {seed}")
+    strangers, has_unjudged = other.choice([0, 0, 0, 0.02, 0.2]), False
     for number, packet in merged(rng, captured, is_in_turn):
         session = sessions[number]
         when += packet.pause
         if rng.random() < noises:
             noise(rng, capture, when)
+        if other.random() < strangers:
+            has_unjudged |= stranger(other, capture, when)
         capture.segment(
             when - (rng.randrange(50_000) if rng.random() < backwards else 0), packet.way, packet.number,
             packet.flags, packet.data, packet.acknowledged, ports=session.ports, hosts=session.hosts, shape=shape,
         )
     if not all(session.begins for session in sessions):
         sessions = None
-    return Made(capture.octets, random_options(rng), sessions, is_in_turn, has_pauses)
+    return Made(capture.octets, random_options(rng), sessions, is_in_turn, has_pauses, has_unjudged)
 
 
 def damaged(seed) -> Made:
@@ -317,4 +376,5 @@ def damaged(seed) -> Made:
     else:
         octets[place:place] = rng.getrandbits(128).to_bytes(16, "big")[:rng.choice([1, 4, 16])]
     peer = rng.choice(["10.0.0.1", "10.0.0.2", "10.0.0.4", "fe80::1"]) if rng.random() < 0.2 else None
-    return Made(bytes(octets), replace(whole.options, with_=peer))
+    port = rng.choice([5010, 5005]) if rng.random() < 0.1 else 5000
+    return Made(bytes(octets), replace(whole.options, with_=peer, port=port))

@@ -1,7 +1,8 @@
 #!/usr/bin/env python3
 """Audits logs over a pipe that is held open: a failing line has to be named while its writer may still write. Shows
 messages that come in pieces, each of which is there before the next is written, and explains lines and judges captures
-while the pipe is open: the verdict on a connection has to be there as soon as it is over.
+while the pipe is open: the verdict on a connection has to be there as soon as it is over. A log that grows is explained
+from its first line by `tail -n +1 -f`.
 
 It runs what `rt ci` has built. The last line is `N passed, M failed`.
 """
@@ -9,6 +10,7 @@ import os
 import select
 import subprocess
 import sys
+import tempfile
 import time
 
 # The module below leaves no compiled file in the repository.
@@ -92,6 +94,10 @@ LATE_TOLD = b"""\
             goes on as if `45010 t3 00000002` stood before it
 """
 
+# A log of more lines than the ten that `tail` alone begins with.
+LONG_LOG = FRONT + b"# a comment\n" * 20
+LONG_TOLD = b"".join(LATE_TOLD.splitlines(True)[:3]) + b"".join(b"%6d         # a comment\n" % n for n in range(4, 24))
+
 # The same in JSON.
 LATE_OBJECTS = b"""\
 {"type":"line","line":1,"text":"hsms-log 1 host active 0 45000 6000 10000 5000 1048576 32"}
@@ -159,6 +165,20 @@ def told_of(command, wanted, octets, *options):
         return told
 
 
+def explained_after_tail(log, wanted):
+    """Returns what `tail -n +1 -f FILE | hsms explain` writes of a log while the file may still grow."""
+    with tempfile.NamedTemporaryFile() as file:
+        file.write(log)
+        file.flush()
+        follow = ["timeout", str(SOON), "tail", "-n", "+1", "-f", file.name]
+        with subprocess.Popen(follow, stdout=subprocess.PIPE) as tail:
+            with subprocess.Popen([PROGRAM, "explain"], stdin=tail.stdout, stdout=subprocess.PIPE) as explain:
+                lines = [explain.stdout.readline() for _ in wanted.splitlines()]
+                explain.kill()
+            tail.terminate()
+    return b"".join(lines)
+
+
 def started(*words):
     return subprocess.Popen([PROGRAM, *words], stdin=subprocess.PIPE, stdout=subprocess.PIPE, stderr=subprocess.STDOUT)
 
@@ -201,6 +221,8 @@ def tries():
     yield from ((told_of, ["show", LINES, MESSAGES + rest], LINES) for rest in (b"", MESSAGES[:17]))
     for told, *form in ((LATE_TOLD,), (LATE_OBJECTS, "--form", "json")):
         yield from ((told_of, ["explain", told, LATE + rest, *form], told) for rest in (b"", b"46001 up"))
+    yield explained_after_tail, [LATE, LATE_TOLD], LATE_TOLD
+    yield explained_after_tail, [LONG_LOG, LONG_TOLD], LONG_TOLD
     for form in ("pcap<", "pcapng>"):
         capture, packet = capture_of(form)
         for told, *log in ((OVER,), (LOGGED, "--log", "host")):

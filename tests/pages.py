@@ -126,7 +126,7 @@ def read(page: bytes) -> Node:
 
 def shown(octets: bytes) -> str:
     """Octets of the log as the page shows them."""
-    return re.sub("[\x00-\x08\x0a-\x1f\x7f]", "\ufffd", octets.decode("utf-8", "replace"))
+    return re.sub("[\x00-\x08\x0a-\x1f\x7f-\x9f]", "\ufffd", octets.decode("utf-8", "replace"))
 
 
 def told_by(text: bytes, is_utc: bool) -> Told:
@@ -253,7 +253,8 @@ def check_end(section: Node, told: Told):
 
 
 def fault_of(page: bytes, text: bytes, is_utc: bool = False) -> Optional[str]:
-    """What is wrong with a page of the log that has this text, if anything is."""
+    """What is wrong with a page of the log that has this text, if anything is. The text has control characters as they
+    are in the log."""
     told = told_by(text, is_utc)
     try:
         top = read(page)

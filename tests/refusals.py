@@ -98,6 +98,8 @@ EXAMPLES = [
     (["explain", "--form", "html"], "examples/late-reply.log"),
     (["capture", "--t3", "1000"], "examples/late-reply.pcap"),
     (["capture", "--log", "equipment"], "examples/late-reply.pcap"),
+    (["capture"], "tests/captures/running.pcap"),
+    (["capture", "--joined"], "tests/captures/devices.pcap"),
     (["capture", "--joined"], "tests/captures/joined-status-1.pcap"),
     (["capture", "--joined", "--log", "host"], "tests/captures/joined-false-front.pcap"),
     (["capture", "--help"], "examples/select.bin"),

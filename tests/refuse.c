@@ -1,7 +1,7 @@
 // Stands before calls of the C library that take memory, read, write, receive, send and ask the clock, by LD_PRELOAD.
 //
 // REFUSE_MEMORY, REFUSE_READ, REFUSE_WRITE, REFUSE_RECV and REFUSE_SEND each count calls from 1, and the call that they
-// name is refused; with INTERRUPTED set, the last two as if a signal had come. With FROM_INPUT set, calls that take
+// name is refused; with INTERRUPTED set, all but the first as if a signal had come. With FROM_INPUT set, calls that take
 // memory are counted from the first read of standard input on. Where it comes to a refusal, the file that REFUSED names
 // is made. With ONE_OCTET set, each read and each write moves one octet. With CLOCK_STEP set, each look at the clock is
 // so many nanoseconds later than the one before. In the file that HELD names stand two numbers of 64 bits: how many
@@ -26,7 +26,7 @@ extern ssize_t __read(int file, void *into, size_t count);
 extern ssize_t __write(int file, const void *from, size_t count);
 
 static long memory_left, reads_left, writes_left, receives_left, sends_left, clock_step;
-static int from_input, one_octet, socket_error;
+static int from_input, one_octet, file_error, socket_error;
 static int64_t none[2], *held = none;
 
 static long number(const char *name) {
@@ -40,6 +40,7 @@ __attribute__((constructor)) static void begin(void) {
   writes_left = number("REFUSE_WRITE");
   receives_left = number("REFUSE_RECV");
   sends_left = number("REFUSE_SEND");
+  file_error = number("INTERRUPTED") ? EINTR : EIO;
   socket_error = number("INTERRUPTED") ? EINTR : ECONNRESET;
   clock_step = number("CLOCK_STEP");
   from_input = number("FROM_INPUT") != 0;
@@ -102,12 +103,12 @@ void free(void *block) {
 
 ssize_t read(int file, void *into, size_t count) {
   if (file == STDIN_FILENO) from_input = 0;
-  if (file == STDIN_FILENO && is_refused(&reads_left, EIO)) return -1;
+  if (file == STDIN_FILENO && is_refused(&reads_left, file_error)) return -1;
   return __read(file, into, one_octet && count > 1 ? 1 : count);
 }
 
 ssize_t write(int file, const void *from, size_t count) {
-  if (file == STDOUT_FILENO && is_refused(&writes_left, EIO)) return -1;
+  if (file == STDOUT_FILENO && is_refused(&writes_left, file_error)) return -1;
   return __write(file, from, one_octet && count > 1 ? 1 : count);
 }
 

@@ -25,8 +25,8 @@ sys.dont_write_bytecode = True
 from command import TOP, Answer, answer_of, refuser
 from held import is_held
 from loopback import (
-    EQUIPMENT_LOG, HERE, PROGRAM, SELECT, SELECTED, SOON, Listening, Peer, Serving, control, data, equipment, events,
-    free_port, passes, same, served, times,
+    EQUIPMENT_LOG, HERE, HOST_LOG, PROGRAM, SELECT, SELECTED, SOON, Listening, Peer, Serving, control, data, equipment,
+    events, free_port, passes, same, served, times,
 )
 
 NO_COMMAND = Answer(2, b"", b"hsms: command line\n")
@@ -185,6 +185,50 @@ def a_failed_link_is_closed_at_once(library):
     status, log, told = serving.ended()
     same((status, told, events(log)), (*NO_LINK, [*EQUIPMENT_LOG[:3], "down"]))
     peer.close()
+
+
+def is_refused_soon(peer):
+    """Whether an octet of the peer is refused before long, since the other end has closed the connection."""
+    end = time.monotonic() + SOON
+    while time.monotonic() < end:
+        try:
+            peer.send(b"\0")
+        except (BrokenPipeError, ConnectionResetError):
+            return True
+        time.sleep(A_WHILE / 30)
+    return False
+
+
+def is_closed_and_waits_on(serving, peer, log):
+    """The connection is over and closed, and the end waits for the next one."""
+    same(peer.stream.recv(1), b"")
+    same((is_refused_soon(peer), serving.run.poll()), (True, None))
+    peer.close()
+    status, told_log, told = serving.killed(signal.SIGTERM)
+    same((status, told, events(told_log)), (-signal.SIGTERM, "", log))
+    passes(told_log)
+
+
+def it_closes_before_it_waits_for_the_next():
+    """A passive end listens for its next peer, and an active one waits for T5, which is ten minutes."""
+    serving, peer = selected("--again", "--t8", "200")
+    peer.send(control(9, 2))
+    is_closed_and_waits_on(serving, peer, [*EQUIPMENT_LOG[:3], "< ffff0000000900000002", "down"])
+    peers = Listening()
+    serving = Serving("host", "active", peers.port, "--again", "--t5", "600000", "--t8", "200", script=b"")
+    peer = peers.accepted()
+    peer.wants(SELECT)
+    peer.send(SELECTED)
+    peer.wants(control(9, 2))
+    is_closed_and_waits_on(serving, peer, HOST_LOG)
+
+
+def a_failed_link_is_closed_before_the_next(library):
+    """At once, be T5 and T8 as long as they may."""
+    peers = Listening()
+    how = {"env": {"LD_PRELOAD": library, "REFUSE_SEND": "1"}}
+    serving = Serving("host", "active", peers.port, "--again", "--t5", "600000", "--t8", "600000", **how)
+    is_closed_and_waits_on(serving, peers.accepted(), ["up", "> ffff0000000100000001", "down"])
 
 
 # ---- what is closed when it begins
@@ -657,10 +701,11 @@ def nothing_comes_of_a_quiet_wait():
 LONG = data(2, 25, 3, b"\x22" + (60_000).to_bytes(2, "big") + bytes(60_000), wait=True)
 
 
-def served_with_a_failed_write(library, failing):
+def served_with_a_failed_write(library, failing, **how):
     """What comes of a session of which this write to the log fails, once; with each time in the log as 0."""
     with tempfile.TemporaryFile() as file:
-        serving, peer = equipment(stdout=file, env={"LD_PRELOAD": library, "REFUSE_WRITE": str(failing)})
+        env = {"LD_PRELOAD": library, "REFUSE_WRITE": str(failing), **how}
+        serving, peer = equipment(stdout=file, env=env)
         try:
             peer.send(SELECT + control(5, 2) + LONG + control(9, 4))
             peer.rest()
@@ -672,15 +717,29 @@ def served_with_a_failed_write(library, failing):
 
 
 def nothing_is_written_after_a_failed_write(library):
-    """Each write is a line with its end, but for the first one, which is of nothing and asks the output."""
+    """Each write is a line with its end, but for the first one, which is of nothing and asks the output. A write that a
+    signal interrupted has failed too.
+    """
     told, whole = served_with_a_failed_write(library, 0)
     same((told, len(events(whole))), ((0, ""), 9))
     lines = whole.splitlines(True)
     for count in range(len(lines)):
-        told, log = served_with_a_failed_write(library, count + 2)
-        same((told, log == "".join(lines[:count])), (NO_LOG, True))
+        for interrupted in ("0", "1"):
+            told, log = served_with_a_failed_write(library, count + 2, INTERRUPTED=interrupted)
+            same((told, log == "".join(lines[:count])), (NO_LOG, True))
     told, log = served_with_a_failed_write(library, len(lines) + 2)
     same((told, log == whole), ((0, ""), True))
+
+
+def a_line_goes_out_in_parts(library):
+    """Where each write moves an octet, the log is the same, and a write that a signal interrupts ends it there."""
+    _, whole = served_with_a_failed_write(library, 0)
+    told, log = served_with_a_failed_write(library, 0, ONE_OCTET="1")
+    same((told, log == whole), ((0, ""), True))
+    first = whole.index("\n") + 1
+    for count in (1, first - 1, first, first + 3):
+        told, log = served_with_a_failed_write(library, count + 2, ONE_OCTET="1", INTERRUPTED="1")
+        same((told, log), (NO_LOG, whole[:count]))
 
 
 # ---- the script `hsms`
@@ -759,6 +818,7 @@ NO_SOURCES = [
     "README.md",
     "tests/seams.py",
     "tests/must-fail/low/one.edit",
+    "crates/low/must-fail/one.edit",
     "crates/low/proofs/function/Answers.antt",
     "crates/low/out/kept",
     "build.log",
@@ -823,8 +883,9 @@ def runs(script, is_built, **how):
     if is_built:
         built_in_order(calls)
         lines = answer.error.decode().splitlines()
-        same(lines[0].startswith("hsms: proving and building"), True)
-        same([line[: len("hsms: N of 5 crates proved")] for line in lines[1:]], [f"hsms: {n} of 5 crates proved" for n in range(1, 6)])
+        same(lines[0], "hsms: proving and building the command first")
+        same(re.sub(r"\d+", "N", lines[1]).replace("up to N", "one").split(" at ")[0], "hsms: proving N crates, one")
+        same([line[: len("hsms: N of 5 crates proved")] for line in lines[2:]], [f"hsms: {n} of 5 crates proved" for n in range(1, 6)])
         same(lines[-1], "hsms: 5 of 5 crates proved: hsms_tool")
     else:
         same((calls, answer.error), ([], b""))
@@ -897,6 +958,7 @@ TESTS = [
     a_send_is_given_up_after_t8,
     it_closes_after_its_peer,
     it_closes_after_t8,
+    it_closes_before_it_waits_for_the_next,
     nothing_begins_without_an_output,
     nothing_begins_without_a_script,
     a_peer_gets_no_words,
@@ -923,8 +985,10 @@ TESTS_WITH_LIBRARY = [
     a_failed_receive_ends_it,
     a_failed_send_ends_it,
     a_failed_link_is_closed_at_once,
+    a_failed_link_is_closed_before_the_next,
     a_wait_is_never_of_nothing,
     nothing_is_written_after_a_failed_write,
+    a_line_goes_out_in_parts,
 ]
 
 

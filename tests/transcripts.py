@@ -1,9 +1,10 @@
 #!/usr/bin/env python3
-"""Runs each command that README.md, docs/ and examples/ show, and compares what it writes with what stands below it.
+"""Runs each command of README.md, docs/, examples/ and tests/transcripts/, and compares what it writes with the lines
+below it.
 
 A block that begins ```console has commands, each on a line that begins with `$ ` and on those that follow a backslash at
-its end, and below each what it writes on standard output and standard error. They run at the top of the repository, with `hsms` on the path. Before that, `rt ci`
-has to have built the command. The logs of docs/RULES.md are audited too: each is the example of its rule, and has the
+its end, and below each what it writes on standard output and standard error. They run at the top of the repository, with
+`hsms` on the path. Before that, `rt ci` has to have built the command. The logs of docs/RULES.md are audited too: each is the example of its rule, and has the
 verdict that the page tells. The last line is `N passed, M failed`.
 """
 import glob
@@ -53,7 +54,8 @@ def wrote(command):
 
 def main():
     passed = failed = 0
-    documents = [f"{TOP}/README.md", *sorted(glob.glob(f"{TOP}/docs/*.md")), *sorted(glob.glob(f"{TOP}/examples/*.md"))]
+    folders = ("docs", "examples", "tests/transcripts")
+    documents = [f"{TOP}/README.md", *(path for folder in folders for path in sorted(glob.glob(f"{TOP}/{folder}/*.md")))]
     for document in documents:
         with open(document) as file:
             text = file.read()

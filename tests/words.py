@@ -1,16 +1,19 @@
 #!/usr/bin/env python3
-"""Tells each fault of the command, without words and with them: by `-v`, and by HSMS_VERBOSE in the environment.
+"""Tells each fault of the command, without words and with them: by `-v`, by HSMS_VERBOSE in the environment, and at a
+terminal.
 
 Without them standard error has one line, the fault's name. With them the words follow, which docs/FORMATS.md shows in
-its table, and nothing else changes. `Endless` isn't tried: it takes 4,294,967,295 messages or reads; nor is `Full`, which
-takes 64 MB that wait. It runs what `rt ci` has built, or the program that it is given. The last line is `N passed, M
-failed`.
+its table, and nothing else changes. The terminal is a pseudo-terminal at standard error. `Endless` isn't tried: it
+takes 4,294,967,295 messages or reads; nor is `Full`, which takes 64 MB that wait. It runs what `rt ci` has built, or
+the program that it is given. The last line is `N passed, M failed`.
 """
 import ctypes
 import os
+import pty
 import resource
 import subprocess
 import sys
+import termios
 import threading
 from dataclasses import dataclass, field
 from typing import List
@@ -20,6 +23,7 @@ sys.dont_write_bytecode = True
 import captures
 from held import is_held
 from loopback import HERE, Listening, PROGRAM, SELECT, SOON, free_port, same
+from second_reading import reasons, session
 
 TOP = os.path.dirname(os.path.dirname(os.path.abspath(__file__)))
 END = ["serve", "--role", "host", "--link", "active"]
@@ -57,7 +61,8 @@ def cases_of_words():
     yield Case(["audit", "--max"], 2, "command line", ["unexpected argument '--max' found. Usage: hsms audit [OPTIONS] < LOG"])
     yield Case(["show", "--max", "1"], 2, "command line", [value])
     own = "--role, --active and --log are host or equipment, --link is active or passive, --with is an IP address, "
-    own += "--only is failures, --form is text, json or html, and --bare goes with --hex alone"
+    own += "--only is failures, --form is text, json or html, --bare goes with --hex alone, "
+    own += "and --once, --connections and --t5 with --again"
     yield Case(["show", "--bare"], 2, "command line", [own])
     yield Case(["explain", "--only", "all"], 2, "command line", [own])
     for form in ("xml", "HTML", "JSON", ""):
@@ -66,6 +71,8 @@ def cases_of_words():
         yield Case(["capture", option, "both"], 2, "command line", [own])
     for address in ("", "10.0.0", "10.0.0.256", "010.0.0.1", "::1%lo", "[::1]", "10.0.0.1:5000", "localhost"):
         yield Case(["capture", "--with", address], 2, "command line", [own])
+    for options in (["--once"], ["--connections", "2"], ["--t5", "10000"]):
+        yield Case([*HERE_AT, "1", *options], 2, "command line", [own])
     port = "invalid value '0' for '--port <N>': 0 is not in 1..=65535"
     yield Case(["capture", "--port", "0"], 2, "command line", [port])
     yield Case([*HERE_AT, "1", "--role", "both"][:2] + ["both", *HERE_AT[3:], "1"], 2, "command line", [own])
@@ -161,6 +168,11 @@ def cases_of_captures():
     none = "no connection came up at --port: is this the port of HSMS, and does the capture begin before the connection does, or is --joined given?"
     yield Case(["capture"], 2, "NoConnection", [none], captures.no_connection().octets)
     yield Case(["capture", "--port", "5001"], 2, "NoConnection", [none], captures.late_reply().octets)
+    judged = "the last line of the output names HSMS that was not judged: give --joined, its --device or its --port"
+    with open(f"{TOP}/tests/captures/running.pcap", "rb") as file:
+        running = file.read()
+    yield Case(["capture"], 2, "NotJudged", [judged], running)
+    yield Case(["capture", "--port", "5000"], 2, "NotJudged", [judged], running)
     lost = "this packet shows that octets are missing: capture again at the end itself, whole packets (-s 0), and none dropped"
     yield Case(["capture"], 2, "Lost packet=8", [lost], captures.gap().octets)
     length = "a message is shorter than 10 octets or longer than --max: is this the port of HSMS? Else give a greater --max"
@@ -285,7 +297,47 @@ def tell(case):
     same(told_by(case, case.words, {"HSMS_VERBOSE": ""}), (case.status, fault))
     same(told_by(case, ["-v", *case.words], {}), (case.status, worded))
     same(told_by(case, [*case.words, "-v"], {}), (case.status, worded))
+    same(told_by(case, [*case.words, "--verbose"], {}), (case.status, worded))
     same(told_by(case, case.words, {"HSMS_VERBOSE": "1"}), (case.status, worded))
+
+
+def told_at_terminal(words, octets, env):
+    """What a run writes to a terminal at standard error."""
+    terminal, end = pty.openpty()
+    settings = termios.tcgetattr(end)
+    settings[1] &= ~termios.OPOST
+    termios.tcsetattr(end, termios.TCSANOW, settings)
+    env = {name: value for name, value in {**os.environ, **env}.items() if value is not None}
+    run = subprocess.run([PROGRAM, *words], input=octets, stdout=subprocess.PIPE, stderr=end, timeout=SOON, env=env)
+    os.close(end)
+    told = b""
+    try:
+        while part := os.read(terminal, 65536):
+            told += part
+    except OSError:
+        # (Linux answers so once nothing is left and no other end is open)
+        pass
+    os.close(terminal)
+    return run.returncode, told.decode()
+
+
+def at_terminal():
+    """A fault is explained at a terminal, unless HSMS_VERBOSE has another value than 1."""
+    fault = "hsms: CutOff\n"
+    worded = f"{fault}the input ends within a message: its last octets are missing\n"
+    octets = b"\0\0\0\x0a\0"
+    for value, told in ((None, worded), ("1", worded), ("0", fault), ("", fault)):
+        same(told_at_terminal(["show"], octets, {"HSMS_VERBOSE": value}), (2, told))
+    for word in ("-v", "--verbose"):
+        same(told_at_terminal(["show", word], octets, {"HSMS_VERBOSE": "0"}), (2, worded))
+
+
+def helped():
+    """Each help has the option."""
+    option = "\n  -v, --verbose  Explain each fault: what happened, and what to do\n"
+    for words in ([], ["show"], ["audit"], ["explain"], ["capture"], ["encode"], ["serve"]):
+        run = subprocess.run([PROGRAM, *words, "--help"], capture_output=True, timeout=SOON)
+        same((run.returncode, option in run.stdout.decode()), (0, True))
 
 
 def judged():
@@ -297,6 +349,34 @@ def judged():
             for more in ([], ["-v"])
         ]
         same(*[(run.returncode, run.stdout, run.stderr) for run in runs])
+
+
+def explains_unreadable():
+    """On standard error the audit says why a line can't be read, and shows it. All else is as without words."""
+    for log in reasons.damaged_logs("words", 400):
+        plain, worded = (
+            subprocess.run([PROGRAM, "audit", *more], input=log, capture_output=True, timeout=SOON) for more in ([], ["-v"])
+        )
+        told = unreadable_words(log, session.audit(log))
+        same((worded.returncode, worded.stdout, worded.stderr.decode()), (plain.returncode, plain.stdout, told))
+        same(plain.stderr, b"")
+
+
+def unreadable_words(log, audited):
+    if not audited.verdict.endswith(" unreadable"):
+        return ""
+    lines = session.lines_of(log)
+    if log == b"":
+        return f"line 1, {reasons.EMPTY.words()}\n"
+    line = lines[audited.line - 1]
+    if audited.line == 1:
+        why = reasons.of_first_line(line)
+    else:
+        why = reasons.of_later_line(line, 2 * audited.settings.max + 64)
+    # (60 octets before the place are shown, and 40 from there on)
+    before, behind = line[: why.column - 1][-60:], line[why.column - 1 :][:40]
+    shown = "".join(" " if it == 9 else chr(it) if 32 <= it <= 126 else "?" for it in before + behind)
+    return f"line {audited.line}, {why.words()}\n{shown}\n{' ' * len(before)}^\n"
 
 
 def documented(cases):
@@ -316,7 +396,8 @@ def main():
         for case in made():
             cases.append(case)
             passed.append(is_held(case.words, tell, case))
-    passed += [is_held("no fault", judged), is_held("the documents", documented, cases)]
+    passed += [is_held("no fault", judged), is_held("a terminal", at_terminal), is_held("the help", helped)]
+    passed += [is_held("unreadable lines", explains_unreadable), is_held("the documents", documented, cases)]
     print(f"{passed.count(True)} passed, {passed.count(False)} failed")
     return 0 if all(passed) else 1
 

@@ -8,6 +8,7 @@ from typing import Dict, List, Optional, Tuple
 
 from second_reading.packets import ACK, FIN, KINDS, PSH, RST, SYN, Packet, Segment, read_file, segment_of
 from second_reading.session import audit
+from second_reading.unjudged import Unjudged
 from second_reading.wire import ACTIVE, LATER, PASSIVE, Happening, Seen, Told, told_of
 
 MODULUS = 1 << 32
@@ -74,7 +75,7 @@ class Connection:
     def told(self, options: Options) -> Told:
         """What is told of it where no packet follows."""
         if self.answer is None:
-            waiting = [one for one in self.seen if one.data or one.end == ACTIVE and one.acknowledged is not None]
+            waiting = [one for one in self.seen if shows_answer(one)]
             return Told([], ("Lost", waiting[0].packet) if waiting else None, self.closed)
         told = told_of((self.number, self.answer), self.seen)
         for position, one in enumerate(told.happenings):
@@ -84,6 +85,11 @@ class Connection:
         return told
 
 
+def shows_answer(one: Seen) -> bool:
+    """Whether a packet shows that the passive end's SYN was there."""
+    return bool(one.data) and not one.is_reset or one.end == ACTIVE and one.acknowledged is not None
+
+
 class Port:
     """The connections at a port."""
 
@@ -91,6 +97,7 @@ class Port:
         self.options = options
         self.all: List[Connection] = []
         self.latest: Dict[frozenset, Connection] = {}
+        self.unjudged = Unjudged(options)
 
     def is_over(self, connection: Connection) -> bool:
         return connection.closed is not None or connection.told(self.options).over is not None
@@ -117,12 +124,17 @@ class Port:
         """Takes a segment. False where it has no time and belongs to a connection that isn't over."""
         pair = frozenset((segment.source, segment.target))
         if len(pair) < 2 or self.options.port not in (segment.source[1], segment.target[1]):
+            self.unjudged.take(segment)
             return True
         if not self.options.looks_at(segment):
+            self.unjudged.take(segment)
             return True
         connection, begun = self.known(pair), self.begun_by(segment)
         is_new = begun and (not connection or (connection.ends, connection.number) != begun)
-        if not is_new and (connection is None or connection.closed is not None):
+        if not is_new and connection is None:
+            self.unjudged.run(segment)
+            return True
+        if not is_new and connection.closed is not None:
             return True
         if packet.time is None or packet.time >= 1 << 64:
             return not is_new and self.is_over(connection)
@@ -180,6 +192,7 @@ class Capture:
             elif segment is not None and not port.take(packet, segment):
                 self.fault, self.last = f"Time packet={packet.number}", packet.number - 1
                 break
+        self.unjudged = port.unjudged
         self.outcomes = [outcome for outcome in map(self.outcome, port.all) if outcome]
 
     def outcome(self, connection: Connection) -> Optional[Outcome]:
@@ -262,8 +275,14 @@ def judge(octets: bytes, options: Options) -> Answer:
     fault = capture.first_fault([(one.over, of_file(capture, one)) for one in outcomes if one.told.fault])
     if not outcomes and not fault:
         fault = "NoConnection"
-    lines += capture.line_of_left_out()
-    return Answer(lines, None, 1) if fails else Answer(lines, fault, 2 if fault else 0)
+    lines += capture.line_of_left_out() + capture.unjudged.lines()
+    return Answer(lines, None, 1) if fails else answer_of(lines, fault, capture)
+
+
+def answer_of(lines: List[str], fault: Optional[str], capture: Capture) -> Answer:
+    """The answer where no log fails: a fault, or that something isn't judged."""
+    fault = fault or ("NotJudged" if capture.unjudged.is_refused else None)
+    return Answer(lines, fault, 2 if fault else 0)
 
 
 def of_file(capture: Capture, outcome: Outcome) -> str:
@@ -304,7 +323,7 @@ def write_log(octets: bytes, options: Options) -> Answer:
         if fault:
             return Answer(lines, capture.first_fault([(moment, fault)]), 2)
     fault = capture.fault or (None if capture.outcomes else "NoConnection")
-    return Answer(lines + capture.line_of_left_out(), fault, 2 if fault else 0)
+    return answer_of(lines + capture.line_of_left_out() + capture.unjudged.lines(), fault, capture)
 
 
 def capture(octets: bytes, options: Options) -> Answer:

@@ -6,8 +6,9 @@ on with. The text is this project's own.
 import re
 from datetime import datetime, timedelta, timezone
 from typing import Any, Dict, List, NamedTuple, Optional, Set, Tuple, Union
+from unicodedata import category
 
-from second_reading import items, messages, session
+from second_reading import items, messages, reasons, session
 from second_reading.items import Fault
 from second_reading.messages import Frame
 from second_reading.session import DISCARDED, OTHER_DIRECTION, SENT, TAKEN, Before, Entry, Settings, Unreadable
@@ -161,6 +162,15 @@ class Note:
         self.words, self.members, self.rule, self.sort = [below(words)], members, rule, sort
 
 
+def unreadable(why: reasons.Why) -> Note:
+    """What is told below a line that can't be read."""
+    sentence = SENTENCES["unreadable"]
+    members = {"column": why.column, "reason": why.reason, "expected": why.form}
+    note = Note(f"FAIL unreadable: {sentence}", {"rule": "unreadable", "sentence": sentence, **members}, "unreadable", ("unreadable",))
+    note.words.append(below(why.words(), 12))
+    return note
+
+
 class Alike:
     """Failures of a line one behind another that are told by the same line."""
 
@@ -177,6 +187,18 @@ class Alike:
         return {"rule": self.rule, "like": self.line, "times": self.times}
 
 
+def visible(line: bytes) -> bytes:
+    """A line of the log with `\\x1b` in place of a control character, for each octet of it: of C0, 7F, of C1 in UTF-8, and
+    an octet from 80 to 9F that is not part of UTF-8."""
+
+    def written(character: str) -> bytes:
+        octets = character.encode(errors="surrogateescape")
+        is_other = "\udc80" <= character <= "\udc9f"
+        return "".join(f"\\x{it:02x}" for it in octets).encode() if is_other or category(character) == "Cc" else octets
+
+    return b"".join(map(written, line.decode(errors="surrogateescape")))
+
+
 class Line:
     """A line of the log: its number, what it says, in words and in JSON, and what is told below it."""
 
@@ -184,7 +206,8 @@ class Line:
         date = date_of(entry.time) if entry and is_utc else None
         time = (date or str(entry.time)) if entry else ""
         self.number, self.notes = number, []
-        self.said = b"%6d %*s %s\n" % (number, 24 if is_utc else 7, time.encode(), said)
+        front = b"%6d %*s " % (number, 24 if is_utc else 7, time.encode())
+        self.said, self.unescaped = front + (said if entry else visible(said)) + b"\n", front + said + b"\n"
         self.members: Object = {"type": "line", "line": number}
         if entry is None:
             self.members["text"] = said.decode(errors="replace")
@@ -192,8 +215,9 @@ class Line:
             self.members["time"] = entry.time
             self.members.update({"utc": date} if date else {}, **members_of(entry))
 
-    def text(self, told: List[Union[Note, Alike]]) -> bytes:
-        return self.said + b"".join(words for note in told for words in note.words)
+    def text(self, told: List[Union[Note, Alike]], is_escaped: bool = True) -> bytes:
+        said = self.said if is_escaped else self.unescaped
+        return said + b"".join(words for note in told for words in note.words)
 
     def object(self, told: List[Union[Note, Alike]]) -> Object:
         failures = [note.members for note in told if isinstance(note, Alike) or note.rule]
@@ -353,7 +377,8 @@ class Telling:
             entry = session.entry_of(line, self.settings)
         except Unreadable:
             self.lines.append(Line(number, None, line[:limit], self.is_utc))
-            self.tell_rule("unreadable", SENTENCES["unreadable"], ("unreadable",))
+            self.failures["unreadable"] = self.failures.get("unreadable", 0) + 1
+            self.lines[-1].notes.append(unreadable(reasons.of_later_line(line, limit)))
             return
         if entry is None:
             self.lines.append(Line(number, None, line[:limit], self.is_utc))
@@ -581,8 +606,8 @@ class Explained(NamedTuple):
     failures: Optional[Dict[str, int]]
     outcomes: List[Object]
 
-    def text(self) -> bytes:
-        told = [DOTS if isinstance(it, Gap) else it.line.text(it.notes) for it in self.shown]
+    def text(self, is_escaped: bool = True) -> bytes:
+        told = [DOTS if isinstance(it, Gap) else it.line.text(it.notes, is_escaped) for it in self.shown]
         if self.unjudged:
             told.append(f"{self.unjudged}\n".encode())
         told += [rest.text() for rest in self.rests]
@@ -607,11 +632,10 @@ def unjudged(lines: List[bytes], excerpt: Excerpt) -> Explained:
     """What is told of the lines of a log whose first one can't be read."""
     limit = session.LONGEST_FIRST_LINE
     told = [Line(number, None, line[:limit], excerpt.is_utc) for number, line in enumerate(lines, 1)]
-    sentence = SENTENCES["unreadable"]
-    for line in told[:1]:
-        members = {"rule": "unreadable", "sentence": sentence}
-        line.notes.append(Note(f"FAIL unreadable: {sentence}", members, "unreadable", ("unreadable",)))
-    return Explained(excerpt.shown(told)[0], "nothing was judged: line 1 can't be read", [], None, [])
+    for line, octets in list(zip(told, lines))[:1]:
+        line.notes.append(unreadable(reasons.of_first_line(octets)))
+    why = "line 1 can't be read" if lines else "the log is empty"
+    return Explained(excerpt.shown(told)[0], f"nothing was judged: {why}", [], None, [])
 
 
 def explained(log: bytes, excerpt: Excerpt) -> Explained:
@@ -637,12 +661,14 @@ def verdict_object(words: str) -> Object:
 
 
 class Answer(NamedTuple):
-    """All that is told of a log: as text, and as the objects of JSON."""
+    """All that is told of a log: as text, as the objects of JSON, and as text with control characters as they are."""
 
     text: bytes
     objects: List[Object]
+    unescaped: bytes
 
 
 def explain(log: bytes, excerpt: Excerpt = WHOLE) -> Answer:
     told, verdict = explained(log, excerpt), session.audit(log).verdict
-    return Answer(told.text() + f"{verdict}\n".encode(), [*told.objects(), verdict_object(verdict)])
+    end = f"{verdict}\n".encode()
+    return Answer(told.text() + end, [*told.objects(), verdict_object(verdict)], told.text(is_escaped=False) + end)

@@ -75,7 +75,8 @@ def away(number: int, first: int) -> int:
 
 
 def octets_by_place(seen: List[Seen], end: int, first: int) -> Dict[int, int]:
-    """The octets of a direction by their places, of which the first copy counts. One that only asks is none."""
+    """The octets of a direction by their places, of which the first copy counts. One that only asks is none, and a RST
+    has none."""
     found, acknowledged = {}, 0
     for one in seen:
         if one.end != end:
@@ -84,20 +85,33 @@ def octets_by_place(seen: List[Seen], end: int, first: int) -> Dict[int, int]:
             continue
         place = (one.number - first + REACH) % MODULUS
         asks = len(one.data) == 1 and not one.is_pushed and place < acknowledged
-        if place + len(one.data) <= 2 * REACH and not asks:
+        if place + len(one.data) <= 2 * REACH and not asks and not one.is_reset:
             for at, octet in enumerate(one.data, place):
                 found.setdefault(at, octet)
     return found
 
 
+def first_number(seen: List[Seen], end: int) -> int:
+    """The first number that is known of a direction: that of its first packet or of the first ACK of it, whichever comes
+    later."""
+    own = next((one.number for one in seen if one.end == end), None)
+    acknowledged = next((one.acknowledged for one in seen if one.end != end and one.acknowledged is not None), None)
+    if own is None or acknowledged is None:
+        return acknowledged or own or 0
+    return acknowledged if away(acknowledged, own) > 0 else own
+
+
 def beginning(seen: List[Seen], end: int, options: Options) -> Tuple[int, bool]:
     """The number of the octet at which a direction begins, and whether three messages stand there. Where none begins a
-    message it is that behind the last octet, or the first one that is known, whichever comes later."""
-    numbers = [one.number if one.end == end else one.acknowledged for one in seen]
-    first = next((number for number in numbers if number is not None), 0)
+    message it is that behind the last octet, or the first one that is known, whichever comes later. Octets before the
+    first number that is known don't count where one is missing behind them: it was sent before the capture."""
+    first = first_number(seen, end)
     octets = octets_by_place(seen, end, first)
-    places = sorted(octets)
-    starts = [place for place in places if place - 1 not in octets]
+    low = REACH
+    while low - 1 in octets:
+        low -= 1
+    places = sorted(place for place in octets if place >= low)
+    starts = [place for place in places if place == low or place - 1 not in octets]
     for start in starts:
         run = bytearray()
         while start + len(run) in octets:
@@ -109,17 +123,18 @@ def beginning(seen: List[Seen], end: int, options: Options) -> Tuple[int, bool]:
     return (first + max(last, REACH) - REACH) % MODULUS, False
 
 
-def beginnings(seen: List[Seen], options: Options) -> List[int]:
-    """The numbers at which both directions begin, by the packets that are kept."""
+def beginnings(seen: List[Seen], options: Options) -> Tuple[List[int], List[Seen]]:
+    """The numbers at which both directions begin, by the packets that are kept, and these packets if one isn't sure."""
     count = octets = 0
     for count, one in enumerate(seen, 1):
         octets += len(one.data)
         is_last = one.is_reset or count in (LATER, len(seen)) or octets >= FARTHEST
         if is_last or count & (count - 1) == 0:
             found = [beginning(seen[:count], end, options) for end in (ACTIVE, PASSIVE)]
-            if is_last or all(is_sure for _, is_sure in found):
-                return [number for number, _ in found]
-    return [0, 0]
+            are_sure = all(is_sure for _, is_sure in found)
+            if is_last or are_sure:
+                return [number for number, _ in found], [] if are_sure else seen[:count]
+    return [0, 0], []
 
 
 # What happens.
@@ -142,6 +157,7 @@ class Told:
 
     lines: List[Line] = field(default_factory=list)
     fault: Optional[Tuple[str, int]] = None
+    given_up: List[bytes] = field(default_factory=list)  # what the packets bring that are kept, if a beginning isn't sure
 
     @property
     def missing(self) -> Optional[int]:
@@ -175,7 +191,12 @@ def both_have_begun(seen: List[Seen], begins: List[int]) -> Optional[int]:
 def told_of(seen: List[Seen], options: Options) -> Told:
     """What is told of a connection that was up before the capture, where these are all of its segments."""
     seen = list(dropwhile(lambda one: one.is_reset, seen))
-    begins = beginnings(seen, options)
+    begins, kept = beginnings(seen, options)
+    return replace(told_from(seen, begins, options), given_up=[one.data for one in kept])
+
+
+def told_from(seen: List[Seen], begins: List[int], options: Options) -> Told:
+    """The same, where its directions begin at these numbers."""
     start = both_have_begun(seen, begins)
     if start is None:
         return Told()

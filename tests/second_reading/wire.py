@@ -150,6 +150,7 @@ class Wire:
         self.turns: List[Tuple[int, int]] = []  # at which packet, and whose, as positions of `placed`
         self.waiting: List[List[int]] = [[], []]  # packets behind a gap, in the order of places
         self.received = [0, 0]  # up to which place the other end's turns acknowledge each direction
+        self.confirmed = [0, 0]  # the same of its packets, whether they had their turn or not
         self.ends: List[List[int]] = [[], []]  # behind each packet, where each direction's gap begins
         self.acked: List[List[int]] = [[], []]  # and up to where it is acknowledged
         self.difference: Optional[int] = None
@@ -168,15 +169,19 @@ class Wire:
         if segment.acknowledged is not None:
             acknowledged = place_near(self.streams[other].end, self.bases[other], segment.acknowledged)
         kinds, values = segment.cells()
-        if kinds == bytes([OCTET]) and not segment.is_pushed and place < self.received[own]:
-            kinds, values = b"", b""  # it asks whether the other end is there still
+        is_old = place < self.confirmed[own]
+        asks = kinds == bytes([OCTET]) and not segment.is_pushed and is_old  # whether the other end is there still
+        if asks or segment.is_reset:
+            kinds, values = b"", b""
         time = max(segment.time, self.placed[-1].time if self.placed else 0)
-        is_bare = segment.is_reset and segment.acknowledged is None
+        is_reset = segment.is_reset and not is_old
+        is_bare = is_reset and segment.acknowledged is None
         self.placed.append(
-            Placed(own, segment.packet, time, place, place + len(kinds), acknowledged or 0, segment.is_reset, is_bare)
+            Placed(own, segment.packet, time, place, place + len(kinds), acknowledged or 0, is_reset, is_bare)
         )
         if self.difference is None and stream.differs(place, kinds, values, self.received[own]):
             self.difference = at
+        self.confirmed[other] = max(self.confirmed[other], acknowledged or 0)
         gap = stream.end
         if kinds:
             stream.lay(place, kinds, values)

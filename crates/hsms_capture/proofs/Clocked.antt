@@ -9,7 +9,7 @@ use Rattle.hsms_capture.specs.declared.packet.Segment.{Segment}
 use Rattle.hsms_capture.specs.declared.reading.Reading.{Reading}
 use Rattle.hsms_capture.specs.declared.streams.Due.{Due}
 use Rattle.hsms_capture.specs.declared.telling.Happening.{Happening}
-use Rattle.hsms_capture.specs.Wire.{End, Placed, Seen, ack_place, end_of, latest, other, place_of, places, received, timed}
+use Rattle.hsms_capture.specs.Wire.{End, Placed, Seen, ack_place, end_of, latest, other, place_of, places, confirmed, timed}
 use Rattle.hsms_capture.specs.Known.{GoesOn, Known, packet_of, placed_behind, seen_of}
 use Rattle.hsms_capture.specs.Laws.{AreNumbered}
 use Rattle.hsms_capture.specs.Connected.{AreRising}
@@ -95,7 +95,7 @@ followed_in_some old new r next segment octets told later freed packet goes reac
     let s = seen_of segment octets in
     let ps = places base [] before in
     let g = goes base before stands.0 in
-    let one = placed_one (received ps s.from) (timed ps s) (place_of (end_of ps s.from) (base s.from) s.number) (ack_place ps base (other s.from) s.acknowledged) packet g.2 in
+    let one = placed_one (confirmed ps s.from) (timed ps s) (place_of (end_of ps s.from) (base s.from) s.number) (ack_place ps base (other s.from) s.acknowledged) packet g.2 in
     let time : one.0.time ≡ max (latest ps) s.time = one.5 in
     let now : places base [] (before ++ s ∷ []) ≡ ps ++ one.0 ∷ [] = one_more base before s ∙ ap (λ (z : List Placed). ps ++ z) one.1 in
     subst (IsInTimeOf next (away ++ later)) (sym now)

@@ -1,5 +1,5 @@
 -- One segment more, and the end: what was told is what the definition tells.
-use Rattle.std.proofs.Common.{◌≡◌, ◌⊎◌, ◌++◌, ◌∷◌, inl, inr, ℕ, Bool, true, false, cond, List, [], map, Option, Some, None, is_some, refl, sym, ap, subst, ◌∙◌, arith}
+use Rattle.std.proofs.Common.{◌≡◌, ◌⊎◌, ◌++◌, ◌||◌, ◌∷◌, inl, inr, ℕ, Bool, true, false, cond, List, [], map, Option, Some, None, is_some, refl, sym, ap, subst, ◌∙◌, arith}
 use Rattle.std.proofs.lemmas.List.{append-nil, append_assoc}
 use Rattle.std.specs.Option.{option_to_list}
 use Rattle.hsms_capture.specs.declared.connection.Connection.{Connection}
@@ -14,7 +14,7 @@ use Rattle.hsms_capture.specs.declared.streams.Due.{Due}
 use Rattle.hsms_capture.specs.declared.teller.Teller.{Teller}
 use Rattle.hsms_capture.specs.declared.telling.Happening.{Happening}
 use Rattle.hsms_capture.specs.declared.telling.Telling.TheVariants as telling
-use Rattle.hsms_capture.specs.Wire.{End, active, passive, other, Seen, Placed, places, place_of, ack_place, placed_at, timed, asks_only, end_of, received, turns, loss, difference, earlier}
+use Rattle.hsms_capture.specs.Wire.{End, active, passive, other, Seen, Placed, places, place_of, ack_place, placed_at, timed, asks_only, end_of, received, confirmed, turns, loss, difference, earlier}
 use Rattle.hsms_capture.specs.Held.{Store, IsStoreOf}
 use Rattle.hsms_capture.specs.Known.{GoesOn, Known, end_at, known, packet_of, placed_as, placed_behind, seen_of}
 use Rattle.hsms_capture.specs.Laws.{AreNumbered}
@@ -47,7 +47,7 @@ placed_one acked s None ack packet e = absurd cc
 placed_one acked s (Some place) ack packet e =
     let p = placed_as acked s place ack in
     let same : packet ≡ packet_of p = cc in
-    (p, refl, same, refl, by_test (asks_only acked place s.pushed s.cells), refl)
+    (p, refl, same, refl, by_test (s.reset || asks_only acked place s.pushed s.cells), refl)
   where
     by_test : (b : Bool) → (cond b [] s.cells ≡ []) ⊎ (cond b [] s.cells ≡ s.cells)
     by_test true = inl refl
@@ -78,7 +78,7 @@ followed_none old new r segment octets told freed goes base before away numbered
     let ps = places base [] before in
     let g = goes base before stands.0 in
     let none : placed_behind base ps s ≡ [] =
-    placed_none (received ps s.from) (timed ps s) (place_of (end_of ps s.from) (base s.from) s.number) (ack_place ps base (other s.from) s.acknowledged) g.2 in
+    placed_none (confirmed ps s.from) (timed ps s) (place_of (end_of ps s.from) (base s.from) s.number) (ack_place ps base (other s.from) s.acknowledged) g.2 in
     let now : places base [] (before ++ s ∷ []) ≡ ps = one_more base before s ∙ ap (λ (z : List Placed). ps ++ z) none ∙ append-nil ps in
     (g.0, subst (λ (z : List Placed). IsReading r z (away ++ told)) (sym now) stands.1)
 
@@ -101,7 +101,7 @@ followed_some old new r next segment octets told later freed packet acked before
     let s = seen_of segment octets in
     let ps = places base [] before in
     let g = goes base before stands.0 in
-    let one = placed_one (received ps s.from) (timed ps s) (place_of (end_of ps s.from) (base s.from) s.number) (ack_place ps base (other s.from) s.acknowledged) packet g.2 in
+    let one = placed_one (confirmed ps s.from) (timed ps s) (place_of (end_of ps s.from) (base s.from) s.number) (ack_place ps base (other s.from) s.acknowledged) packet g.2 in
     let p = one.0 in
     let now : places base [] (before ++ s ∷ []) ≡ ps ++ p ∷ [] = one_more base before s ∙ ap (λ (z : List Placed). ps ++ z) one.1 in
     let knows : new ≡ known base (ps ++ p ∷ []) = g.0 ∙ ap (known base) now in

@@ -2,7 +2,7 @@
 use Rattle.std.proofs.Common.{◌≡◌, ◌<◌, ℕ, List, [], ◌∷◌, ◌++◌, flat_map, Option, Some, None, refl, sym, ap, subst, ◌∙◌, arith}
 use Rattle.std.proofs.lemmas.List.{append_assoc, append-nil}
 use Rattle.std.proofs.lemmas.List.Concat.{flat_map-append}
-use Rattle.hsms_capture.specs.Wire.{End, active, passive, other, Cell, Seen, Placed, Turn, Delivery, deliveries, told_turns, Both, left_of, both_streams, stream_of, end_of, show, shows_of, Shown, placed_at, places, received, timed, place_of, ack_place, wire_shows}
+use Rattle.hsms_capture.specs.Wire.{End, active, passive, other, Cell, Seen, Placed, Turn, Delivery, deliveries, told_turns, Both, left_of, both_streams, stream_of, end_of, show, shows_of, Shown, placed_at, places, confirmed, timed, place_of, ack_place, wire_shows}
 use Rattle.hsms_capture.specs.Laws.{IsSize, AreNumbered}
 use Rattle.hsms_capture.proofs.Lists.{Begins}
 use Rattle.hsms_capture.proofs.Longer.{stream_length, stream_more}
@@ -16,14 +16,14 @@ pub places_more : (base : End → ℕ) (before : List Placed) (xs ys : List Seen
 unfolding places
 places_more base before [] ys = refl
 places_more base before (s ∷ xs) ys =
-    places_more base (before ++ placed_at (received before s.from) (timed before s) (place_of (end_of before s.from) (base s.from) s.number)
+    places_more base (before ++ placed_at (confirmed before s.from) (timed before s) (place_of (end_of before s.from) (base s.from) s.number)
     (ack_place before base (other s.from) s.acknowledged)) xs ys
 
 pub places_begin : (base : End → ℕ) (before : List Placed) (ss : List Seen) → Begins Placed before (places base before ss)
 unfolding places
 places_begin base before [] = ([], sym (append-nil before))
 places_begin base before (s ∷ ss) =
-    let new = placed_at (received before s.from) (timed before s) (place_of (end_of before s.from) (base s.from) s.number) (ack_place before base (other s.from) s.acknowledged) in
+    let new = placed_at (confirmed before s.from) (timed before s) (place_of (end_of before s.from) (base s.from) s.number) (ack_place before base (other s.from) s.acknowledged) in
     let later = places_begin base (before ++ new) ss in
     (new ++ later.0, later.1 ∙ append_assoc before new later.0)
 
@@ -40,9 +40,9 @@ places_rise base before n [] h = ([], sym (append-nil before), tt)
 places_rise base before n (s ∷ ss) h =
     let place = place_of (end_of before s.from) (base s.from) s.number in
     let ack = ack_place before base (other s.from) s.acknowledged in
-    let new = placed_at (received before s.from) (timed before s) place ack in
+    let new = placed_at (confirmed before s.from) (timed before s) place ack in
     let later = places_rise base (before ++ new) s.packet ss h.1 in
-    (new ++ later.0, later.1 ∙ append_assoc before new later.0, new_rises (received before s.from) n (timed before s) place ack later.0 h.0 later.2)
+    (new ++ later.0, later.1 ∙ append_assoc before new later.0, new_rises (confirmed before s.from) n (timed before s) place ack later.0 h.0 later.2)
 
 -- ---- what is shown
 

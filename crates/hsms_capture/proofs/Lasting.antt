@@ -6,7 +6,7 @@ use Rattle.std.specs.List.{list_any}
 use Rattle.hsms_capture.specs.declared.ending.Ending.{Ending}
 use Rattle.hsms_capture.specs.declared.ending.Ending.TheVariants as ending
 use Rattle.hsms_capture.specs.declared.telling.Happening.{Happening}
-use Rattle.hsms_capture.specs.Wire.{End, passive, other, Placed, Seen, Shown, Turn, ack_place, acknowledges, breaks_off, earlier, end_of, is_before, is_open, place_of, placed_at, places, received, shows_of, timed, told_turns, turns, loss_shown}
+use Rattle.hsms_capture.specs.Wire.{End, passive, other, Placed, Seen, Shown, Turn, ack_place, acknowledges, breaks_off, earlier, end_of, is_before, is_open, place_of, placed_at, places, confirmed, shows_of, timed, told_turns, turns, loss_shown}
 use Rattle.hsms_capture.specs.Message.{message_size}
 use Rattle.hsms_capture.specs.Told.{Told, up, message, down, Entry, entry, entry_of, and_later, answered_at, behind_up, first_message, is_left_out, is_message, is_separate, reset_entries, separated_by, shown_entries, tells, up_to_down}
 use Rattle.hsms_capture.specs.Laws.{AreNumbered, EachEntry, EachShown, ToldAtPackets}
@@ -127,9 +127,9 @@ places_each P base before [] f h = f
 places_each P base before (s ∷ ss) f h =
     let place = place_of (end_of before s.from) (base s.from) s.number in
     let ack = ack_place before base (other s.from) s.acknowledged in
-    let new = placed_at (received before s.from) (timed before s) place ack in
+    let new = placed_at (confirmed before s.from) (timed before s) place ack in
     places_each P base (before ++ new) ss
-    (each_append (λ (p : Placed). P p.packet) before new f (placed_each P (received before s.from) (timed before s) place ack h.0)) h.1
+    (each_append (λ (p : Placed). P p.packet) before new f (placed_each P (confirmed before s.from) (timed before s) place ack h.0)) h.1
 
 or_true : (a b : Bool) → b ≡ true → (a || b) ≡ true
 or_true true b e = refl

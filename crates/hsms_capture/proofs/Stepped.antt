@@ -4,7 +4,7 @@ use Rattle.std.proofs.lemmas.Bool.{le-leb, lt-ltb, ltb-true, cases_lt}
 use Rattle.std.proofs.lemmas.List.{append-nil}
 use Rattle.std.specs.Option.{option_to_list, unwrap_or}
 use Rattle.hsms_capture.specs.declared.packet.Packet.{Packet}
-use Rattle.hsms_capture.specs.Wire.{End, active, passive, other, same_end, Seen, Placed, Turn, acknowledged_at, acknowledges, end_of, greatest_acknowledged, ack_place, place_of, placed_at, places, latest, timed, received, bound, run, turns, turns_at}
+use Rattle.hsms_capture.specs.Wire.{End, active, passive, other, same_end, Seen, Placed, Turn, acknowledged_at, acknowledges, end_of, greatest_acknowledged, ack_place, place_of, placed_at, places, latest, timed, received, confirmed, confirmed_by, bound, run, turns, turns_at}
 use Rattle.hsms_capture.specs.Laws.{absorb, insert_behind, left_waiting, reached, waits, waiting_in}
 use Rattle.hsms_capture.specs.Early.{IsStopped, Drained, drained, put_behind, acked}
 use Rattle.hsms_capture.specs.Known.{Flow, GoesOn, Known, Step, flow_of, latest_behind, packet_of, placed_as, placed_behind, step, step_at, step_by, told_behind}
@@ -162,6 +162,25 @@ acked_is d n (t ∷ ts) h =
     let one : acknowledges (other d) t ≡ unwrap_or t.own.acknowledged 0 = placed_ack d t.at t.own t.own.acknowledged h.0 in
     acked_is d (max n (unwrap_or t.own.acknowledged 0)) ts h.1 ∙ rw one (omega arith)
 
+-- ---- what is acknowledged by packets
+
+confirmed_more : (xs ys : List Placed) (d : End) → confirmed (xs ++ ys) d ≡ max (confirmed xs d) (confirmed ys d)
+confirmed_more [] ys d = omega arith
+confirmed_more (x ∷ xs) ys d = let later = confirmed_more xs ys d in rw later (omega arith)
+
+confirmed_own : (d : End) (p : Placed) → p.from ≡ d → confirmed_by d p ≡ 0
+confirmed_own active p e = rw e refl
+confirmed_own passive p e = rw e refl
+
+confirmed_other : (d : End) (p : Placed) (a : Option ℕ) → p.from ≡ d → confirmed_by (other d) (record p { acknowledged = a }) ≡ unwrap_or a 0
+confirmed_other active p None e = rw e refl
+confirmed_other active p (Some n) e = rw e refl
+confirmed_other passive p None e = rw e refl
+confirmed_other passive p (Some n) e = rw e refl
+
+confirmed_one : (before : List Placed) (p : Placed) (d : End) → confirmed (before ++ (p ∷ [])) d ≡ max (confirmed before d) (confirmed_by d p)
+confirmed_one before p d = let more : confirmed (before ++ (p ∷ [])) d ≡ max (confirmed before d) (max (confirmed_by d p) 0) = confirmed_more before (p ∷ []) d in omega (arith, more)
+
 -- ---- a step
 
 abbrev Stepped : (End → ℕ) → List Placed → List Placed → Seen → Step → Type 0
@@ -169,9 +188,9 @@ Stepped base before after s r =
     (r.own ≡ flow_of base after s.from) × (r.peer ≡ flow_of base after (other s.from)) × (r.told ≡ told_behind base before s)
     × (option_to_list r.placed ≡ map packet_of (placed_behind base before s))
 
-flow_is : (b : ℕ) (e f a c : ℕ) (w v : List Packet) → e ≡ f → a ≡ c → w ≡ v
-    → ◌≡◌ {A = Flow} (record { base = b; end = e; acknowledged = a; waiting = w }) (record { base = b; end = f; acknowledged = c; waiting = v })
-flow_is b e f a c w v h k l = rw (h, k, l) refl
+flow_is : (b : ℕ) (e f a c m n : ℕ) (w v : List Packet) → e ≡ f → a ≡ c → m ≡ n → w ≡ v
+    → ◌≡◌ {A = Flow} (record { base = b; end = e; acknowledged = a; confirmed = m; waiting = w }) (record { base = b; end = f; acknowledged = c; confirmed = n; waiting = v })
+flow_is b e f a c m n w v h k l o = rw (h, k, l, o) refl
 
 step_one : (base : End → ℕ) (before : List Placed) (p : Placed)
     → ((step_by (flow_of base before p.from) (flow_of base before (other p.from)) (packet_of p)).own ≡ flow_of base (before ++ (p ∷ [])) p.from)
@@ -186,23 +205,28 @@ step_one base before p =
     let kept : received before d ≡ received (before ++ (p ∷ [])) d = omega (arith, received_more before p d, none_own d ts own) in
     let heard : acked (received before (other d)) r.told ≡ received (before ++ (p ∷ [])) (other d) =
     ap (acked (received before (other d))) found.1 ∙ acked_is d (received before (other d)) ts own ∙ sym (received_more before p (other d)) in
+    let mine : confirmed before d ≡ confirmed (before ++ (p ∷ [])) d = omega (arith, confirmed_one before p d, confirmed_own d p refl) in
+    let its : max (confirmed before (other d)) (unwrap_or p.acknowledged 0) ≡ confirmed (before ++ (p ∷ [])) (other d) =
+    ap (max (confirmed before (other d))) (sym (confirmed_other d p p.acknowledged refl)) ∙ sym (confirmed_one before p (other d)) in
     let same = stays before p in (
-      flow_is (base d) r.end (end_of (before ++ (p ∷ [])) d) (received before d) (received (before ++ (p ∷ [])) d) r.left (map packet_of (waiting_in (before ++ (p ∷ [])) d)) found.0 kept found.2,
+      flow_is (base d) r.end (end_of (before ++ (p ∷ [])) d) (received before d) (received (before ++ (p ∷ [])) d) (confirmed before d) (confirmed (before ++ (p ∷ [])) d)
+          r.left (map packet_of (waiting_in (before ++ (p ∷ [])) d)) found.0 kept mine found.2,
       flow_is (base (other d)) (end_of before (other d)) (end_of (before ++ (p ∷ [])) (other d)) (acked (received before (other d)) r.told) (received (before ++ (p ∷ [])) (other d))
-          (map packet_of (waiting_in before (other d))) (map packet_of (waiting_in (before ++ (p ∷ [])) (other d))) (sym same.0) heard (sym (ap (λ (qs : List Placed). map packet_of qs) same.1)),
+          (max (confirmed before (other d)) (unwrap_or p.acknowledged 0)) (confirmed (before ++ (p ∷ [])) (other d)) (map packet_of (waiting_in before (other d)))
+          (map packet_of (waiting_in (before ++ (p ∷ [])) (other d))) (sym same.0) heard its (sym (ap (λ (qs : List Placed). map packet_of qs) same.1)),
       found.1 ∙ sym (ap (λ (us : List Turn). map own_of us) (turns_one before p)),
     )
 
 abbrev StepAt : (End → ℕ) → List Placed → Seen → Option ℕ → Type 0
 StepAt base before s o =
     ((step_at (flow_of base before s.from) (flow_of base before (other s.from)) s o).own
-    ≡ flow_of base (before ++ placed_at (received before s.from) s o (ack_place before base (other s.from) s.acknowledged)) s.from)
+    ≡ flow_of base (before ++ placed_at (confirmed before s.from) s o (ack_place before base (other s.from) s.acknowledged)) s.from)
     × ((step_at (flow_of base before s.from) (flow_of base before (other s.from)) s o).peer
-    ≡ flow_of base (before ++ placed_at (received before s.from) s o (ack_place before base (other s.from) s.acknowledged)) (other s.from))
+    ≡ flow_of base (before ++ placed_at (confirmed before s.from) s o (ack_place before base (other s.from) s.acknowledged)) (other s.from))
     × ((step_at (flow_of base before s.from) (flow_of base before (other s.from)) s o).told
-    ≡ map own_of (turns before (placed_at (received before s.from) s o (ack_place before base (other s.from) s.acknowledged))))
+    ≡ map own_of (turns before (placed_at (confirmed before s.from) s o (ack_place before base (other s.from) s.acknowledged))))
     × (option_to_list (step_at (flow_of base before s.from) (flow_of base before (other s.from)) s o).placed
-    ≡ map packet_of (placed_at (received before s.from) s o (ack_place before base (other s.from) s.acknowledged)))
+    ≡ map packet_of (placed_at (confirmed before s.from) s o (ack_place before base (other s.from) s.acknowledged)))
 
 turns_none : (before : List Placed) → [] ≡ map own_of (turns before [])
 unfolding turns
@@ -213,7 +237,7 @@ step_by_place base before s None =
     let same = sym (append-nil before) in
     (ap (λ (qs : List Placed). flow_of base qs s.from) same, ap (λ (qs : List Placed). flow_of base qs (other s.from)) same, turns_none before, refl)
 step_by_place base before s (Some place) =
-    let one = step_one base before (placed_as (received before s.from) s place (acknowledged_at (end_of before (other s.from)) (base (other s.from)) s.acknowledged)) in
+    let one = step_one base before (placed_as (confirmed before s.from) s place (acknowledged_at (end_of before (other s.from)) (base (other s.from)) s.acknowledged)) in
     (one.0, one.1, one.2, refl)
 
 step_is : (base : End → ℕ) (before : List Placed) (s : Seen)
@@ -268,7 +292,7 @@ latest_is : (base : End → ℕ) (before : List Seen) (s : Seen) (placed : Optio
     → latest_behind (latest (places base [] before)) placed ≡ latest (places base [] (before ++ (s ∷ [])))
 latest_is base before s placed e =
     let ps = places base [] before in
-    latest_by ps (received ps s.from) s (place_of (end_of ps s.from) (base s.from) s.number) (ack_place ps base (other s.from) s.acknowledged) placed e
+    latest_by ps (confirmed ps s.from) s (place_of (end_of ps s.from) (base s.from) s.number) (ack_place ps base (other s.from) s.acknowledged) placed e
     ∙ sym (ap latest (one_more base before s))
 
 -- with the greatest time so far
@@ -313,7 +337,7 @@ passive_goes old told s t own peer clock later placed is from f g h k l base bef
 
 -- nothing is known before the first segment
 
-pub begins : (base : End → ℕ) (d : End) → ◌≡◌ {A = Flow} (record { base = base d; end = 0; acknowledged = 0; waiting = [] }) (flow_of base [] d)
+pub begins : (base : End → ℕ) (d : End) → ◌≡◌ {A = Flow} (record { base = base d; end = 0; acknowledged = 0; confirmed = 0; waiting = [] }) (flow_of base [] d)
 unfolding bound run turns
 begins base d = refl
 

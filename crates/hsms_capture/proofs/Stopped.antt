@@ -12,7 +12,7 @@ use Rattle.hsms_capture.specs.declared.packet.Side.{Side}
 use Rattle.hsms_capture.specs.declared.reading.Reading.{Reading}
 use Rattle.hsms_capture.specs.declared.streams.Streams.{Streams}
 use Rattle.hsms_capture.specs.declared.telling.Happening.{Happening}
-use Rattle.hsms_capture.specs.Wire.{End, active, passive, Cell, Placed, Seen, ack_place, end_of, other, place_of, places, received, timed}
+use Rattle.hsms_capture.specs.Wire.{End, active, passive, Cell, Placed, Seen, ack_place, end_of, other, place_of, places, confirmed, timed}
 use Rattle.hsms_capture.specs.Held.{EndsFar}
 use Rattle.hsms_capture.specs.Known.{GoesOn, Known, known, packet_of, placed_behind, seen_of}
 use Rattle.hsms_capture.specs.Losses.{side_of}
@@ -63,7 +63,7 @@ stops_full held.Full old new r segment octets told freed packet goes full base b
     let s = seen_of segment octets in
     let ps = places base [] before in
     let g = goes base before stands.0 in
-    let one = placed_one (received ps s.from) (timed ps s) (place_of (end_of ps s.from) (base s.from) s.number) (ack_place ps base (other s.from) s.acknowledged) packet g.2 in
+    let one = placed_one (confirmed ps s.from) (timed ps s) (place_of (end_of ps s.from) (base s.from) s.number) (ack_place ps base (other s.from) s.acknowledged) packet g.2 in
     let p = one.0 in
     let some = some_cells p packet one.2 full.0 in
     let from : packet.from ≡ p.place = ap (λ (q : Packet). q.from) one.2 in
@@ -100,7 +100,7 @@ goes_some old new r segment octets told freed packet lt goes near base before aw
     let s = seen_of segment octets in
     let ps = places base [] before in
     let g = goes base before stands.0 in
-    let one = placed_one (received ps s.from) (timed ps s) (place_of (end_of ps s.from) (base s.from) s.number) (ack_place ps base (other s.from) s.acknowledged) packet g.2 in
+    let one = placed_one (confirmed ps s.from) (timed ps s) (place_of (end_of ps s.from) (base s.from) s.number) (ack_place ps base (other s.from) s.acknowledged) packet g.2 in
     let p = one.0 in
     let from : packet.from ≡ p.place = ap (λ (q : Packet). q.from) one.2 in
     let to : packet.to ≡ p.place + length p.cells = ap (λ (q : Packet). q.to) one.2 in (

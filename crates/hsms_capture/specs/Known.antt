@@ -1,11 +1,11 @@
 -- What a reader knows of a connection in the midst of a capture, and what more it tells at each segment.
-use Rattle.std.specs.Prelude.{◌≡◌, ◌+◌, ◌++◌, ◌∷◌, ℕ, if◌then◌else◌, List, [], length, map, Option, Some, None}
-use Rattle.std.specs.Option.{option_to_list}
+use Rattle.std.specs.Prelude.{◌≡◌, ◌+◌, ◌&&◌, ◌||◌, ◌++◌, ◌∷◌, ℕ, max, nat_le, if◌then◌else◌, List, [], length, map, Option, Some, None}
+use Rattle.std.specs.Option.{option_to_list, unwrap_or}
 use Rattle.hsms_capture.specs.declared.packet.Packet.{Packet}
 use Rattle.hsms_capture.specs.declared.packet.Segment.{Segment}
 use Rattle.hsms_capture.specs.declared.packet.Side.{Side}
 use Rattle.hsms_capture.specs.declared.packet.Side.TheVariants as side
-use Rattle.hsms_capture.specs.Wire.{End, active, passive, other, Seen, Placed, Turn, end_of, received, latest, timed, places, placed_at, place_of, ack_place, acknowledged_at, asks_only, turns}
+use Rattle.hsms_capture.specs.Wire.{End, active, passive, other, Seen, Placed, Turn, end_of, received, confirmed, latest, timed, places, placed_at, place_of, ack_place, acknowledged_at, asks_only, turns}
 use Rattle.hsms_capture.specs.Message.{cells_of}
 use Rattle.hsms_capture.specs.Early.{Drained, put_behind, drained, acked}
 use Rattle.hsms_capture.specs.Laws.{waiting_in}
@@ -31,12 +31,13 @@ seen_of s octets = record {
 abbrev pub packet_of : Placed → Packet
 packet_of p = record { packet = p.packet; time = p.time; from = p.place; to = p.place + length p.cells; acknowledged = p.acknowledged; reset = p.reset }
 
--- of one direction: its SYN's number, the end of what is there without a gap, the place up to which the turns of the
--- other direction acknowledge it, and the packets that wait behind a gap, in the order of places
+-- of one direction: its SYN's number, the end of what is there without a gap, the places up to which the turns of the other
+-- direction acknowledge it, and up to which its packets do, and the packets that wait behind a gap, in the order of places
 pub record Flow : Type 0 where
   pub base : ℕ
   pub end : ℕ
   pub acknowledged : ℕ
+  pub confirmed : ℕ
   pub waiting : List Packet
 
 -- both directions, and the greatest time of the packets
@@ -46,7 +47,7 @@ pub record Known : Type 0 where
   pub latest : ℕ
 
 abbrev pub flow_of : (End → ℕ) → List Placed → End → Flow
-flow_of base before d = record { base = base d; end = end_of before d; acknowledged = received before d; waiting = map packet_of (waiting_in before d) }
+flow_of base before d = record { base = base d; end = end_of before d; acknowledged = received before d; confirmed = confirmed before d; waiting = map packet_of (waiting_in before d) }
 
 abbrev pub known : (End → ℕ) → List Placed → Known
 known base before = record { active = flow_of base before active; passive = flow_of base before passive; latest = latest before }
@@ -60,9 +61,9 @@ placed_as acknowledged s place ack = record {
   packet = s.packet;
   time = s.time;
   place = place;
-  cells = if asks_only acknowledged place s.pushed s.cells then [] else s.cells;
+  cells = if s.reset || asks_only acknowledged place s.pushed s.cells then [] else s.cells;
   acknowledged = ack;
-  reset = s.reset;
+  reset = s.reset && nat_le acknowledged place;
 }
 
 -- both directions behind a packet, of which one brings it, the packet by its place, and the packets whose turn is at it
@@ -78,14 +79,14 @@ step_by own peer p = with_drained (drained own.end (put_behind p own.waiting))
     with_drained : Drained → Step
     with_drained d = record {
       own = record own { end = d.end; waiting = d.left };
-      peer = record peer { acknowledged = acked peer.acknowledged d.told };
+      peer = record peer { acknowledged = acked peer.acknowledged d.told; confirmed = max peer.confirmed (unwrap_or p.acknowledged 0) };
       placed = Some p;
       told = d.told;
     }
 
 abbrev pub step_at : Flow → Flow → Seen → Option ℕ → Step
 step_at own peer s None = record { own = own; peer = peer; placed = None; told = [] }
-step_at own peer s (Some place) = step_by own peer (packet_of (placed_as own.acknowledged s place (acknowledged_at peer.end peer.base s.acknowledged)))
+step_at own peer s (Some place) = step_by own peer (packet_of (placed_as own.confirmed s place (acknowledged_at peer.end peer.base s.acknowledged)))
 
 abbrev pub step : Flow → Flow → Seen → Step
 step own peer s = step_at own peer s (place_of own.end own.base s.number)
@@ -105,7 +106,7 @@ bases a p passive = p
 -- a segment by its place, behind these packets: none where its place is too far
 abbrev pub placed_behind : (End → ℕ) → List Placed → Seen → List Placed
 placed_behind base before s =
-    placed_at (received before s.from) (timed before s) (place_of (end_of before s.from) (base s.from) s.number) (ack_place before base (other s.from) s.acknowledged)
+    placed_at (confirmed before s.from) (timed before s) (place_of (end_of before s.from) (base s.from) s.number) (ack_place before base (other s.from) s.acknowledged)
 
 -- the packets whose turn is at this segment, in their order
 abbrev pub told_behind : (End → ℕ) → List Placed → Seen → List Packet

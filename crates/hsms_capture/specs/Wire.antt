@@ -131,6 +131,18 @@ greatest_acknowledged d (t ∷ ts) = max (acknowledges d t) (greatest_acknowledg
 abbrev pub received : List Placed → End → ℕ
 received before d = greatest_acknowledged d (turns [] before)
 
+-- Behind it an end's cells aren't acknowledged by any packet of the other end, whether it had its turn or not.
+abbrev pub confirmed_by : End → Placed → ℕ
+confirmed_by d p = if same_end p.from d then 0 else (at p.acknowledged)
+  where
+    at : Option ℕ → ℕ
+    at None = 0
+    at (Some n) = n
+
+abbrev pub confirmed : List Placed → End → ℕ
+confirmed [] d = 0
+confirmed (p ∷ ps) d = max (confirmed_by d p) (confirmed ps d)
+
 -- ---- places
 
 -- the place with this number that is nearest to a place, and not farther than 2^26 from it
@@ -161,6 +173,8 @@ asks_only acknowledged place pushed (fin ∷ cs) = false
 asks_only acknowledged place pushed (octet n ∷ []) = not pushed && nat_lt place acknowledged
 asks_only acknowledged place pushed (octet n ∷ (c ∷ cs)) = false
 
+-- A RST brings nothing: what it has is text for a reader. One at a place that was acknowledged before resets nothing, since
+-- the other end ignores it.
 abbrev pub placed_at : ℕ → Seen → Option ℕ → Option ℕ → List Placed
 placed_at acknowledged s None ack = []
 placed_at acknowledged s (Some place) ack =
@@ -169,9 +183,9 @@ placed_at acknowledged s (Some place) ack =
       packet = s.packet;
       time = s.time;
       place = place;
-      cells = if asks_only acknowledged place s.pushed s.cells then [] else s.cells;
+      cells = if s.reset || asks_only acknowledged place s.pushed s.cells then [] else s.cells;
       acknowledged = ack;
-      reset = s.reset;
+      reset = s.reset && nat_le acknowledged place;
     } ∷ []
 
 -- the greatest time of these packets
@@ -187,7 +201,7 @@ timed before s = record s { time = max (latest before) s.time }
 unfoldable pub places : (End → ℕ) → List Placed → List Seen → List Placed
 places base before [] = before
 places base before (s ∷ ss) =
-    places base (before ++ placed_at (received before s.from) (timed before s) (place_of (end_of before s.from) (base s.from) s.number)
+    places base (before ++ placed_at (confirmed before s.from) (timed before s) (place_of (end_of before s.from) (base s.from) s.number)
     (ack_place before base (other s.from) s.acknowledged)) ss
 
 -- ---- loss

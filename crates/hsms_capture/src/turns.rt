@@ -33,12 +33,13 @@ impl From<AllocError> for TurnsFault {
     }
 }
 
-// What is known of one direction.
+// What is known of one direction. It is acknowledged by turns of the other one, and confirmed by any packet of it.
 #[derive(Drop)]
 struct Direction {
     base: u32,
     end: u64,
     acknowledged: u64,
+    confirmed: u64,
     waiting: VecDeque<Packet>,
 }
 
@@ -49,6 +50,7 @@ impl Model for Direction {
       base = d.base;
       end = d.end;
       acknowledged = d.acknowledged;
+      confirmed = d.confirmed;
       waiting = d.waiting.items;
     } };
 }
@@ -56,19 +58,20 @@ impl Model for Direction {
 impl Direction {
     // Nothing is there.
     fn new(alloc: Global, base: u32) -> Direction
-        ensures { result ≡ record { base = base; end = 0; acknowledged = 0; waiting = [] } }
+        ensures { result ≡ record { base = base; end = 0; acknowledged = 0; confirmed = 0; waiting = [] } }
     {
         Direction {
             base,
             end: 0,
             acknowledged: 0,
+            confirmed: 0,
             waiting: VecDeque::new(alloc),
         }
     }
 }
 
 /// What is known of both directions of a connection: where the end is of what is there without a gap, what was
-/// acknowledged, and which packets wait behind a gap; and the greatest time of its packets. Contracts see what `known`
+/// acknowledged by turns and by any packet, and which packets wait behind a gap; and the greatest time of its packets. Contracts see what `known`
 /// says.
 #[derive(Drop)]
 pub struct Turns {
@@ -192,7 +195,7 @@ fn follow(
         return Ok(None);
     };
     let acknowledged = acknowledged_place(peer.base, peer.end, segment.acknowledged);
-    let packet = packet_at(own.acknowledged, place, acknowledged, segment, octets);
+    let packet = packet_at(own.confirmed, place, acknowledged, segment, octets);
     queue(own, peer, packet, told)?;
     Ok(Some(packet))
 }
@@ -214,7 +217,7 @@ fn packet_at(
         from: place,
         to: place + count_of(received, place, segment, octets),
         acknowledged,
-        reset: segment.reset,
+        reset: segment.reset && received <= place,
     }
 }
 
@@ -224,7 +227,7 @@ fn count_of(received: u64, place: u64, segment: Segment, octets: &[u8]) -> u64
     ensures bound { result < 2 ^ 63 + 2 }
 {
     let flags = segment.flags;
-    if only_asks(received, place, flags, octets) {
+    if segment.reset || only_asks(received, place, flags, octets) {
         return 0;
     }
     u64::from(flags.syn) + octets.len() as u64 + u64::from(flags.fin)
@@ -247,5 +250,6 @@ fn queue(
     let (end, acknowledged) = free(&mut own.waiting, own.end, peer.acknowledged, told)?;
     own.end = end;
     peer.acknowledged = acknowledged;
+    peer.confirmed = peer.confirmed.max(packet.acknowledged.unwrap_or(0));
     Ok(())
 }

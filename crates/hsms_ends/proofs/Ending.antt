@@ -15,7 +15,7 @@ use Rattle.hsms_entity.specs.End.{Accepts}
 use Rattle.hsms_ends.specs.declared.step.Step.{Step}
 use Rattle.hsms_ends.specs.declared.output.Stop.{Stop}
 use Rattle.hsms_ends.specs.declared.output.Stop.TheVariants.{Link, Log, Memory}
-use Rattle.hsms_ends.specs.declared.serving.Served.{Served}
+use Rattle.hsms_ends.specs.declared.serving.ServedScript.{ServedScript}
 use Rattle.hsms_ends.specs.declared.fault.ServeFault.{ServeFault}
 use Rattle.hsms_ends.specs.declared.fault.ServeFault.TheVariants as serve
 use Rattle.hsms_ends.specs.Link.{Told, Heard, Hears}
@@ -33,7 +33,7 @@ closed_by serve.Log end entries log log' h gone = h
 closed_by serve.Turns end entries log log' h gone = h
 closed_by serve.Memory end entries log log' h gone = absurd h
 
-pub holds_then : (result : Result Served ServeFault) (log mid log' : SinkState) (head lines : List ℕ) (rest : List Entry) → LogGrows log mid head → HoldsLines result mid log' lines rest → HoldsLines result log log' (head ++ lines) rest
+pub holds_then : (result : Result ServedScript ServeFault) (log mid log' : SinkState) (head lines : List ℕ) (rest : List Entry) → LogGrows log mid head → HoldsLines result mid log' lines rest → HoldsLines result log log' (head ++ lines) rest
 holds_then (Ok _) log mid log' head lines rest h k = (k.0, log_then log mid log' head lines h k.1)
 holds_then (Err serve.Turns) log mid log' head lines rest h k = (k.0, log_then log mid log' head lines h k.1)
 holds_then (Err serve.Link) log mid log' head lines rest h k = (k.0, log_then log mid log' head lines h k.1)
@@ -107,8 +107,8 @@ module _ {D : Type 0} (answers : D → ℕ → Content → Answered) where
   left_itself serve.Memory end = tt
 
 module _ {D : Type 0} (answers : D → ℕ → Content → Answered) (pause : Option ℕ) where
-  pub end_ok : (served : Served) (limit : ℕ) (new end : EndOf D) (script script' : List Step) (log log' : SinkState) (link link' : Told) (n m : ℕ)
-      → Ran answers pause (Ok tt) limit new end script script' log log' link link' n m → has_gone end ≡ true → served.entries ≡ n → served.refused ≡ m → served.left ≡ length script'
+  pub end_ok : (served : ServedScript) (limit : ℕ) (new end : EndOf D) (script script' : List Step) (log log' : SinkState) (link link' : Told) (n m : ℕ)
+      → Ran answers pause (Ok tt) limit new end script script' log log' link link' n m → has_gone end ≡ true → served.counts.entries ≡ n → served.counts.refused ≡ m → served.left ≡ length script'
       → ServesEnd answers pause new end script limit (Ok served) log log' link link'
   end_ok served limit new end script script' log log' link link' n m r gone entries refused steps = record {
     story = r.story;

@@ -25,7 +25,7 @@ use Rattle.hsms_entity.specs.Turn.{opening_of}
 use Rattle.hsms_entity.specs.Act.{Acts}
 use Rattle.hsms_ends.specs.declared.again.ServedAgain.{ServedAgain}
 use Rattle.hsms_ends.specs.declared.step.Step.{Step}
-use Rattle.hsms_ends.specs.declared.serving.Served.{Served}
+use Rattle.hsms_ends.specs.declared.serving.ServedScript.{ServedScript}
 use Rattle.hsms_ends.specs.declared.fault.ServeFault.{ServeFault}
 use Rattle.hsms_ends.specs.declared.fault.ServeFault.TheVariants as serve
 use Rattle.hsms_ends.specs.Link.{Told, nothing_heard, Hears}
@@ -152,7 +152,7 @@ module _ {D : Type 0} (answers : D → ℕ → Content → Answered) (pause : Op
     logged = (grows_none log.written, refl);
   }
 
-  went : (result : Result Served ServeFault) (moment : ℕ) (complete : Bool) (story : Story) (last end_new : EndOf D) (mid log' : SinkState) (lines : List ℕ) (rest : List Entry)
+  went : (result : Result ServedScript ServeFault) (moment : ℕ) (complete : Bool) (story : Story) (last end_new : EndOf D) (mid log' : SinkState) (lines : List ℕ) (rest : List Entry)
       → moment ≡ end_new.known.view.last_time → Onward (Ok complete) result → IsLeft result last end_new → Answers limit result story → HoldsLines result mid log' lines rest
       → (moment ≡ last.known.view.last_time) × (ends_down (entries_of story) ≡ true) × (rest ≡ []) × LogGrows mid log' lines × (complete ≡ completes result)
   went (Ok served) moment complete story last end_new mid log' lines rest at on left a holds = (at ∙ ap (λ (e : EndOf D). e.known.view.last_time) left, a.1, holds.0, holds.1, on)
@@ -161,14 +161,14 @@ module _ {D : Type 0} (answers : D → ℕ → Content → Answered) (pause : Op
   went (Err serve.Memory) moment complete story last end_new mid log' lines rest at on left a holds = absurd on
   went (Err serve.Log) moment complete story last end_new mid log' lines rest at on left a holds = absurd on
 
-  none_left : (result : Result Served ServeFault) (mid log' : SinkState) (lines : List ℕ) (rest : List Entry) → HoldsLines result mid log' lines rest → is_log_fault result ≡ false → rest ≡ []
+  none_left : (result : Result ServedScript ServeFault) (mid log' : SinkState) (lines : List ℕ) (rest : List Entry) → HoldsLines result mid log' lines rest → is_log_fault result ≡ false → rest ≡ []
   none_left (Ok served) mid log' lines rest holds fine = holds.0
   none_left (Err serve.Link) mid log' lines rest holds fine = holds.0
   none_left (Err serve.Turns) mid log' lines rest holds fine = holds.0
   none_left (Err serve.Memory) mid log' lines rest holds fine = holds.0
   none_left (Err serve.Log) mid log' lines rest holds fine = absurd (let e : true ≡ false = fine in cc)
 
-  stop_holds : (fault : ServeFault) (result : Result Served ServeFault) (end_new : EndOf D) (log mid log' : SinkState) (lines : List ℕ) (rest : List Entry) (cs : List Connection)
+  stop_holds : (fault : ServeFault) (result : Result ServedScript ServeFault) (end_new : EndOf D) (log mid log' : SinkState) (lines : List ℕ) (rest : List Entry) (cs : List Connection)
       → (rest ≡ [] → LogGrows mid log' lines → LogGrows log log' (log_lines (entries_all cs))) → (LogStops mid log' lines rest → LogStopsLast log log' log_lines cs)
       → Onward (Err fault) result → HoldsLines result mid log' lines rest → LinesHeld (Err fault) log log' cs
   stop_holds serve.Log (Err serve.Log) end_new log mid log' lines rest cs grows stops on holds = stops holds
@@ -176,7 +176,7 @@ module _ {D : Type 0} (answers : D → ℕ → Content → Answered) (pause : Op
   stop_holds serve.Memory (Err serve.Memory) end_new log mid log' lines rest cs grows stops on holds = grows holds.0 holds.1
   stop_holds fault result end_new log mid log' lines rest cs grows stops on holds = absurd on
 
-  stop_answers : (fault : ServeFault) (result : Result Served ServeFault) (end_new : EndOf D) (front : List Connection) (c : Connection) → c.result ≡ result → Onward (Err fault) result → AnswersAgain (Err fault) (front ++ c ∷ [])
+  stop_answers : (fault : ServeFault) (result : Result ServedScript ServeFault) (end_new : EndOf D) (front : List Connection) (c : Connection) → c.result ≡ result → Onward (Err fault) result → AnswersAgain (Err fault) (front ++ c ∷ [])
   stop_answers serve.Log (Err serve.Log) end_new front c is on = inr (front, c, refl, is)
   stop_answers serve.Turns (Err serve.Turns) end_new front c is on = (front, c, refl, is)
   stop_answers serve.Memory (Err serve.Memory) end_new front c is on = (front, c, refl, is)

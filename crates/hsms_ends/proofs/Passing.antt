@@ -26,7 +26,7 @@ use Rattle.hsms_entity.specs.EndState.{EndOf, untold, untold_since}
 use Rattle.hsms_entity.specs.Turn.{Told as Input}
 use Rattle.hsms_entity.specs.End.{Accepts}
 use Rattle.hsms_ends.specs.declared.step.Step.{Step}
-use Rattle.hsms_ends.specs.declared.serving.Served.{Served}
+use Rattle.hsms_ends.specs.declared.serving.ServedScript.{ServedScript}
 use Rattle.hsms_ends.specs.declared.fault.ServeFault.{ServeFault}
 use Rattle.hsms_ends.specs.declared.fault.ServeFault.TheVariants as serve
 use Rattle.hsms_ends.specs.Link.{Told}
@@ -130,7 +130,7 @@ module _ {D : Type 0} (answers : D → ℕ → Content → Answered) (pause : Op
       along_story answers pause P (λ before end input entries end' p h. reached_next s before end input entries end' p h)
       (record { desk = desk; known = untold_since s first_system since }) script story last (reached_new desk s first_system since) is
 
-  pub answers_by : (limit : ℕ) (result : Result Served ServeFault) (story : Story) (last : EndOf D) → has_gone last ≡ ends_down (entries_of story) → AnswersEnd limit result story last → Answers limit result story
+  pub answers_by : (limit : ℕ) (result : Result ServedScript ServeFault) (story : Story) (last : EndOf D) → has_gone last ≡ ends_down (entries_of story) → AnswersEnd limit result story last → Answers limit result story
   answers_by limit (Ok served) story last same h = (h.0, sym same ∙ h.1, h.2, h.3)
   answers_by limit (Err serve.Turns) story last same h = (h.0, h.1, sym same ∙ h.2)
   answers_by limit (Err serve.Link) story last same h = (h.0, sym same ∙ h.1)
@@ -147,7 +147,7 @@ module _ {D : Type 0} (answers : D → ℕ → Content → Answered) (pause : Op
   stops_by (Unstarted now) log log' s whole rest parted h = nothing_stops log log' (written_log s whole) whole rest parted h
   stops_by (Started now started turns cut loss) log log' s whole rest parted h = h
 
-  held_by : (result : Result Served ServeFault) (story : Story) (log log' : SinkState) (s : Parameters) (whole rest : List Entry) → entries_of story ≡ whole ++ rest → HoldsLines result log log' (written_log s whole) rest
+  held_by : (result : Result ServedScript ServeFault) (story : Story) (log log' : SinkState) (s : Parameters) (whole rest : List Entry) → entries_of story ≡ whole ++ rest → HoldsLines result log log' (written_log s whole) rest
       → LogHolds result story log log' s whole rest
   held_by (Ok served) story log log' s whole rest parted h = h
   held_by (Err serve.Turns) story log log' s whole rest parted h = h
@@ -156,7 +156,7 @@ module _ {D : Type 0} (answers : D → ℕ → Content → Answered) (pause : Op
   held_by (Err serve.Memory) story log log' s whole rest parted h = h
 
   -- the settings' line was written
-  pub opened : (end_new : EndOf D) (desk : D) (s : Parameters) (first_system : ℕ) (script : List Step) (limit : ℕ) (result : Result Served ServeFault) (log mid log' : SinkState) (link link' : Told)
+  pub opened : (end_new : EndOf D) (desk : D) (s : Parameters) (first_system : ℕ) (script : List Step) (limit : ℕ) (result : Result ServedScript ServeFault) (log mid log' : SinkState) (link link' : Told)
       → IsWithinLimits s → LogGrows log mid (settings_line s ++ 10 ∷ [])
       → ServesEnd answers pause (record { desk = desk; known = untold s first_system }) end_new script limit result mid log' link link'
       → ServesTesting answers pause (record { desk = desk; known = untold s first_system }) script limit result log log' link link'
@@ -216,7 +216,7 @@ module _ {D : Type 0} (answers : D → ℕ → Content → Answered) (pause : Op
   -- ---- the audit passes it
 
   -- the text of all entries was logged
-  grown : (result : Result Served ServeFault) (story : Story) (log log' : SinkState) (s : Parameters) (whole rest : List Entry) → is_log_fault result ≡ false → LogHolds result story log log' s whole rest
+  grown : (result : Result ServedScript ServeFault) (story : Story) (log log' : SinkState) (s : Parameters) (whole rest : List Entry) → is_log_fault result ≡ false → LogHolds result story log log' s whole rest
       → (rest ≡ []) × LogGrows log log' (written_log s whole)
   grown (Ok served) story log log' s whole rest fine h = h
   grown (Err serve.Turns) story log log' s whole rest fine h = h

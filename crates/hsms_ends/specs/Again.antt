@@ -13,7 +13,7 @@ use Rattle.hsms_entity.specs.Answer.{Answered}
 use Rattle.hsms_entity.specs.EndState.{EndOf, untold_since}
 use Rattle.hsms_ends.specs.declared.again.ServedAgain.{ServedAgain}
 use Rattle.hsms_ends.specs.declared.step.Step.{Step}
-use Rattle.hsms_ends.specs.declared.serving.Served.{Served}
+use Rattle.hsms_ends.specs.declared.serving.ServedScript.{ServedScript}
 use Rattle.hsms_ends.specs.declared.fault.ServeFault.{ServeFault}
 use Rattle.hsms_ends.specs.declared.fault.ServeFault.TheVariants as serve
 use Rattle.hsms_ends.specs.Link.{Told, Heard, both, nothing_heard, Hears}
@@ -26,7 +26,7 @@ pub record Connection : Type 0 where
   pub since : ℕ
   pub script : List Step
   pub story : Story
-  pub result : Result Served ServeFault
+  pub result : Result ServedScript ServeFault
   pub failed : Bool
   pub whole : List Entry
   pub rest : List Entry
@@ -80,7 +80,7 @@ abbrev pub EndsBy : ServeFault → List Connection → Type 0
 EndsBy fault cs = (front : List Connection) × (c : Connection) × (cs ≡ front ++ c ∷ []) × (c.result ≡ Err fault)
 
 -- a connection was served to its end, and each step of its script was taken
-abbrev pub completes : Result Served ServeFault → Bool
+abbrev pub completes : Result ServedScript ServeFault → Bool
 completes (Ok served) = is_complete served
 completes (Err fault) = false
 

@@ -9,7 +9,7 @@ use Rattle.hsms_entity.specs.Answer.{Answered}
 use Rattle.hsms_entity.specs.EndState.{EndOf}
 use Rattle.hsms_ends.specs.declared.again.ServedAgain.{ServedAgain}
 use Rattle.hsms_ends.specs.declared.step.Step.{Step}
-use Rattle.hsms_ends.specs.declared.serving.Served.{Served}
+use Rattle.hsms_ends.specs.declared.serving.ServedScript.{ServedScript}
 use Rattle.hsms_ends.specs.declared.fault.ServeFault.{ServeFault}
 use Rattle.hsms_ends.specs.declared.fault.ServeFault.TheVariants as serve
 use Rattle.hsms_ends.specs.Link.{Told}
@@ -23,7 +23,7 @@ abbrev pub script_at : List Step → List Step → ℕ → List Step
 script_at script later done = if done == 0 then script else later
 
 -- what follows the answer for a connection: another one, and whether this one was complete; or a fault
-abbrev pub Onward : Result Bool ServeFault → Result Served ServeFault → Type 0
+abbrev pub Onward : Result Bool ServeFault → Result ServedScript ServeFault → Type 0
 Onward (Ok complete) (Ok served) = complete ≡ is_complete served
 Onward (Ok complete) (Err serve.Link) = complete ≡ false
 Onward (Ok complete) (Err _) = ⊥
@@ -34,7 +34,7 @@ Onward _ _ = ⊥
 
 -- one more connection was served, of a new end
 pub record NextServed {D : Type 0} (answers : D → ℕ → Content → Answered) (pause : Option ℕ) (new end_new : EndOf D) (script : List Step) (limit : ℕ) (outcome : Result Bool ServeFault) (log log' : SinkState) (link link' : Told) : Type 0 where
-  pub result : Result Served ServeFault
+  pub result : Result ServedScript ServeFault
   pub served : ServesEnd answers pause new end_new script limit result log log' link link'
   pub onward : Onward outcome result
 

@@ -17,7 +17,7 @@ use Rattle.hsms_ends.specs.declared.link.Got.{Got}
 use Rattle.hsms_ends.specs.declared.link.Got.TheVariants.{Octets, Quiet, Closed}
 use Rattle.hsms_ends.specs.declared.output.Stop.{Stop}
 use Rattle.hsms_ends.specs.declared.output.Stop.TheVariants.{Link, Log, Memory}
-use Rattle.hsms_ends.specs.declared.serving.Served.{Served}
+use Rattle.hsms_ends.specs.declared.serving.ServedScript.{ServedScript}
 use Rattle.hsms_ends.specs.declared.fault.ServeFault.{ServeFault}
 use Rattle.hsms_ends.specs.declared.fault.ServeFault.TheVariants as serve
 use Rattle.hsms_ends.specs.Link.{Told, Heard, both, Hears, nothing_heard, moment_heard}
@@ -173,7 +173,7 @@ ClosedAs serve.Turns end' loss log log' = ⊥
 ClosedAs serve.Memory end' loss log log' = LogGrows log log' (log_lines (lost_entries loss))
 
 -- the end that there is afterwards is the last one; after the log's fault or want of memory it isn't used
-abbrev pub IsLeft : {D : Type 0} → Result Served ServeFault → EndOf D → EndOf D → Type 0
+abbrev pub IsLeft : {D : Type 0} → Result ServedScript ServeFault → EndOf D → EndOf D → Type 0
 IsLeft (Ok _) last end_new = end_new ≡ last
 IsLeft (Err serve.Link) last end_new = end_new ≡ last
 IsLeft (Err serve.Turns) last end_new = end_new ≡ last
@@ -202,10 +202,11 @@ StoppedAs answers Log fault end end_new log log' = (fault ≡ serve.Log) × (log
 StoppedAs answers Memory fault end end_new log log' = (fault ≡ serve.Memory) × (log' ≡ log)
 
 -- which story and which end an answer tells of
-abbrev pub AnswersEnd : {D : Type 0} → ℕ → Result Served ServeFault → Story → EndOf D → Type 0
+abbrev pub AnswersEnd : {D : Type 0} → ℕ → Result ServedScript ServeFault → Story → EndOf D → Type 0
 AnswersEnd limit (Ok served) story end =
     IsWhole story × (has_gone end ≡ true)
-    × (served.entries ≡ count_after 0 (length (entries_of story))) × (served.refused ≡ count_after 0 (refused_of story))
+    × (served.counts.entries ≡ count_after 0 (length (entries_of story)))
+    × (served.counts.refused ≡ count_after 0 (refused_of story))
 AnswersEnd limit (Err serve.Turns) story end =
     IsWhole story × (length (whole_turns story) ≡ limit) × (has_gone end ≡ false)
 AnswersEnd limit (Err serve.Link) story end = IsStarted story × (has_gone end ≡ true)
@@ -213,7 +214,7 @@ AnswersEnd limit (Err serve.Log) story end = Unit {0}
 AnswersEnd limit (Err serve.Memory) story end = Unit {0}
 
 -- what is in the log: these lines, and no entry is left; or, where the log failed, a part of the next entry's line too
-abbrev pub HoldsLines : Result Served ServeFault → SinkState → SinkState → List ℕ → List Entry → Type 0
+abbrev pub HoldsLines : Result ServedScript ServeFault → SinkState → SinkState → List ℕ → List Entry → Type 0
 HoldsLines (Ok _) old new lines rest = (rest ≡ []) × LogGrows old new lines
 HoldsLines (Err serve.Turns) old new lines rest = (rest ≡ []) × LogGrows old new lines
 HoldsLines (Err serve.Link) old new lines rest = (rest ≡ []) × LogGrows old new lines
@@ -221,7 +222,7 @@ HoldsLines (Err serve.Log) old new lines rest = LogStops old new lines rest
 HoldsLines (Err serve.Memory) old new lines rest = (rest ≡ []) × LogGrows old new lines
 
 -- a new end was served: what `serve` leaves, but for the settings' line
-pub record ServesEnd {D : Type 0} (answers : D → ℕ → Content → Answered) (pause : Option ℕ) (new end_new : EndOf D) (script : List Step) (limit : ℕ) (result : Result Served ServeFault) (log log' : SinkState) (link link' : Told) : Type 0 where
+pub record ServesEnd {D : Type 0} (answers : D → ℕ → Content → Answered) (pause : Option ℕ) (new end_new : EndOf D) (script : List Step) (limit : ℕ) (result : Result ServedScript ServeFault) (log log' : SinkState) (link link' : Told) : Type 0 where
   pub story : Story
   pub last : EndOf D
   pub is_story : IsStory answers pause new script story last

@@ -15,6 +15,7 @@ use Rattle.hsms_entity.specs.Turn.{start, lost}
 use Rattle.hsms_entity.specs.End.{Accepts}
 use Rattle.hsms_ends.specs.declared.step.Step.{Step}
 use Rattle.hsms_ends.specs.declared.serving.Served.{Served}
+use Rattle.hsms_ends.specs.declared.serving.ServedScript.{ServedScript}
 use Rattle.hsms_ends.specs.declared.fault.ServeFault.{ServeFault}
 use Rattle.hsms_ends.specs.declared.fault.ServeFault.TheVariants as serve
 use Rattle.hsms_ends.specs.Link.{Told, Heard, both, Hears, nothing_heard, moment_heard}
@@ -153,10 +154,11 @@ abbrev pub count_after : ℕ → ℕ → ℕ
 count_after count more = min (count + more) (2 ^ 64 - 1)
 
 -- which story an answer tells of
-abbrev pub Answers : ℕ → Result Served ServeFault → Story → Type 0
+abbrev pub Answers : ℕ → Result ServedScript ServeFault → Story → Type 0
 Answers limit (Ok served) story =
     IsWhole story × (ends_down (entries_of story) ≡ true)
-    × (served.entries ≡ count_after 0 (length (entries_of story))) × (served.refused ≡ count_after 0 (refused_of story))
+    × (served.counts.entries ≡ count_after 0 (length (entries_of story)))
+    × (served.counts.refused ≡ count_after 0 (refused_of story))
 Answers limit (Err serve.Turns) story =
     IsWhole story × (length (whole_turns story) ≡ limit) × (ends_down (entries_of story) ≡ false)
 Answers limit (Err serve.Link) story = IsStarted story × (ends_down (entries_of story) ≡ true)
@@ -164,11 +166,11 @@ Answers limit (Err serve.Log) story = Unit {0}
 Answers limit (Err serve.Memory) story = Unit {0}
 
 -- each step of the script was taken, and none was refused
-abbrev pub is_complete : Served → Bool
-is_complete served = (served.refused == 0) && (served.left == 0)
+abbrev pub is_complete : ServedScript → Bool
+is_complete served = (served.counts.refused == 0) && (served.left == 0)
 
 -- how many steps of the script are left, where the connection was served to its end
-abbrev pub LeavesSteps : List Step → Result Served ServeFault → Story → Type 0
+abbrev pub LeavesSteps : List Step → Result ServedScript ServeFault → Story → Type 0
 LeavesSteps script (Ok served) story = served.left + steps_of story ≡ length script
 LeavesSteps script (Err fault) story = Unit {0}
 
@@ -179,7 +181,7 @@ LogStopsIn (Unstarted now) old new s whole rest = ⊥
 LogStopsIn (Started now started turns cut loss) old new s whole rest = LogStops old new (written_log s whole) rest
 
 -- what the log holds: the text of all entries, or after the log's fault a part of it from its front
-abbrev pub LogHolds : Result Served ServeFault → Story → SinkState → SinkState → Parameters → List Entry → List Entry → Type 0
+abbrev pub LogHolds : Result ServedScript ServeFault → Story → SinkState → SinkState → Parameters → List Entry → List Entry → Type 0
 LogHolds (Ok _) story old new s whole rest = (rest ≡ []) × LogGrows old new (written_log s whole)
 LogHolds (Err serve.Turns) story old new s whole rest = (rest ≡ []) × LogGrows old new (written_log s whole)
 LogHolds (Err serve.Link) story old new s whole rest = (rest ≡ []) × LogGrows old new (written_log s whole)
@@ -187,14 +189,14 @@ LogHolds (Err serve.Log) story old new s whole rest = LogStopsIn story old new s
 LogHolds (Err serve.Memory) story old new s whole rest = (rest ≡ []) × LogGrows old new (written_log s whole)
 
 -- whether the link failed, by the answer
-abbrev pub MayHaveFailed : Result Served ServeFault → Bool → Type 0
+abbrev pub MayHaveFailed : Result ServedScript ServeFault → Bool → Type 0
 MayHaveFailed (Ok _) failed = failed ≡ false
 MayHaveFailed (Err serve.Turns) failed = failed ≡ false
 MayHaveFailed (Err serve.Link) failed = failed ≡ true
 MayHaveFailed (Err serve.Log) failed = Unit {0}
 MayHaveFailed (Err serve.Memory) failed = Unit {0}
 
-abbrev pub is_log_fault : Result Served ServeFault → Bool
+abbrev pub is_log_fault : Result ServedScript ServeFault → Bool
 is_log_fault (Ok _) = false
 is_log_fault (Err serve.Turns) = false
 is_log_fault (Err serve.Link) = false
@@ -212,7 +214,7 @@ failures_after false n = n
 
 -- What `serve_testing` did, of a new end and a script, in at most so many turns, with tests of the link after so long a
 -- pause.
-pub record ServesTesting {D : Type 0} (answers : D → ℕ → Content → Answered) (pause : Option ℕ) (new : EndOf D) (script : List Step) (limit : ℕ) (result : Result Served ServeFault) (log log' : SinkState) (link link' : Told) : Type 0 where
+pub record ServesTesting {D : Type 0} (answers : D → ℕ → Content → Answered) (pause : Option ℕ) (new : EndOf D) (script : List Step) (limit : ℕ) (result : Result ServedScript ServeFault) (log log' : SinkState) (link link' : Told) : Type 0 where
   -- the start, the turns and what the end gave for its inputs
   pub story : Story
   pub last : EndOf D
@@ -241,6 +243,12 @@ pub record ServesTesting {D : Type 0} (answers : D → ℕ → Content → Answe
   -- the end is told by `serve` that the connection was lost only after the link failed
   pub lost_is : has_lost story ≡ true → failed ≡ true
 
--- What `serve` did: the same, without tests of the link.
+-- an answer with how many steps of the script are left
+abbrev pub with_left : ℕ → Result Served ServeFault → Result ServedScript ServeFault
+with_left left (Ok served) = Ok (record { counts = served; left = left })
+with_left left (Err fault) = Err fault
+
+-- What `serve` did: the same, without tests of the link. It doesn't answer how many steps are left.
 abbrev pub Serves : {D : Type 0} → (D → ℕ → Content → Answered) → EndOf D → List Step → ℕ → Result Served ServeFault → SinkState → SinkState → Told → Told → Type 0
-Serves answers new script limit result log log' link link' = ServesTesting answers None new script limit result log log' link link'
+Serves answers new script limit result log log' link link' =
+    (left : ℕ) × ServesTesting answers None new script limit (with_left left result) log log' link link'

@@ -35,5 +35,5 @@ pub use hsms_entity::{
 pub use link::{Again, Got, Link};
 pub use scripted::Scripted;
 pub use scripted_desk::ScriptedDesk;
-pub use serving::{Served, serve, serve_testing};
+pub use serving::{Served, ServedScript, serve, serve_testing};
 pub use step::Step;

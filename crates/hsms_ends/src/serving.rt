@@ -26,11 +26,18 @@ pub struct Served {
     pub entries: u64,
     /// How many steps the end refused.
     pub refused: u64,
+}
+
+/// What was served, and how much of the script was left.
+#[derive(Clone, Copy, Debug, PartialEq, Eq)]
+pub struct ServedScript {
+    /// What was served.
+    pub counts: Served,
     /// How many steps of the script were left when the connection went down.
     pub left: usize,
 }
 
-impl Served {
+impl ServedScript {
     ghost use Rattle.std.specs.Prelude.{◌≡◌};
     ghost use Rattle.hsms_ends.specs.Serving.{is_complete};
 
@@ -38,7 +45,7 @@ impl Served {
     pub fn is_complete(&self) -> bool
         ensures { result ≡ is_complete self.now }
     {
-        self.refused == 0 && self.left == 0
+        self.counts.refused == 0 && self.left == 0
     }
 }
 
@@ -77,7 +84,7 @@ pub fn serve<L: Link, W: Sink, D: TurnDesk + Drop>(
     ensures { Serves D.answers_after (record { desk = desk; known = untold settings first_system }) script.now turns result
         (W.state log.old) (W.state log.new) (L.told link.old) (L.told link.new) }
 {
-    serve_testing(
+    let answer = serve_testing(
         alloc,
         link,
         log,
@@ -87,7 +94,11 @@ pub fn serve<L: Link, W: Sink, D: TurnDesk + Drop>(
         script,
         None,
         turns,
-    )
+    );
+    match answer {
+        Ok(served) => Ok(served.counts),
+        Err(fault) => Err(fault),
+    }
 }
 
 /// Serves one connection as [`serve`] does, and tests the link: where no step is due and nothing came and nothing was
@@ -95,7 +106,8 @@ pub fn serve<L: Link, W: Sink, D: TurnDesk + Drop>(
 /// does so while the session is selected, none is open, and fewer than 64 own transactions are (`test_due` of `hsms_entity`);
 /// T6 runs from there. Without a pause it is `serve`.
 ///
-/// It ensures what `serve` does; each test of the link is one of the turns of its story (`MustTest`).
+/// It ensures what `serve` does, and how many steps of the script are left. Each test of the link is one of the turns of
+/// its story (`MustTest`).
 pub fn serve_testing<L: Link, W: Sink, D: TurnDesk + Drop>(
     alloc: Global,
     link: &mut L,
@@ -106,7 +118,7 @@ pub fn serve_testing<L: Link, W: Sink, D: TurnDesk + Drop>(
     script: &[Step],
     pause: Option<u64>,
     turns: u64,
-) -> Result<Served, ServeFault>
+) -> Result<ServedScript, ServeFault>
     ensures { ServesTesting D.answers_after pause (record { desk = desk; known = untold settings first_system }) script.now turns
         result (W.state log.old) (W.state log.new) (L.told link.old) (L.told link.new) }
 {
@@ -127,7 +139,7 @@ pub fn serve_end<L: Link, W: Sink, D: TurnDesk>(
     script: &[Step],
     pause: Option<u64>,
     turns: u64,
-) -> Result<Served, ServeFault>
+) -> Result<ServedScript, ServeFault>
     requires { IsReady end.old }
     ensures { ServesEnd D.answers_after pause end.old end.new script.now turns result (W.state log.old) (W.state log.new)
         (L.told link.old) (L.told link.new) }
@@ -150,9 +162,11 @@ pub fn serve_end<L: Link, W: Sink, D: TurnDesk>(
     ) {
         Ok(()) => {
             if has_gone(end) {
-                Ok(Served {
-                    entries: progress.entries,
-                    refused: progress.refused,
+                Ok(ServedScript {
+                    counts: Served {
+                        entries: progress.entries,
+                        refused: progress.refused,
+                    },
                     left: left_over(script, progress.place),
                 })
             } else {

@@ -161,7 +161,7 @@ pub carried_shown : (max : ℕ) (line shown : List ℕ) (what : Carried) → IsS
 carried_shown max line shown what (inl same) is = let P : List ℕ → Type 0 = λ l. IsCarried max l what in subst P (sym same) is
 carried_shown max line shown (carried.Entry step text) (inr long) is = absurd (long_carries max shown (Some (entry_by step text.now)) long.1 is)
 carried_shown max line shown carried.Nothing (inr long) is = absurd (long_carries max shown None long.1 is)
-carried_shown max line shown carried.Unreadable (inr long) is = λ entry. long_carries max line entry long.0
+carried_shown max line shown (carried.Unreadable reasoned) (inr long) is = λ entry. long_carries max line entry long.0
 
 pub spelled_shown : (line shown : List ℕ) (s : Parameters) → IsShown settings_limit line shown → SpellsSettings shown s → SpellsSettings line s
 spelled_shown line shown s (inl same) is = let P : List ℕ → Type 0 = λ l. SpellsSettings l s in subst P (sym same) is
@@ -233,7 +233,7 @@ goes_on old new mid entries counts before line carried.Nothing facts (none, same
       number_of old new mid entries counts before line carried.Nothing facts number ∙ ap counted (sym size),
       facts.counted_so ∙ so_far,
     )
-goes_on old new mid entries counts before line carried.Unreadable facts some tracks = absurd cc
+goes_on old new mid entries counts before line (carried.Unreadable reasoned) facts some tracks = absurd cc
 
 -- it fails
 fails_so : (old new : Known) (mid : Standing) (entries counts : Summary) (before : List (List ℕ)) (line : List ℕ) (what : Carried) (why : Why)
@@ -244,7 +244,7 @@ fails_so old new mid entries counts before line (carried.Entry step text) (Broke
     let mid_is = mid_has old new mid entries counts line (carried.Entry step text) log placed facts has in
     fails_after old.settings log before line (Broken rule) spelled has.run.run (entry_by step text.now, facts.carries, fails old.settings log placed mid_is)
 fails_so old new mid entries counts before line carried.Nothing why facts (some, same) tracks = absurd cc
-fails_so old new mid entries counts before line carried.Unreadable why facts some (log, placed, spelled, has, number, so_far) =
+fails_so old new mid entries counts before line (carried.Unreadable reasoned) why facts some (log, placed, spelled, has, number, so_far) =
     let is : why ≡ Unreadable = cc some in
     let P : Why → Type 0 = λ w. FailsAfter before line w in
     subst P (sym is) (fails_after old.settings log before line Unreadable spelled has.run.run facts.carries)

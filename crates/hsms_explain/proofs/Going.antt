@@ -76,7 +76,7 @@ goes_so old new mid line carried.Nothing notes log placed carries (same, none) h
     let Q : List Entry → Type 0 = λ p. HasCourse old.settings log p new.course in
     let C : Standing → Type 0 = λ c. HasCourse old.settings log placed c in
     ([], inl (carries, refl), subst L (sym (append-nil log)) (subst Q (sym (append-nil placed)) (subst C (sym same) has)))
-goes_so old new mid line carried.Unreadable notes log placed carries (same, noted) has =
+goes_so old new mid line (carried.Unreadable reasoned) notes log placed carries (same, noted) has =
     let L : List Entry → Type 0 = λ l. HasCourse old.settings l (placed ++ []) new.course in
     let Q : List Entry → Type 0 = λ p. HasCourse old.settings log p new.course in
     let C : Standing → Type 0 = λ c. HasCourse old.settings log placed c in

@@ -1,4 +1,5 @@
 mod Courses
+mod Escapes
 mod Firsts
 mod Following
 mod Going

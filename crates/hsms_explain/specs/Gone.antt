@@ -4,8 +4,10 @@ use Rattle.hsms_machine.specs.declared.entry.Entry.{Entry}
 use Rattle.hsms_machine.specs.Placed.{at_place}
 use Rattle.hsms_machine.specs.Repair.{Steps, Mended, IsRepaired}
 use Rattle.hsms_machine.specs.Settings.{Parameters}
+use Rattle.hsms_log.specs.declared.reasons.Unreadable.{Unreadable as Reasoned}
 use Rattle.hsms_log.specs.declared.verdict.Why.TheVariants.{Unreadable}
 use Rattle.hsms_log.specs.Spelling.{Carries, SpellsSettings}
+use Rattle.hsms_explain.specs.declared.expecting.Expected.TheVariants.{Form}
 use Rattle.hsms_explain.specs.declared.known.Known.{Known}
 use Rattle.hsms_explain.specs.declared.note.Failing.{Failing}
 use Rattle.hsms_explain.specs.declared.note.Note.{Note}
@@ -17,17 +19,17 @@ use Rattle.hsms_explain.specs.Course.{Standing, HasCourse}
 use Rattle.hsms_explain.specs.Row.{Mends}
 use Rattle.hsms_log.specs.Step.{entry_by}
 
--- that a line can't be read is noted
-abbrev pub NotesUnreadable : List Note → List Note → Type 0
-NotesUnreadable before after =
+-- that a line can't be read is noted, and why
+abbrev pub NotesUnreadable : Reasoned → List Note → List Note → Type 0
+NotesUnreadable reasoned before after =
     (failing : Failing) × (failing.why ≡ Unreadable) × (failing.sentence.now ≡ codes "it can't be read")
-    × (after ≡ before ++ Fails failing ∷ [])
+    × (failing.expected ≡ Some (Form reasoned)) × (after ≡ before ++ Fails failing ∷ [])
 
 -- the course goes on with what a line carries, and this is noted of it
 abbrev pub LineMends : Standing → Carried → Standing → List Note → Type 0
 LineMends old (carried.Entry step text) new notes = Mends old (entry_by step text.now) [] new notes
 LineMends old carried.Nothing new notes = (new ≡ old) × (notes ≡ [])
-LineMends old carried.Unreadable new notes = (new ≡ old) × NotesUnreadable [] notes
+LineMends old (carried.Unreadable reasoned) new notes = (new ≡ old) × NotesUnreadable reasoned [] notes
 
 -- The line puts this behind the log: what stands in place of its entry where the log is repaired, and nothing where it
 -- carries no entry or can't be read.

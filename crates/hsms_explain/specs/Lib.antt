@@ -12,6 +12,7 @@ pub mod Page
 pub mod Row
 pub mod Shown
 pub mod Sort
+pub mod Visible
 pub mod Words
 pub mod Written
 pub mod Explain

@@ -43,16 +43,16 @@ FailsBy old entry new (Some (Broken rule)) = ForEachCourse old (λ settings log 
 abbrev pub IsCarried : ℕ → List ℕ → Carried → Type 0
 IsCarried max line (carried.Entry step text) = Carries max line (Some (entry_by step text.now))
 IsCarried max line carried.Nothing = Carries max line None
-IsCarried max line carried.Unreadable = (entry : Option Entry) → Carries max line entry → ⊥
+IsCarried max line (carried.Unreadable reasoned) = (entry : Option Entry) → Carries max line entry → ⊥
 
 -- the counts of the entries, with what a line carries
 abbrev pub with_carried : Summary → Carried → Summary
 with_carried old (carried.Entry step text) = with_entry old (entry_by step text.now)
 with_carried old carried.Nothing = old
-with_carried old carried.Unreadable = old
+with_carried old (carried.Unreadable reasoned) = old
 
 -- a line that carries this fails so, or goes on with the course
 abbrev pub LineFailsBy : Standing → Carried → Standing → Option Why → Type 0
 LineFailsBy old (carried.Entry step text) new why = FailsBy old (entry_by step text.now) new why
 LineFailsBy old carried.Nothing new why = (why ≡ None) × (new ≡ old)
-LineFailsBy old carried.Unreadable new why = why ≡ Some Unreadable
+LineFailsBy old (carried.Unreadable reasoned) new why = why ≡ Some Unreadable

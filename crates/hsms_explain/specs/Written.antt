@@ -11,6 +11,7 @@ use Rattle.hsms_explain.specs.declared.told.Carried.{Carried}
 use Rattle.hsms_explain.specs.declared.told.Carried.TheVariants as carried
 use Rattle.hsms_explain.specs.declared.told.Told.{Told}
 use Rattle.hsms_explain.specs.Page.{padded}
+use Rattle.hsms_explain.specs.Visible.{HasNoControl}
 use Rattle.hsms_explain.specs.Words.{alike_text, closing_text, why_name}
 
 -- ---- below a line
@@ -51,12 +52,16 @@ WhatSaid (what.Frame mark header) text words =
     (line : List ℕ) × LineOf 100 (record { header = header; text = text }) line × (words ≡ mark_text mark ++ line)
 WhatSaid _ text words = Unit {0}
 
+-- a line that carries no entry: no control character is left in it
+abbrev pub PlainSaid : List ℕ → Type 0
+PlainSaid words = (shown : List ℕ) × HasNoControl shown × (words ≡ shown ++ codes "\n")
+
 -- what a line carries: an entry behind its time
 abbrev pub CarriedSaid : Carried → List ℕ → Type 0
 CarriedSaid (carried.Entry step text) words =
     (time : List ℕ) × (happened : List ℕ) × WhatSaid step.what text.now happened × (words ≡ time ++ codes " " ++ happened)
-CarriedSaid carried.Nothing words = Unit {0}
-CarriedSaid carried.Unreadable words = Unit {0}
+CarriedSaid carried.Nothing words = PlainSaid words
+CarriedSaid (carried.Unreadable reasoned) words = PlainSaid words
 
 -- a line, behind its number
 abbrev pub LineSaid : Told → List ℕ → Type 0

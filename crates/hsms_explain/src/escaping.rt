@@ -36,8 +36,13 @@ pub fn lay_words<D: fmt::Display>(page: &mut Page, words: &D) {
     lay_text(page, words.as_bytes());
 }
 
-/// Lays octets of the log as text. What isn't UTF-8 in them is replaced by U+FFFD.
+/// Lays octets of the log as text. What isn't UTF-8 in them is replaced by U+FFFD, as are control characters.
 pub fn lay_octets(page: &mut Page, octets: &[u8]) {
     let text = page.text(octets);
-    lay_text(page, text.as_bytes());
+    for character in text.chars() {
+        match character {
+            '\u{80}'..='\u{9f}' => page.lay(REPLACEMENT),
+            _ => lay_text(page, character.encode_utf8(&mut [0; 4]).as_bytes()),
+        }
+    }
 }

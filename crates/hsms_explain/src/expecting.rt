@@ -4,7 +4,7 @@ use crate::known::Known;
 use crate::past::{Closed, Request, Requests};
 use crate::words::Tie;
 use hsms_frame::{CONTROL_SESSION, Header, Kind, kind};
-use hsms_log::{Step, What};
+use hsms_log::{Step, Unreadable, What};
 use hsms_machine::{EntryRef, Mark, Rule, Settings};
 use secs_item::{ItemFault, measure_text};
 use std::fmt;
@@ -73,6 +73,8 @@ pub enum Expected {
     Selected(Option<u64>),
     /// The session is over since the line.
     Over(u64),
+    /// The line cannot be read.
+    Form(Unreadable),
 }
 
 impl Expected {
@@ -86,7 +88,7 @@ impl Expected {
             | Expected::OnlyOne { line, .. }
             | Expected::Over(line) => Some(line),
             Expected::Selected(line) => line,
-            Expected::Session { .. } | Expected::Text { .. } => None,
+            Expected::Session { .. } | Expected::Text { .. } | Expected::Form(_) => None,
         }
     }
 }
@@ -217,6 +219,7 @@ impl fmt::Display for Expected {
             Expected::Text { fault, at } => write!(f, "{fault} at={at} of its text"),
             Expected::Selected(request) => write_selected(f, request),
             Expected::Over(line) => write!(f, "over since line {line}"),
+            Expected::Form(unreadable) => write!(f, "{unreadable}"),
         }
     }
 }

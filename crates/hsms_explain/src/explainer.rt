@@ -133,7 +133,10 @@ impl Explainer {
     {
         self.report.tell_gap(self.stage.lines());
         match &self.stage {
-            Stage::Unjudged(_) => self.report.tell_unjudged(Unjudged::Unreadable),
+            Stage::Unjudged(lines) => {
+                self.report
+                    .tell_unjudged(Unjudged::without_settings(*lines))
+            }
             Stage::Judged(known) => self.report.tell_end(&known.primaries),
         }
     }

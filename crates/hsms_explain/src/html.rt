@@ -114,7 +114,7 @@ fn class_of(carried: Carried<'_>) -> &'static str {
             What::Cut(_) => "event cut",
             What::Down => "event down",
         },
-        Carried::Nothing | Carried::Unreadable => "plain",
+        Carried::Nothing | Carried::Unreadable(_) => "plain",
     }
 }
 

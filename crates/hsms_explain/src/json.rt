@@ -105,7 +105,7 @@ impl LineObject<'_> {
         send_number(out, "line", self.told.number)?;
         match self.told.carried {
             Carried::Entry(step, text) => self.send_entry(out, step, text),
-            Carried::Nothing | Carried::Unreadable => send_text(out, "text", self.shown),
+            Carried::Nothing | Carried::Unreadable(_) => send_text(out, "text", self.shown),
         }
     }
 
@@ -288,13 +288,39 @@ fn send_failing<S: Serializer>(out: &mut S, failing: &Failing, utc: bool) -> Res
     let members = [
         ("rule", Member::Text(name_of(failing.why))),
         ("sentence", Member::Text(failing.sentence)),
+        ("column", column_of(failing.expected)),
+        ("reason", reason_of(failing.expected)),
         ("concerns", Member::of(failing.concerns)),
-        ("expected", Member::Expected(failing.expected)),
+        ("expected", expected_of(failing.expected)),
         ("expected_line", Member::of(failing.expected_line())),
         ("remedy", Member::Remedy(failing.going_on(utc))),
         ("put", Member::Put(failing.put())),
     ];
     Object(&members).serialize(out)
+}
+
+// The column at which a line cannot be read.
+fn column_of(expected: Option<Expected>) -> Member<'static> {
+    match expected {
+        Some(Expected::Form(unreadable)) => Member::Number(unreadable.column as u64),
+        _ => Member::Nothing,
+    }
+}
+
+// Why a line cannot be read.
+fn reason_of(expected: Option<Expected>) -> Member<'static> {
+    match expected {
+        Some(Expected::Form(unreadable)) => Member::Text(unreadable.reason.words()),
+        _ => Member::Nothing,
+    }
+}
+
+// What was expected: of a line that cannot be read, the form.
+fn expected_of(expected: Option<Expected>) -> Member<'static> {
+    match expected {
+        Some(Expected::Form(unreadable)) => Member::Text(unreadable.form.words()),
+        _ => Member::Expected(expected),
+    }
 }
 
 // Sends a failure that is told by the line of one.

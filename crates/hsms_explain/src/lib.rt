@@ -39,6 +39,7 @@ mod tally;
 mod telling;
 mod text;
 mod told;
+mod visible;
 mod window;
 mod words;
 

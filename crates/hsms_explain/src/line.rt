@@ -9,7 +9,7 @@ use crate::known::Known;
 use crate::report::Report;
 use crate::stage::Stage;
 use crate::told::{Told, carried_by, limit_of};
-use hsms_log::read_settings;
+use hsms_log::{read_settings, unreadable_settings};
 use std::alloc::{AllocError, Global};
 
 /// Tells a line, of which as much is given as is told. `octets` is memory for the octets of its frame, used again from
@@ -83,7 +83,7 @@ fn first_line(alloc: Global, report: &mut Report, line: &[u8]) -> Result<Stage, 
             Ok(Stage::Judged(Known::new(alloc, settings)))
         }
         None => {
-            report.note_unreadable()?;
+            report.note_unreadable(unreadable_settings(line))?;
             report.tell(alloc, Told::plain(1, line), 0)?;
             Ok(Stage::Unjudged(1))
         }

@@ -1,10 +1,11 @@
 //! What is told of a line besides what it says.
 
-ghost use Rattle.std.specs.Prelude.{◌≡◌, ◌≤◌, ◌∷◌, [], List, IfOk, IfSome, OnOk, codes, true};
+ghost use Rattle.std.specs.Prelude.{◌≡◌, ◌≤◌, ◌∷◌, [], List, Some, IfOk, IfSome, OnOk, codes, true};
 ghost use Rattle.std.specs.List.{list_any};
 ghost use Rattle.indexmap.specs.IndexMap.{index_map_len};
-ghost use Rattle.hsms_log.specs.declared.verdict.Why.TheVariants.{Unreadable};
+ghost use Rattle.hsms_log.specs.declared.verdict.Why.TheVariants.{Unreadable as CannotBeRead};
 ghost use Rattle.hsms_explain.specs.Alike.{Fault, HasGroups};
+ghost use Rattle.hsms_explain.specs.declared.expecting.Expected.TheVariants.{Form};
 ghost use Rattle.hsms_explain.specs.Grouped.{AreGrouped, Joins, NoteIsTold, PutsNote, failure_by, faults_with, first_whole, is_whole};
 ghost use Rattle.hsms_explain.specs.Noted.{first_why};
 
@@ -12,7 +13,7 @@ use crate::alike::Groups;
 use crate::expecting::Expected;
 use crate::sort::UNREADABLE_SORT;
 use crate::words::{Alike, Closing, GoingOn, Put};
-use hsms_log::Why;
+use hsms_log::{Unreadable, Why};
 use hsms_machine::Remedy;
 use std::alloc::AllocError;
 
@@ -55,17 +56,18 @@ pub struct Failing {
 }
 
 impl Failing {
-    /// That a line can't be read.
-    pub fn unreadable() -> Failing
-        ensures why { result.why ≡ Unreadable }
+    /// That a line cannot be read, and why.
+    pub fn unreadable(unreadable: Unreadable) -> Failing
+        ensures why { result.why ≡ CannotBeRead }
         ensures sentence { result.sentence.now ≡ codes "it can't be read" }
+        ensures expected { result.expected ≡ Some (Form unreadable) }
     {
         Failing {
             sort: UNREADABLE_SORT,
             why: Why::Unreadable,
             sentence: UNREADABLE,
             concerns: None,
-            expected: None,
+            expected: Some(Expected::Form(unreadable)),
             remedy: None,
         }
     }

@@ -1,7 +1,7 @@
 //! What is told of a log, and what is noted of the line at hand.
 
 ghost use Rattle.std.specs.Prelude.{◌≡◌, [], OnOk, IfOk, Some, None};
-ghost use Rattle.hsms_log.specs.declared.verdict.Why.TheVariants.{Unreadable};
+ghost use Rattle.hsms_log.specs.declared.verdict.Why.TheVariants.{Unreadable as CannotBeRead};
 ghost use Rattle.hsms_options.specs.declared.excerpt.Telling.TheVariants.{Text};
 ghost use Rattle.hsms_explain.specs.Counting.{counts_of};
 ghost use Rattle.hsms_explain.specs.First.{KeepsShown, ShowsWith};
@@ -21,6 +21,7 @@ use crate::tally::Tally;
 use crate::told::{Carried, Told};
 use crate::window::Window;
 use crate::words::Unjudged;
+use hsms_log::Unreadable;
 use hsms_machine::Settings;
 use hsms_options::Excerpt;
 use std::alloc::{AllocError, Global};
@@ -158,20 +159,21 @@ impl Report {
                 judge_entry(alloc, known, step, text, &mut self.notes)
             }
             Carried::Nothing => Ok(()),
-            Carried::Unreadable => self.note_unreadable(),
+            Carried::Unreadable(unreadable) => self.note_unreadable(unreadable),
         }
     }
 
-    /// Notes that a line can't be read.
-    pub fn note_unreadable(&mut self) -> Result<(), AllocError>
-        ensures notes { OnOk result (first_why self.new.notes.items ≡ either (first_why self.old.notes.items) (Some Unreadable)) }
-        ensures adds { OnOk result (NotesUnreadable self.old.notes.items self.new.notes.items) }
+    /// Notes that a line cannot be read, and why.
+    pub fn note_unreadable(&mut self, unreadable: Unreadable) -> Result<(), AllocError>
+        ensures notes { OnOk result (first_why self.new.notes.items ≡ either (first_why self.old.notes.items) (Some CannotBeRead)) }
+        ensures adds { OnOk result (NotesUnreadable unreadable self.old.notes.items self.new.notes.items) }
         ensures tally { self.new.tally ≡ self.old.tally }
         ensures groups { self.new.groups ≡ self.old.groups }
         ensures window { self.new.window ≡ self.old.window }
         ensures page { self.new.page ≡ self.old.page }
     {
-        self.notes.push(Note::Fails(Failing::unreadable()))?;
+        self.notes
+            .push(Note::Fails(Failing::unreadable(unreadable)))?;
         Ok(())
     }
 }

@@ -3,12 +3,13 @@
 ghost use Rattle.std.specs.Prelude.{◌≡◌, ◌++◌, ℕ, List, IfSome, codes};
 ghost use Rattle.hsms_explain.specs.Page.{Adds, AddsSome};
 ghost use Rattle.hsms_explain.specs.Words.{why_name};
-ghost use Rattle.hsms_explain.specs.Written.{CarriedSaid, LineTold, NoteTold, WhatSaid, below, gap_text, mark_text, rule_words};
+ghost use Rattle.hsms_explain.specs.Written.{CarriedSaid, LineTold, NoteTold, PlainSaid, WhatSaid, below, gap_text, mark_text, rule_words};
 
 use crate::moment::Moment;
 use crate::note::{Failing, Note};
 use crate::page::Page;
 use crate::told::{Carried, Told};
+use crate::visible::lay_visible;
 use crate::words::{Concern, name_of};
 use hsms_log::{What, split_at_first};
 use hsms_machine::{GREATEST_DEPTH, Mark};
@@ -59,7 +60,8 @@ fn write_carried(page: &mut Page, told: Told<'_, '_>, utc: bool)
             page.lay(b" ");
             write_what(page, told, step.what, text);
         }
-        Carried::Nothing | Carried::Unreadable => write_plain(page, told, utc),
+        Carried::Nothing => write_plain(page, told, utc),
+        Carried::Unreadable(_) => write_plain(page, told, utc),
     }
 }
 
@@ -118,12 +120,12 @@ pub fn behind_time(line: &[u8]) -> &[u8] {
     }
 }
 
-// Writes a line as it is, where other lines have their entries.
+// Writes a line where other lines have their entries: as it is, but for control characters, which are escaped.
 fn write_plain(page: &mut Page, told: Told<'_, '_>, utc: bool)
-    ensures { AddsSome page.old page.new }
+    ensures { (words : List ℕ) × PlainSaid words × Adds page.old page.new words }
 {
     page.lay_blanks(1 + if utc { DATE } else { TIME });
-    page.lay(told.shown());
+    lay_visible(page, told.shown());
     page.lay(b"\n");
 }
 

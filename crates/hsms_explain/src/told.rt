@@ -6,7 +6,7 @@ ghost use Rattle.hsms_explain.specs.Noted.{IsCarried};
 ghost use Rattle.hsms_log.specs.Carried.{SpellsNoFrame};
 
 use hsms_frame::HEADER_LENGTH;
-use hsms_log::{Step, is_blank, read_frame_line, read_plain_line};
+use hsms_log::{Step, Unreadable, is_blank, read_frame_line, read_plain_line, unreadable_entry};
 use std::alloc::AllocError;
 
 /// How many octets the line of the settings has at most, without its end.
@@ -49,8 +49,8 @@ pub enum Carried<'a> {
     Entry(Step, &'a [u8]),
     /// No entry: it is the line of the settings, a comment or empty.
     Nothing,
-    /// It can't be read.
-    Unreadable,
+    /// It cannot be read, for this reason.
+    Unreadable(Unreadable),
 }
 
 /// The greatest length of a line that isn't the first, without its end.
@@ -70,27 +70,28 @@ pub fn carried_by<'a>(
     ensures { IfOk result (IsCarried max line.now) }
 {
     if line.len() > limit_of(max) {
-        return Ok(Carried::Unreadable);
+        return Ok(Carried::Unreadable(unreadable_entry(line, max)));
     }
     match read_frame_line(line, octets)? {
         Some(step) => {
             let (_, text) = octets.split_at(HEADER_LENGTH);
             Ok(Carried::Entry(step, text))
         }
-        None => Ok(carried_besides(line)),
+        None => Ok(carried_besides(line, max)),
     }
 }
 
 // The same of a line in which no frame was found.
-fn carried_besides(line: &[u8]) -> Carried<'static>
-    requires { SpellsNoFrame line.now }
-    ensures { (max : ℕ) → length line.now ≤ line_limit max → IsCarried max line.now result }
+fn carried_besides(line: &[u8], max: u32) -> Carried<'static>
+    requires frame { SpellsNoFrame line.now }
+    requires limit { length line.now ≤ line_limit max }
+    ensures { IsCarried max line.now result }
 {
     if is_blank(line) {
         return Carried::Nothing;
     }
     match read_plain_line(line) {
         Some(step) => Carried::Entry(step, &[]),
-        None => Carried::Unreadable,
+        None => Carried::Unreadable(unreadable_entry(line, max)),
     }
 }

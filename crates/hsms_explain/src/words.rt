@@ -135,6 +135,8 @@ pub struct Gap {
 /// Why nothing of a log was judged.
 #[derive(Clone, Copy)]
 pub enum Unjudged {
+    /// It has no line.
+    Empty,
     /// Its first line can't be read.
     Unreadable,
     /// It has no entry.
@@ -142,9 +144,19 @@ pub enum Unjudged {
 }
 
 impl Unjudged {
+    /// Returns why nothing was judged of a log of so many lines, without settings.
+    pub fn without_settings(lines: u64) -> Unjudged {
+        if lines == 0 {
+            Unjudged::Empty
+        } else {
+            Unjudged::Unreadable
+        }
+    }
+
     /// The same in words.
     pub fn words(self) -> &'static str {
         match self {
+            Unjudged::Empty => "nothing was judged: the log is empty",
             Unjudged::Unreadable => "nothing was judged: line 1 can't be read",
             Unjudged::NoEntry => "nothing was judged: the log has no entry",
         }

@@ -1,5 +1,6 @@
 pub mod Rows
 pub mod Unique
+pub mod Unbroken
 pub mod Staying
 pub mod Found
 pub mod Messages

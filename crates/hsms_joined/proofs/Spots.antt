@@ -1,5 +1,5 @@
 -- The place at which pieces begin.
-use Rattle.std.proofs.Common.{◌≡◌, ℕ, List, Option, map, ap, ◌∙◌, subst}
+use Rattle.std.proofs.Common.{◌≡◌, ◌-◌, ℕ, List, Option, map, ap, ◌∙◌, subst}
 use Rattle.std.specs.Prelude.{Result, Ok, Err, IfOk}
 use Rattle.hsms_capture.specs.Held.{IsStoreOf, Store}
 use Rattle.hsms_capture.specs.Known.{end_at}
@@ -9,7 +9,7 @@ use Rattle.hsms_joined.specs.declared.gathered.Gathered.{Gathered}
 use Rattle.hsms_joined.specs.declared.piece.Piece.{Piece}
 use Rattle.hsms_joined.specs.declared.session.Session.{Session}
 use Rattle.hsms_joined.specs.declared.spot.Spot.{Spot}
-use Rattle.hsms_joined.specs.Gathered.{BeginsWith, FindsIn, IsSpotOf, first_number, highest, lowest, midst, number_at, octet_at, pieces_from, placed_by}
+use Rattle.hsms_joined.specs.Gathered.{BeginsWith, FindsIn, IsSpotOf, first_number, highest, lowest, midst, number_at, octet_at, pieces_from, placed_by, unbroken, unbroken_from}
 
 at_limits : (s : Session) (at : ℕ → Option ℕ) (from upto low high : ℕ) (spot : Spot) → from ≡ low → upto ≡ high → FindsIn s at from upto spot → FindsIn s at low high spot
 at_limits s at from upto low high spot first last finds =
@@ -17,15 +17,18 @@ at_limits s at from upto low high spot first last finds =
     let Q : ℕ → Type 0 = λ n. FindsIn s at n high spot in
     subst Q first (subst P last finds)
 
-pub spots : {E : Type 0} (s : Session) (xs : List Piece) (from upto : ℕ) (held : Store) (result : Result Spot E)
-    → ((side : Side) → from ≡ lowest midst (map (placed_by side) xs)) → ((side : Side) → upto ≡ highest midst (map (placed_by side) xs))
+pub spots : {E : Type 0} (s : Session) (xs : List Piece) (low from upto : ℕ) (held : Store) (result : Result Spot E)
+    → ((ps : List Placed) (d : End) → IsStoreOf held ps d → from ≡ unbroken (midst - low) (octet_at ps d) midst)
+    → ((side : Side) → low ≡ lowest midst (map (placed_by side) xs)) → ((side : Side) → upto ≡ highest midst (map (placed_by side) xs))
     → ((side : Side) → IsStoreOf held (map (placed_by side) xs) (end_at side))
     → IfOk result (λ spot. (ps : List Placed) (d : End) → IsStoreOf held ps d → FindsIn s (octet_at ps d) from upto spot)
     → IfOk result (λ spot. (side : Side) → IsSpotOf s (end_at side) (map (placed_by side) xs) spot)
-spots s xs from upto held (Ok spot) first last holds finds = λ side.
-    at_limits s (octet_at (map (placed_by side) xs) (end_at side)) from upto (lowest midst (map (placed_by side) xs)) (highest midst (map (placed_by side) xs)) spot
-    (first side) (last side) (finds (map (placed_by side) xs) (end_at side) (holds side))
-spots s xs from upto held (Err fault) first last holds finds = finds
+spots s xs low from upto held (Ok spot) first lower last holds finds = λ side.
+    let ps = map (placed_by side) xs in
+    let d = end_at side in
+    at_limits s (octet_at ps d) from upto (unbroken_from d ps) (highest midst ps) spot
+    (first ps d (holds side) ∙ ap (λ (n : ℕ). unbroken (midst - n) (octet_at ps d) midst) (lower side)) (last side) (finds ps d (holds side))
+spots s xs low from upto held (Err fault) first lower last holds finds = finds
 
 pub begun : (s : Session) (side : Side) (gs : List Gathered) (xs items : List Piece) (first number : ℕ) (spot : Spot) → xs ≡ items
     → map (placed_by side) items ≡ pieces_from side first 0 gs → first ≡ first_number side gs → number ≡ number_at first spot.place

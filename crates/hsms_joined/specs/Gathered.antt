@@ -1,18 +1,20 @@
 -- Where the directions of a session begin in the packets that were captured of it, of which none has a SYN.
-use Rattle.std.specs.Prelude.{◌≡◌, ◌≤◌, ◌<◌, ◌+◌, ◌-◌, ◌%◌, ◌^◌, ◌&&◌, ◌⊎◌, ◌++◌, ℕ, zero, suc, Bool, true, false, not, max, min, nat_le, nat_lt, if◌then◌else◌, List, [], ◌∷◌, length, Option, Some, None}
+use Rattle.std.specs.Prelude.{◌≡◌, ◌≤◌, ◌<◌, ◌+◌, ◌-◌, ◌%◌, ◌^◌, ◌&&◌, ◌⊎◌, ◌++◌, ℕ, zero, suc, Bool, true, false, not, max, min, nat_le, nat_lt, if◌then◌else◌, List, [], ◌∷◌, length, Option, Some, None, is_some}
+use Rattle.std.specs.Option.{unwrap_or}
 use Rattle.hsms_capture.specs.declared.held.Cell.{Cell as HeldCell}
 use Rattle.hsms_capture.specs.declared.held.Cell.TheVariants as held
 use Rattle.hsms_capture.specs.declared.packet.Side.{Side}
 use Rattle.hsms_capture.specs.declared.packet.Side.TheVariants.{Active, Passive}
 use Rattle.hsms_capture.specs.Known.{end_at}
 use Rattle.hsms_capture.specs.Message.{cells_of}
-use Rattle.hsms_capture.specs.Wire.{End, Cell, syn, octet, fin, Placed, asks_only, cell_at}
+use Rattle.hsms_capture.specs.Wire.{End, Cell, syn, octet, fin, Placed, asks_only, cell_at, or_else}
 use Rattle.hsms_joined.specs.declared.gathered.Gathered.{Gathered}
 use Rattle.hsms_joined.specs.declared.gathered.Begun.{Begun}
 use Rattle.hsms_joined.specs.declared.piece.Piece.{Piece}
 use Rattle.hsms_joined.specs.declared.session.Session.{Session}
 use Rattle.hsms_joined.specs.declared.spot.Spot.{Spot}
 use Rattle.hsms_joined.specs.Beginning.{IsSureBy, NoneStands, SomeStands}
+use Rattle.hsms_joined.specs.Numbers.{from_by}
 
 -- ---- the octets of a direction, by their places
 
@@ -22,18 +24,29 @@ is_same Active Passive = false
 is_same Passive Active = false
 is_same Passive Passive = true
 
--- what a packet tells of a direction: the number of its own first octet, or what it acknowledges
-abbrev pub number_told : Side → Gathered → Option ℕ
-number_told side g = if is_same g.segment.from side then Some g.segment.number else g.segment.acknowledged
+-- the number of the first packet of a direction, and the first one that the other direction acknowledges
+abbrev pub own_of : Side → Gathered → Option ℕ
+own_of side g = if is_same g.segment.from side then Some g.segment.number else None
 
-abbrev pub number_or : Option ℕ → ℕ → ℕ
-number_or (Some number) _ = number
-number_or None other = other
+abbrev pub own_number : Side → List Gathered → Option ℕ
+own_number side [] = None
+own_number side (g ∷ gs) = or_else (own_of side g) (own_number side gs)
 
--- the first number that is known of a direction
+abbrev pub acknowledged_of : Side → Gathered → Option ℕ
+acknowledged_of side g = if is_same g.segment.from side then None else g.segment.acknowledged
+
+abbrev pub acknowledged_number : Side → List Gathered → Option ℕ
+acknowledged_number side [] = None
+acknowledged_number side (g ∷ gs) = or_else (acknowledged_of side g) (acknowledged_number side gs)
+
+abbrev pub later_of : Option ℕ → Option ℕ → ℕ
+later_of None other = unwrap_or other 0
+later_of (Some own) None = own
+later_of (Some own) (Some number) = if from_by own number then number else own
+
+-- the first number that is known of a direction: the later one of these
 abbrev pub first_number : Side → List Gathered → ℕ
-first_number side [] = 0
-first_number side (g ∷ gs) = number_or (number_told side g) (first_number side gs)
+first_number side gs = later_of (own_number side gs) (acknowledged_number side gs)
 
 -- the place of the first number that is known
 abbrev pub midst : ℕ
@@ -66,12 +79,13 @@ placed_of side None = []
 placed_of side (Some piece) = placed_by side piece ∷ []
 
 -- They count where they are some, end at most 2^25 places from the first number that is known, and don't only ask
--- whether the other end is there still.
+-- whether the other end is there still. Those of a RST are none.
 abbrev pub counts : ℕ → ℕ → Gathered → Bool
 counts acknowledged place g =
-    nat_lt 0 (length g.octets.items)
+    not g.segment.reset
+    && (nat_lt 0 (length g.octets.items)
     && (nat_le (place + length g.octets.items) (2 ^ 26)
-    && not (asks_only acknowledged place g.segment.flags.pushed (cells_of false g.octets.items false)))
+    && not (asks_only acknowledged place g.segment.flags.pushed (cells_of false g.octets.items false))))
 
 abbrev pub piece_at : Side → ℕ → ℕ → Gathered → List Placed
 piece_at side acknowledged place g =
@@ -133,6 +147,15 @@ unfoldable pub highest : ℕ → List Placed → ℕ
 highest high [] = high
 highest high (p ∷ ps) = highest (max high (p.place + length p.cells)) ps
 
+-- the first of so many places before another one from which on none is missing
+unfoldable pub unbroken : ℕ → (ℕ → Option ℕ) → ℕ → ℕ
+unbroken zero at n = n
+unbroken (suc k) at n = if is_some (at (n - 1)) then unbroken k at (n - 1) else n
+
+-- Octets that are missing before the first number that is known were sent before the capture, and so were those before them.
+abbrev pub unbroken_from : End → List Placed → ℕ
+unbroken_from d ps = unbroken (midst - lowest midst ps) (octet_at ps d) midst
+
 abbrev pub octets_upto : ℕ → (ℕ → Option ℕ) → ℕ → List ℕ
 octets_upto upto at n = octets_in (upto - n) at n
 
@@ -150,7 +173,7 @@ pub record BeginsBy (s : Session) (octets : ℕ → List ℕ) (from upto place :
   pub here : (place ≡ upto) ⊎ SomeStands s (octets place)
 
 abbrev pub BeginsIn : Session → End → List Placed → ℕ → Type 0
-BeginsIn s d ps place = BeginsBy s (octets_from d ps) (lowest midst ps) (highest midst ps) place
+BeginsIn s d ps place = BeginsBy s (octets_from d ps) (unbroken_from d ps) (highest midst ps) place
 
 -- the place is where they begin, and it is told whether that is sure
 abbrev pub FindsIn : Session → (ℕ → Option ℕ) → ℕ → ℕ → Spot → Type 0
@@ -158,7 +181,7 @@ FindsIn s at from upto spot =
     BeginsBy s (octets_upto upto at) from upto spot.place × IsSureBy s (octets_upto upto at spot.place) spot.is_sure
 
 abbrev pub IsSpotOf : Session → End → List Placed → Spot → Type 0
-IsSpotOf s d ps spot = FindsIn s (octet_at ps d) (lowest midst ps) (highest midst ps) spot
+IsSpotOf s d ps spot = FindsIn s (octet_at ps d) (unbroken_from d ps) (highest midst ps) spot
 
 -- a direction begins at this number, as far as these packets tell, and surely or not
 abbrev pub BeginsWith : Session → Side → List Gathered → Begun → Type 0

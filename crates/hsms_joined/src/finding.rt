@@ -5,12 +5,12 @@ ghost use Rattle.hsms_capture.specs.Held.{IsStoreOf};
 ghost use Rattle.hsms_capture.specs.Known.{end_at};
 ghost use Rattle.hsms_capture.specs.Wire.{End, Placed};
 ghost use Rattle.hsms_capture.specs.declared.packet.Side.{Side as Direction};
-ghost use Rattle.hsms_joined.specs.Gathered.{BeginsWith, FindsIn, IsSpotOf, held_octet, octet_at, octets_upto, placed_by};
+ghost use Rattle.hsms_joined.specs.Gathered.{BeginsWith, FindsIn, IsSpotOf, held_octet, midst, octet_at, octets_upto, placed_by, unbroken};
 
 use crate::beginning::{begins_at_end, is_sure};
 use crate::gathered::{Begun, Gathered};
 use crate::piece::Piece;
-use crate::pieces::{first_number, highest, lowest, number_at, pieces_of};
+use crate::pieces::{MIDST, first_number, highest, lowest, number_at, pieces_of};
 use crate::session::Session;
 use crate::spot::Spot;
 use hsms_capture::{Cell, Flags, Held, Side};
@@ -40,10 +40,30 @@ fn spot_of(alloc: Global, session: Session, pieces: &[Piece]) -> Result<Spot, Al
     requires { session.depth ≤ 100 }
     ensures { IfOk result (λ spot. (side : Direction) → IsSpotOf session (end_at side) (map (placed_by side) pieces.now) spot) }
 {
-    let from = lowest(pieces);
+    let low = lowest(pieces);
     let upto = highest(pieces);
-    let held = held_of(alloc, from, pieces)?;
+    let held = held_of(alloc, low, pieces)?;
+    let from = unbroken(&held, low);
     find(alloc, session, &held, from, upto)
+}
+
+// The first place, from one on, from which on no octet is missing before the first number that is known.
+#[tactic(auto, using(crate::proofs::Unbroken::unbroken_begins))]
+fn unbroken(held: &Held, low: u64) -> u64
+    requires low { low ≤ midst }
+    requires held { held.now.place ≤ low }
+    ensures value { (ps : List Placed) (d : End) → IsStoreOf held.now ps d → result ≡ unbroken (midst - low) (octet_at ps d) midst }
+    ensures least { low ≤ result }
+    ensures most { result ≤ midst }
+{
+    let mut place = u64::from(MIDST);
+    while place > low {
+        let Some(_) = octet_in(held.cell(place - 1)) else {
+            return place;
+        };
+        place -= 1;
+    }
+    place
 }
 
 // The octets by their places.

@@ -2,9 +2,10 @@
 
 ghost use Rattle.std.specs.Prelude.{◌≡◌, ◌≤◌, IfOk, map};
 ghost use Rattle.hsms_capture.specs.declared.packet.Side.{Side as Direction};
-ghost use Rattle.hsms_joined.specs.Gathered.{acknowledged_after, counts, first_number, highest, is_same, lowest, midst, number_at, number_told, piece_of, pieces_from, place_by, placed_by, placed_of};
+ghost use Rattle.hsms_joined.specs.Gathered.{acknowledged_after, counts, acknowledged_number, acknowledged_of, first_number, highest, is_same, later_of, lowest, midst, number_at, own_number, own_of, piece_of, pieces_from, place_by, placed_by, placed_of};
 
 use crate::gathered::Gathered;
+use crate::numbers::is_from;
 use crate::piece::Piece;
 use hsms_capture::{Flags, Side, only_asks};
 use std::alloc::{AllocError, Global};
@@ -19,25 +20,72 @@ const END: u64 = 1 << 26;
 pub(crate) fn first_number(packets: &[Gathered], side: Side) -> u32
     ensures { result ≡ first_number side packets.now }
 {
+    let own = own_number(packets, side);
+    let acknowledged = acknowledged_number(packets, side);
+    later_of(own, acknowledged)
+}
+
+// The number of the first packet of a direction.
+fn own_number(packets: &[Gathered], side: Side) -> Option<u32>
+    ensures { result ≡ own_number side packets.now }
+{
     let mut rest = packets;
     while let Some((packet, others)) = rest.split_first() {
-        if let Some(number) = number_told(packet, side) {
-            return number;
+        if let Some(number) = own_of(packet, side) {
+            return Some(number);
         }
         rest = others;
     }
-    0
+    None
 }
 
-// What a packet tells of a direction.
-fn number_told(packet: &Gathered, side: Side) -> Option<u32>
-    ensures { result ≡ number_told side packet.now }
+// The number of a packet, if it is of a direction.
+fn own_of(packet: &Gathered, side: Side) -> Option<u32>
+    ensures { result ≡ own_of side packet.now }
 {
     if packet.segment.from == side {
         Some(packet.segment.number)
     } else {
+        None
+    }
+}
+
+// The first number that the other direction acknowledges.
+fn acknowledged_number(packets: &[Gathered], side: Side) -> Option<u32>
+    ensures { result ≡ acknowledged_number side packets.now }
+{
+    let mut rest = packets;
+    while let Some((packet, others)) = rest.split_first() {
+        if let Some(number) = acknowledged_of(packet, side) {
+            return Some(number);
+        }
+        rest = others;
+    }
+    None
+}
+
+// What a packet acknowledges of a direction.
+fn acknowledged_of(packet: &Gathered, side: Side) -> Option<u32>
+    ensures { result ≡ acknowledged_of side packet.now }
+{
+    if packet.segment.from == side {
+        None
+    } else {
         packet.segment.acknowledged
     }
+}
+
+// The later one of two numbers, as far as they are known.
+fn later_of(own: Option<u32>, acknowledged: Option<u32>) -> u32
+    ensures { result ≡ later_of own acknowledged }
+{
+    let Some(own) = own else {
+        return acknowledged.unwrap_or(0);
+    };
+    let Some(number) = acknowledged else {
+        return own;
+    };
+    if is_from(own, number) { number } else { own }
 }
 
 // The place of a number.
@@ -105,7 +153,7 @@ fn counts(packet: &Gathered, place: u32, acknowledged: u32) -> bool
     ensures { result ≡ counts acknowledged place packet.now }
 {
     let octets = packet.octets.as_slice();
-    if octets.is_empty() {
+    if packet.segment.reset || octets.is_empty() {
         return false;
     }
     if octets.len() as u64 > END.saturating_sub(u64::from(place)) {

@@ -6,6 +6,7 @@ pub mod VersionOne
 pub mod Judging
 pub mod LineReader
 pub mod Reading
+pub mod Reasons
 pub mod Carried
 pub mod FrameLine
 pub mod Step

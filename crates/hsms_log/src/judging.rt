@@ -10,7 +10,7 @@ use hsms_machine::{Entry, Event, Settings, Tracker};
 use std::alloc::{AllocError, Global};
 
 /// How many octets the line of the settings has at most, without its end.
-const SETTINGS_LIMIT: usize = 256;
+pub const SETTINGS_LIMIT: usize = 256;
 
 /// The settings of a log, and the judge of its entries.
 #[derive(Drop)]

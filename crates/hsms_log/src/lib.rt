@@ -21,6 +21,7 @@
 
 mod auditing;
 mod auditor;
+mod diagnosis;
 mod digits;
 mod entry_line;
 mod fault;
@@ -32,6 +33,7 @@ mod line_reader;
 mod number;
 mod range;
 mod reading;
+mod reasons;
 mod settings_line;
 mod step;
 mod tally;
@@ -40,11 +42,13 @@ mod writing;
 
 pub use auditing::{audit, audit_within};
 pub use auditor::Auditor;
+pub use diagnosis::{unreadable_entry, unreadable_settings};
 pub use fault::{AuditFault, LineFault, LogFault};
 pub use hexadecimal::{digits_of_few, digits_of_sixteen};
 pub use line::{split_at_first, without_carriage_return};
 pub use line_reader::judge;
 pub use reading::{Line, is_blank, read_frame_line, read_line, read_plain_line};
+pub use reasons::{Form, Reason, Unreadable};
 pub use settings_line::read_settings;
 pub use step::{Step, What};
 pub use verdict::{Summary, Verdict, Why};

@@ -238,7 +238,7 @@ fn read_word(text: &[u8]) -> Option<What>
 
 /// Reads why a connection was cut.
 #[inline(always)]
-fn read_cause(word: &[u8]) -> Option<Cause>
+pub fn read_cause(word: &[u8]) -> Option<Cause>
     ensures found { IfSome result (λ cause. word.now ≡ cause_word cause) }
     ensures none { IfNone result ((cause : CutCause) → word.now ≢ cause_word cause) }
 {
@@ -252,7 +252,7 @@ fn read_cause(word: &[u8]) -> Option<Cause>
 }
 
 /// Reads system bytes from eight hexadecimal digits.
-fn read_system(digits: &[u8]) -> Option<u32>
+pub fn read_system(digits: &[u8]) -> Option<u32>
     ensures found { IfSome result (λ system. IsHexOf digits.now (system_octets system)) }
     ensures none { IfNone result ((system : ℕ) → system < 2 ^ 32 → IsHexOf digits.now (system_octets system) → ⊥) }
 {

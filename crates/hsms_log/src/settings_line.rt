@@ -71,7 +71,7 @@ fn end_at(text: &[u8]) -> Option<(Role, Side, u16, &[u8])>
 }
 
 #[tactic(auto, unfolding(crate::specs::Reading::role_of))]
-fn read_role(word: &[u8]) -> Option<Role>
+pub fn read_role(word: &[u8]) -> Option<Role>
     ensures { result ≡ role_of word.now }
 {
     if word == b"host".as_slice() {
@@ -84,7 +84,7 @@ fn read_role(word: &[u8]) -> Option<Role>
 }
 
 #[tactic(auto, unfolding(crate::specs::Reading::link_of))]
-fn read_link(word: &[u8]) -> Option<Side>
+pub fn read_link(word: &[u8]) -> Option<Side>
     ensures { result ≡ link_of word.now }
 {
     if word == b"active".as_slice() {

@@ -35,6 +35,7 @@ mod tracker;
 mod view;
 
 pub use entry::{Cause, Entry, EntryRef, Event, Mark};
+pub use message::{Message, concludes};
 pub use open::earlier;
 pub use phase::Phase;
 pub use places::Places;

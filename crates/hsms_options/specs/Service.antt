@@ -1,5 +1,5 @@
 -- What the options of `hsms serve` are, and what they ask for.
-use Rattle.std.specs.Prelude.{◌≡◌, ◌++◌, ℕ, List, [], ◌∷◌, codes, Some, None, unwrap_or}
+use Rattle.std.specs.Prelude.{◌≡◌, ◌++◌, ◌||◌, ℕ, Bool, true, List, [], ◌∷◌, codes, Some, None, is_some, unwrap_or}
 use Rattle.clap.specs.Words.{Row, Rule, Text, first_of}
 use Rattle.hsms_machine.specs.declared.settings.Role.{Role}
 use Rattle.hsms_machine.specs.declared.settings.Role.TheVariants.{Host, Equipment}
@@ -8,7 +8,7 @@ use Rattle.hsms_machine.specs.declared.settings.Side.TheVariants.{Active, Passiv
 use Rattle.hsms_machine.specs.Settings.{Parameters}
 use Rattle.hsms_options.specs.declared.service.Repeat.{Repeat}
 use Rattle.hsms_options.specs.declared.service.Service.{Service}
-use Rattle.hsms_options.specs.Number.{IsFlag, Number, depth_number, device_number, flag_option, max_number, needed_option, number_in, option_of, text_option}
+use Rattle.hsms_options.specs.Number.{IsFlag, Number, depth_number, device_number, flag_in, flag_option, max_number, needed_option, number_in, option_of, text_option}
 
 -- ---- the options
 
@@ -107,11 +107,17 @@ HasSettings rows s =
     × (first_of (codes "role") rows ≡ Some (role_word s.role)) × (first_of (codes "link") rows ≡ Some (side_word s.link))
     × HasNumbers rows s
 
--- the matches say so of connections one after the other
+-- the matches say something of further connections: that they have no script, how many there are, or after which time
+abbrev pub limits_repeat : List Row → Bool
+limits_repeat rows =
+    flag_in (codes "once") rows || (is_some (first_of (codes "connections") rows) || is_some (first_of (codes "t5") rows))
+
+-- the matches say so of connections one after the other, and something of further ones only where there are some
 abbrev pub HasRepeat : List Row → Repeat → Type 0
 HasRepeat rows repeat =
     IsFlag (codes "again") rows repeat.again × IsFlag (codes "once") rows repeat.once
     × (number_in connections_number rows ≡ Some repeat.connections) × (number_in t5_number rows ≡ Some repeat.t5)
+    × (limits_repeat rows ≡ true → repeat.again ≡ true)
 
 -- the matches have these numbers of a service: its port, its first system bytes, its turns, and when it tests its link
 abbrev pub HasOwnNumbers : List Row → ℕ → ℕ → ℕ → ℕ → Type 0

@@ -13,14 +13,23 @@ use crate::tables::{
 use clap::{Arg, ArgAction, Command, value_parser};
 use std::alloc::{AllocError, Global};
 
-const SHOW_HELP: &str = "Example: hsms show < capture.bin\n\n\
+// The help of a command after its options: the option of every command, and a text of its own. `clap` does not know this
+// option, which may be anywhere: the program takes it out of the words.
+macro_rules! help {
+    ($($text:literal)?) => {
+        concat!("  -v, --verbose  Explain each fault: what happened, and what to do" $(, "\n\n", $text)?)
+    };
+}
+
+const SHOW_HELP: &str = help!(
+    "Example: hsms show < capture.bin\n\n\
     Statuses: 0 every message is shown; 2 the command line or the input is refused (TooShort, TooLong, CutOff; with\n\
     --hex NoHex, NoMessage); 3 the input can't be read (Read), the output can't be written (Write), there are more\n\
     than 4294967295 messages or lines (Endless), or memory is wanting (Memory). What was shown before a fault stays\n\
-    shown.\n\n\
-    With -v a fault is told in words too.";
+    shown."
+);
 
-const AUDIT_HELP: &str =
+const AUDIT_HELP: &str = help!(
     "It tells `pass` and what the log holds, or the first line that can't follow those before it, and why:\n\
     `fail line=N unreadable`, or `fail line=N rule=NAME` with the first of these rules that the line breaks.\n\n  \
     Backwards      its time is before that of the last line\n  \
@@ -45,19 +54,20 @@ const AUDIT_HELP: &str =
     A log of version 2 may hold several connections: an `up` directly after a `down` begins the next one.\n\n\
     Example: hsms audit < session.log\n\n\
     Statuses: 0 the log passes; 1 it fails; 2 the command line is refused; 3 the log can't be read (Read), the verdict\n\
-    can't be written (Write), there are more than 4294967295 reads (Endless), or memory is wanting (Memory).\n\n\
-    With -v a fault is told in words too.";
+    can't be written (Write), there are more than 4294967295 reads (Endless), or memory is wanting (Memory)."
+);
 
-const EXPLAIN_HELP: &str =
+const EXPLAIN_HELP: &str = help!(
     "Each line is told with its number, a frame as `hsms show` shows it. Below stands what it has to do with others, as\n\
     the line that it answers, and why it fails: the rule, the line that it concerns, and how the log is gone on with, so\n\
     that later failures are told too. The last line is the verdict that `hsms audit` tells.\n\n\
     Example: hsms explain < session.log\n\n\
     Statuses: 0 the log passes; 1 it fails; 2 the command line is refused; 3 the log can't be read (Read), what is told\n\
     can't be written (Write), there are more than 4294967295 reads (Endless), or memory is wanting (Memory). What was told\n\
-    before a fault stays told.";
+    before a fault stays told."
+);
 
-const CAPTURE_HELP: &str =
+const CAPTURE_HELP: &str = help!(
     "It reads a file of pcap or pcapng once. For each TCP connection at the port it tells two lines, of the end that\n\
     connects and of the one that listens: both addresses, what the end is, and the verdict of `hsms audit` on its log,\n\
     with the packet of a failing line. Where something is missing nothing behind it is judged, and a line says\n\
@@ -70,22 +80,23 @@ const CAPTURE_HELP: &str =
     something is missing in it (Lost, Length, Differs, Full, CutOff), it can't be read (Capture, Time), nothing came up\n\
     (NoConnection), or with --log there are several at once or other addresses (Overlap, Peer); 3 standard input can't\n\
     be read (Read), the output can't be written (Write), there are 2^64 - 4 blocks or more (Endless), or memory is\n\
-    wanting (Memory). What was told before a fault stays told.\n\n\
-    With -v a fault is told in words too.";
+    wanting (Memory). What was told before a fault stays told."
+);
 
-const ENCODE_HELP: &str = "Example: echo 'S1F13 W <L> .' | hsms encode > message.bin\n\n\
+const ENCODE_HELP: &str = help!(
+    "Example: echo 'S1F13 W <L> .' | hsms encode > message.bin\n\n\
     Statuses: 0 every message is encoded; 2 the command line is refused, or the input (Input, Syntax, Number, Count,\n\
     Deep, TooLarge, TooLong); 3 the input can't be read (Read), the output can't be written (Write), or memory is\n\
-    wanting (Memory). Nothing is written where the input is refused.\n\n\
-    With -v a fault is told in words too.";
+    wanting (Memory). Nothing is written where the input is refused."
+);
 
-const SERVE_HELP: &str =
+const SERVE_HELP: &str = help!(
     "Each end answers Select, Linktest, S1F1, S1F13 and S2F25, and rejects or aborts what it may not take.\n\n\
     Example: hsms serve --role equipment --link passive --address 127.0.0.1 --port 5000 > equipment.log\n\n\
     Statuses: 0 the connection was served to its end; 1 not all was sent, with --all-sent; 2 the command line or the\n\
     script is refused (Input, Syntax, Number, Count, Deep); 3 there is no connection, or it broke (Link), the log can't\n\
-    be written (Log), all turns are used (Turns), standard input can't be read (Read), or memory is wanting (Memory).\n\n\
-    With -v a fault is told in words too.";
+    be written (Log), all turns are used (Turns), standard input can't be read (Read), or memory is wanting (Memory)."
+);
 
 const VERSION: &str = "0.2 (session logs of versions 1 and 2)";
 
@@ -163,6 +174,7 @@ pub fn command<'a>(alloc: Global) -> Result<Command<'a>, AllocError>
         .bin_name("hsms")?
         .about("Audits HSMS session logs, reads and writes HSMS messages, and serves a connection")
         .version(VERSION)
+        .after_help(help!())
         .subcommand_required(true);
     for subcommand in &subcommands() {
         hsms = hsms.subcommand(subcommand.command(alloc)?)?;

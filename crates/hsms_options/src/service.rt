@@ -5,7 +5,7 @@ ghost use Rattle.clap.specs.Words.{first_of, found_of, rows_of};
 ghost use Rattle.hsms_machine.specs.Settings.{Parameters};
 ghost use Rattle.hsms_machine.specs.declared.settings.Role.{Role};
 ghost use Rattle.hsms_machine.specs.declared.settings.Side.{Side};
-ghost use Rattle.hsms_options.specs.Service.{AsksToServe, HasNumbers, HasOwnNumbers, HasRepeat, HasSettings, role_word, side_word};
+ghost use Rattle.hsms_options.specs.Service.{AsksToServe, HasNumbers, HasOwnNumbers, HasRepeat, HasSettings, limits_repeat as has_limits, role_word, side_word};
 ghost use Rattle.hsms_options.specs.declared.service.Repeat.{Repeat};
 ghost use Rattle.hsms_options.specs.declared.service.Service.{Service};
 
@@ -106,12 +106,25 @@ fn repeat_of(options: &ArgMatches<'_>) -> Option<Repeat>
     ensures asks { IfSome result (HasRepeat (rows_of (found_of options.now))) }
     ensures none { result ≡ None → (repeat : Repeat) → HasRepeat (rows_of (found_of options.now)) repeat → ⊥ }
 {
+    let again = flag_of(options, "again");
+    if !again && limits_repeat(options) {
+        return None;
+    }
     Some(Repeat {
         connections: number_of(options, CONNECTIONS)?,
         t5: number_of(options, T5)?,
-        again: flag_of(options, "again"),
+        again,
         once: flag_of(options, "once"),
     })
+}
+
+// Whether these options say something of further connections.
+fn limits_repeat(options: &ArgMatches<'_>) -> bool
+    ensures { result ≡ has_limits (rows_of (found_of options.now)) }
+{
+    flag_of(options, "once")
+        || text_of(options, "connections").is_some()
+        || text_of(options, "t5").is_some()
 }
 
 // The settings of an end of the role and side that these options name, for a log of one connection.

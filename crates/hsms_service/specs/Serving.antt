@@ -10,7 +10,7 @@ use Rattle.hsms_machine.specs.declared.settings.Role.TheVariants as role
 use Rattle.hsms_ends.specs.declared.fault.ServeFault.{ServeFault}
 use Rattle.hsms_ends.specs.declared.fault.ServeFault.TheVariants as serve
 use Rattle.hsms_ends.specs.declared.again.ServedAgain.{ServedAgain}
-use Rattle.hsms_ends.specs.declared.serving.Served.{Served}
+use Rattle.hsms_ends.specs.declared.serving.ServedScript.{ServedScript}
 use Rattle.hsms_ends.specs.declared.step.Step.{Step}
 use Rattle.hsms_ends.specs.Link.{Told}
 use Rattle.hsms_ends.specs.Scripted.{scripted_answer}
@@ -49,7 +49,7 @@ TellsServe fault Memory = fault ≡ serve.Memory
 
 -- what came of serving, as the command tells it: where all is to be sent, it is well where each step of the script was
 -- taken and none refused
-abbrev pub TellsServed : Bool → Result Served ServeFault → Result Bool ToolFault → Type 0
+abbrev pub TellsServed : Bool → Result ServedScript ServeFault → Result Bool ToolFault → Type 0
 TellsServed all_sent (Ok served) (Ok well) = well ≡ (not all_sent || is_complete served)
 TellsServed all_sent (Ok served) (Err told) = ⊥
 TellsServed all_sent (Err fault) (Ok well) = ⊥
@@ -72,6 +72,6 @@ abbrev pub pause_for : ℕ → Option ℕ
 pause_for linktest = if linktest == 0 then None else Some linktest
 
 -- a new end served a connection with this desk, as the service asks
-abbrev pub ServesTo : Service → OwnDesk → List Step → Result Served ServeFault → SinkState → SinkState → Told → Told → Type 0
+abbrev pub ServesTo : Service → OwnDesk → List Step → Result ServedScript ServeFault → SinkState → SinkState → Told → Told → Type 0
 ServesTo service desk script result log log' link link' =
     ServesTesting own_answer (pause_for service.linktest) (record { desk = desk; known = untold service.settings service.first_system }) script service.turns result log log' link link'

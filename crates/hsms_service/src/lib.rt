@@ -5,6 +5,7 @@
 //! [`Lines`] puts each line of a log out as a whole.
 #![tactic(auto)]
 
+mod attempt;
 mod counters;
 mod desks;
 mod lines;
@@ -13,6 +14,7 @@ mod serving;
 mod socket;
 mod wire;
 
+pub use attempt::{Attempts, ConnectError};
 pub use counters::Counters;
 pub use desks::{OwnDesk, desk_of};
 pub use lines::Lines;

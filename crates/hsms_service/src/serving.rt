@@ -7,7 +7,7 @@ ghost use Rattle.hsms_service.specs.Serving.{ServesTo, TellsServe, TellsServed, 
 
 use crate::desks::OwnDesk;
 use hsms_ends::{
-    Again, Lent, Link, ServeFault, Served, ServedAgain, Step, serve_again, serve_testing,
+    Again, Lent, Link, ServeFault, ServedAgain, ServedScript, Step, serve_again, serve_testing,
 };
 use hsms_frame::Sink;
 use hsms_options::{Service, ToolFault};
@@ -30,7 +30,7 @@ pub fn serve_to<L: Link, W: Sink>(
     service: &Service<'_>,
     desk: OwnDesk,
     script: &[Step],
-) -> Result<Served, ServeFault>
+) -> Result<ServedScript, ServeFault>
     ensures { ServesTo service.now desk script.now result (W.state log.old) (W.state log.new)
         (L.told link.old) (L.told link.new) }
 {
@@ -114,7 +114,7 @@ pub fn told_again(
 
 /// What came of serving, as the command tells it: `Device` with the name of a fault, but for `Memory`. Where all is to be
 /// sent, it is well only where each step of the script was taken, and none refused.
-pub fn told(all_sent: bool, served: Result<Served, ServeFault>) -> Result<bool, ToolFault>
+pub fn told(all_sent: bool, served: Result<ServedScript, ServeFault>) -> Result<bool, ToolFault>
     ensures { TellsServed all_sent served result }
 {
     match served {

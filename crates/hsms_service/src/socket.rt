@@ -3,6 +3,7 @@
 ghost use Rattle.std.specs.Prelude.{◌≡◌};
 ghost use Rattle.hsms_service.specs.Counters.{told_of};
 
+use crate::attempt::{Attempts, ConnectError};
 use crate::counters::Counters;
 use crate::wire::{Wire, is_quiet};
 use hsms_ends::{Again, Got, Link, LinkFault, ServeFault};
@@ -16,9 +17,10 @@ use std::time::{Clock, Duration};
 
 /// TCP connections, one after the other, with one clock and the counts of all their calls.
 #[derive(Drop)]
-pub struct SocketLink<'a, 's, R: Clock + Net> {
+pub struct SocketLink<'a, 's, R: Clock + Net, A: Attempts + Drop> {
     rt: &'a R,
     service: &'a Service<'s>,
+    attempts: A,
     // Where further connections are listened for.
     listener: Option<R::Listener>,
     wire: Wire<'a, R, R::Stream>,
@@ -27,14 +29,14 @@ pub struct SocketLink<'a, 's, R: Clock + Net> {
     failures: u64,
     // Whether the connection is the first one, which no end was served with yet.
     is_new: bool,
-    // Why there is no further connection, as the system says.
-    fault: Option<ErrorKind>,
+    // Why there is no further connection.
+    fault: Option<ConnectError>,
 }
 
-impl<'a, 's, R: Clock + Net> SocketLink<'a, 's, R> {
+impl<'a, 's, R: Clock + Net, A: Attempts + Drop> SocketLink<'a, 's, R, A> {
     /// What served the connections has ended: the last one is closed, and the answer is why there is no further one,
     /// where one was asked for.
-    pub fn end(mut self) -> Option<ErrorKind> {
+    pub fn end(mut self) -> Option<ConnectError> {
         if self.fault.is_none() {
             self.hang_up();
         }
@@ -47,11 +49,13 @@ impl<'a, 's, R: Clock + Net> SocketLink<'a, 's, R> {
     {
         if self.counters.failures == self.failures {
             self.wire.hang_up(u64::from(self.service.settings.t8()));
+        } else {
+            self.wire.close();
         }
     }
 }
 
-impl<'a, 's, R: Clock + Net> Link for SocketLink<'a, 's, R> {
+impl<'a, 's, R: Clock + Net, A: Attempts + Drop> Link for SocketLink<'a, 's, R, A> {
     ghost told = { λ s. told_of s.counters };
 
     fn now(&mut self) -> u64 {
@@ -76,8 +80,9 @@ impl<'a, 's, R: Clock + Net> Link for SocketLink<'a, 's, R> {
     }
 }
 
-/// A passive end listens on. An active one connects again after T5, and between attempts that fail.
-impl<'a, 's, R: Clock + Net> Again for SocketLink<'a, 's, R> {
+/// A connection that is over is closed before the next one is waited for. A passive end listens on. An active one connects
+/// again after T5, and between attempts that fail.
+impl<'a, 's, R: Clock + Net, A: Attempts + Drop> Again for SocketLink<'a, 's, R, A> {
     fn again(&mut self) -> bool {
         if self.is_new {
             self.is_new = false;
@@ -85,12 +90,12 @@ impl<'a, 's, R: Clock + Net> Again for SocketLink<'a, 's, R> {
         }
         self.hang_up();
         pause(self.rt, self.service);
-        match next_stream(self.rt, self.service, &self.listener) {
+        match next_stream(self.rt, self.service, &self.listener, &mut self.attempts) {
             Ok(stream) => {
                 self.failures = self.counters.failures;
                 self.wire.go_over(stream);
             }
-            Err(error) => self.fault = Some(error.kind()),
+            Err(error) => self.fault = Some(error),
         }
         self.fault.is_none()
     }
@@ -102,17 +107,39 @@ impl<'a, 's, R: Clock + Net> Again for SocketLink<'a, 's, R> {
 /// # Errors
 ///
 /// What the system says, where there is none. A service that goes on tries again: an active end wherever memory isn't
-/// wanting, and a passive one where the peer gave the connection up or a signal came.
-pub fn connected<'a, 's, R: Clock + Net>(
+/// wanting, and a passive one where the peer gave the connection up or a signal came. `attempts` hears of each that fails.
+pub fn connected<'a, 's, R: Clock + Net, A: Attempts + Drop>(
     rt: &'a R,
     service: &'a Service<'s>,
-) -> io::Result<SocketLink<'a, 's, R>> {
-    let mut listener = match service.settings.link() {
-        Side::Active => None,
-        Side::Passive => Some(TcpListener::bind(rt, (service.address, service.port))?),
-    };
+    attempts: A,
+) -> Result<SocketLink<'a, 's, R, A>, ConnectError> {
+    let listener = listener_of(rt, service)?;
+    first_link(rt, service, listener, attempts)
+}
+
+// Where a passive end listens.
+pub(crate) fn listener_of<R: Net>(
+    rt: &R,
+    service: &Service<'_>,
+) -> io::Result<Option<R::Listener>> {
+    match service.settings.link() {
+        Side::Active => Ok(None),
+        Side::Passive => {
+            let listener = TcpListener::bind(rt, (service.address, service.port))?;
+            Ok(Some(listener))
+        }
+    }
+}
+
+// The first connection of a service. One that doesn't go on after it listens no longer then.
+pub(crate) fn first_link<'a, 's, R: Clock + Net, A: Attempts + Drop>(
+    rt: &'a R,
+    service: &'a Service<'s>,
+    mut listener: Option<R::Listener>,
+    mut attempts: A,
+) -> Result<SocketLink<'a, 's, R, A>, ConnectError> {
     let stream = if service.repeat.again {
-        next_stream(rt, service, &listener)?
+        next_stream(rt, service, &listener, &mut attempts)?
     } else {
         let stream = stream_of(rt, service, &listener)?;
         listener = None;
@@ -121,6 +148,7 @@ pub fn connected<'a, 's, R: Clock + Net>(
     Ok(SocketLink {
         rt,
         service,
+        attempts,
         listener,
         wire: Wire::new(rt, stream),
         counters: Counters::default(),
@@ -131,34 +159,48 @@ pub fn connected<'a, 's, R: Clock + Net>(
 }
 
 /// The fault where there is no connection: `Link`, or `Memory` where that is wanting for it.
-pub fn unconnected(kind: ErrorKind) -> ServeFault {
-    if kind == ErrorKind::OutOfMemory {
+pub fn unconnected(error: ConnectError) -> ServeFault {
+    if is_memory(error) {
         ServeFault::Memory
     } else {
         ServeFault::Link
     }
 }
 
+// Whether memory is wanting for a connection.
+fn is_memory(error: ConnectError) -> bool {
+    error == ConnectError::System(ErrorKind::OutOfMemory)
+}
+
 // The next connection of a service that goes on.
-fn next_stream<R: Clock + Net>(
+fn next_stream<R: Clock + Net, A: Attempts>(
     rt: &R,
     service: &Service<'_>,
     listener: &Option<R::Listener>,
-) -> io::Result<R::Stream> {
+    attempts: &mut A,
+) -> Result<R::Stream, ConnectError> {
     for _ in 0..u64::MAX {
-        match stream_of(rt, service, listener) {
-            Err(error) if is_passing(error.kind(), service) => pause(rt, service),
-            answer => return answer,
+        let error = match stream_of(rt, service, listener) {
+            Ok(stream) => return Ok(stream),
+            Err(error) => ConnectError::from(error),
+        };
+        if !is_passing(error, service) {
+            return Err(error);
         }
+        attempts.failed(error);
+        pause(rt, service);
     }
-    Err(io::Error::from(ErrorKind::TimedOut))
+    Err(ConnectError::System(ErrorKind::TimedOut))
 }
 
 // Whether the next connection may be had, though one wasn't.
-fn is_passing(kind: ErrorKind, service: &Service<'_>) -> bool {
+fn is_passing(error: ConnectError, service: &Service<'_>) -> bool {
     match service.settings.link() {
-        Side::Active => kind != ErrorKind::OutOfMemory,
-        Side::Passive => matches!(kind, ErrorKind::ConnectionAborted | ErrorKind::Interrupted),
+        Side::Active => !is_memory(error),
+        Side::Passive => matches!(
+            error,
+            ConnectError::System(ErrorKind::ConnectionAborted | ErrorKind::Interrupted)
+        ),
     }
 }
 

@@ -22,7 +22,8 @@ const PAUSE: u64 = 1;
 #[derive(Drop)]
 pub struct Wire<'a, C: Clock, S: Read + Write + OpenStream + Drop> {
     clock: &'a C,
-    stream: S,
+    // None once the connection is closed.
+    stream: Option<S>,
     began: Option<Instant>,
     last: u64,
     // How many milliseconds a read waits at most, or for as long as it takes.
@@ -34,16 +35,16 @@ impl<'a, C: Clock, S: Read + Write + OpenStream + Drop> Wire<'a, C, S> {
     pub fn new(clock: &'a C, stream: S) -> Wire<'a, C, S> {
         Wire {
             clock,
-            stream,
+            stream: Some(stream),
             began: Instant::now(clock).ok(),
             last: 0,
             limit: None,
         }
     }
 
-    /// Closes the connection, and goes over to the next one, which was made just now. The time goes on.
+    /// Goes over to the next connection, which was made just now. The time goes on.
     pub fn go_over(&mut self, stream: S) {
-        self.stream = stream;
+        self.stream = Some(stream);
         self.limit = None;
     }
 
@@ -62,7 +63,15 @@ impl<'a, C: Clock, S: Read + Write + OpenStream + Drop> Wire<'a, C, S> {
     pub fn write(&mut self, octets: &[u8]) -> io::Result<usize>
         ensures { IfOk result (λ n. n ≤ length octets.now) }
     {
-        self.stream.write(octets)
+        self.open_stream()?.write(octets)
+    }
+
+    // The stream, or a fault where the connection is closed.
+    fn open_stream(&mut self) -> io::Result<&mut S> {
+        match &mut self.stream {
+            Some(stream) => Ok(stream),
+            None => Err(io::Error::from(ErrorKind::NotConnected)),
+        }
     }
 
     /// Reads once, until a time or for as long as it takes.
@@ -73,7 +82,7 @@ impl<'a, C: Clock, S: Read + Write + OpenStream + Drop> Wire<'a, C, S> {
             Some(until) => self.read_in_parts(until, into),
             None => {
                 self.limit_reads(None)?;
-                self.stream.read(into)
+                self.open_stream()?.read(into)
             }
         }
     }
@@ -90,7 +99,7 @@ impl<'a, C: Clock, S: Read + Write + OpenStream + Drop> Wire<'a, C, S> {
                 return self.read_soon(until, into);
             }
             self.limit_reads(Some(part))?;
-            match self.stream.read(into) {
+            match self.open_stream()?.read(into) {
                 Err(error) if is_late(error.kind()) => {}
                 answer => return answer,
             }
@@ -102,9 +111,9 @@ impl<'a, C: Clock, S: Read + Write + OpenStream + Drop> Wire<'a, C, S> {
     fn read_soon(&mut self, until: u64, into: &mut [u8]) -> io::Result<usize>
         ensures { IfOk result (λ n. n ≤ length into.new) }
     {
-        self.stream.set_nonblocking(true)?;
+        self.open_stream()?.set_nonblocking(true)?;
         let answer = self.look_until(until, into);
-        self.stream.set_nonblocking(false)?;
+        self.open_stream()?.set_nonblocking(false)?;
         answer
     }
 
@@ -113,7 +122,7 @@ impl<'a, C: Clock, S: Read + Write + OpenStream + Drop> Wire<'a, C, S> {
         ensures { IfOk result (λ n. n ≤ length into.new) }
     {
         for _ in 0..u64::MAX {
-            match self.stream.read(into) {
+            match self.open_stream()?.read(into) {
                 Err(error) if is_late(error.kind()) && self.time() < until => {}
                 answer => return answer,
             }
@@ -125,18 +134,33 @@ impl<'a, C: Clock, S: Read + Write + OpenStream + Drop> Wire<'a, C, S> {
     // Has a read wait no longer than that, where it isn't so yet.
     fn limit_reads(&mut self, limit: Option<u64>) -> io::Result<()> {
         if self.limit != limit {
-            self.stream
+            self.open_stream()?
                 .set_read_timeout(limit.map(Duration::from_millis))?;
             self.limit = limit;
         }
         Ok(())
     }
 
-    /// Ends what is sent, and lets go what still comes, until the peer has closed the connection too or so many
-    /// milliseconds are over. A connection that is closed while octets lie unread is reset, and the peer loses what it
-    /// was sent and hasn't read.
+    /// Closes the connection at once.
+    pub fn close(&mut self) {
+        self.stream = None;
+    }
+
+    /// Ends what is sent, lets go what still comes, until the peer has closed the connection too or so many milliseconds
+    /// are over, and closes the connection. One that is closed while octets lie unread is reset, and the peer loses what
+    /// it was sent and hasn't read.
     pub fn hang_up(&mut self, longest: u64) {
-        if self.stream.shutdown(Shutdown::Write).is_err() {
+        self.let_go(longest);
+        self.close();
+    }
+
+    // Ends what is sent, and lets go what still comes.
+    fn let_go(&mut self, longest: u64) {
+        let has_ended = match &self.stream {
+            Some(stream) => stream.shutdown(Shutdown::Write).is_ok(),
+            None => false,
+        };
+        if !has_ended {
             return;
         }
         let until = self.time().saturating_add(longest);

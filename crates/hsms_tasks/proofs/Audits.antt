@@ -1,6 +1,6 @@
 -- Where an audit stops.
 use Rattle.std.proofs.Common.{◌≡◌, ◌≢◌, ℕ, Bool, List, Ok, Err, inl, inr, codes, sym, ◌∙◌, ap, subst, arith, get_or}
-use Rattle.std.specs.Prelude.{Option}
+use Rattle.std.specs.Prelude.{IfErr, Option, Result}
 use Rattle.std.specs.Bool.{OnTrue}
 use Rattle.hsms_frame.specs.Device.{SourceState, Grows, GrowsByFront}
 use Rattle.hsms_log.specs.declared.fault.AuditFault.{AuditFault}
@@ -11,8 +11,8 @@ use Rattle.hsms_log.specs.declared.verdict.Verdict.TheVariants.{Pass, Fail}
 use Rattle.hsms_options.specs.declared.fault.ToolFault.{ToolFault}
 use Rattle.hsms_options.specs.declared.fault.ToolFault.TheVariants.{Refused, Device, Memory}
 use Rattle.hsms_lines.specs.Verdict.{is_pass}
-use Rattle.hsms_tasks.specs.Audit.{AuditsTo, CountsVerdict, IsEndless, Judged, TellsAudit}
-use Rattle.hsms_lines.specs.Devices.{CountsFailure, IsReading, IsWrite}
+use Rattle.hsms_tasks.specs.Audit.{AuditsTo, CountsVerdict, IsEndless, Judged, TellsAudit, passes}
+use Rattle.hsms_lines.specs.Devices.{CountsFailure, IsReadWriteOrEndless, IsReading, IsWrite}
 use Rattle.hsms_lines.specs.Verdict.{verdict_line_of}
 use Rattle.hsms_lines.proofs.Devices.{counts_as}
 
@@ -152,3 +152,13 @@ counts_told fault tool old new c told = record {
   empty_pulls = c.empty_pulls;
   reads = told_reads fault tool old.failures new.failures c.failures told;
 }
+
+-- ---- whether a log passes, in place of its verdict
+
+pub word_of_passes : (answer : Result Verdict ToolFault) → IfErr answer IsReadWriteOrEndless → IfErr (passes answer) IsReadWriteOrEndless
+word_of_passes (Ok verdict) word = tt
+word_of_passes (Err fault) word = word
+
+pub counts_of_passes : (word : List ℕ) (answer : Result Verdict ToolFault) (old new : ℕ) → CountsFailure word answer old new → CountsFailure word (passes answer) old new
+counts_of_passes word (Ok verdict) old new counts = counts
+counts_of_passes word (Err fault) old new counts = counts_as Verdict Bool word fault old new counts

@@ -18,6 +18,11 @@ IsEndless (Device word) = word.now ≡ codes "Endless"
 IsEndless (Refused words) = ⊥
 IsEndless Memory = ⊥
 
+-- whether the log passes, in place of its verdict
+abbrev pub passes : Result Verdict ToolFault → Result Bool ToolFault
+passes (Ok verdict) = Ok (is_pass verdict)
+passes (Err fault) = Err fault
+
 -- The answers to an input, each with what is left of it, whether its end was found, and what was written before and is
 -- now: the verdict's whole line, a part of it where the write failed, and else nothing.
 abbrev pub AuditsTo : List ℕ → Result Bool ToolFault → Option (List ℕ) → Type 0 → Option (List ℕ) → Option (List ℕ) → Type 0

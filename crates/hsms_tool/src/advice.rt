@@ -1,7 +1,8 @@
 //! Words for people: what a fault says, and what to do about it.
 
 use crate::place::placed;
-use hsms_options::{Service, ToolFault};
+use hsms_options::ToolFault;
+use hsms_service::ConnectError;
 use std::alloc::{AllocError, Global};
 use std::io::{BufRead, ErrorKind};
 
@@ -90,10 +91,19 @@ pub fn begins_as_capture<R: BufRead>(input: &mut R) -> bool {
 /// Why there is no connection.
 pub fn link_words(
     alloc: Global,
-    service: &Service<'_>,
-    kind: ErrorKind,
+    address: &str,
+    port: u16,
+    error: ConnectError,
 ) -> Result<String, AllocError> {
-    let (address, port) = (service.address, service.port);
+    let kind = match error {
+        ConnectError::System(kind) => kind,
+        ConnectError::NoDescriptor => {
+            return String::from_str(
+                alloc,
+                "no file descriptor is left for a connection: end what holds them, or allow more (ulimit -n)",
+            );
+        }
+    };
     match kind {
         ErrorKind::ConnectionRefused => format!(in alloc;
             "connection refused by {address}:{port}: nobody listens there. Start the other end first, or see --address and --port"
@@ -151,7 +161,8 @@ const CAPTURE_SENTENCES: &str = "\
     Time: this packet has no time, or none that a log can have: capture again with times, or leave the packet out\n\
     Overlap: here a connection comes up while another one is up, and a log has one at a time: without --log each is judged\n\
     Peer: this connection is one of other addresses, and a log is of two: say by --with which peer is meant\n\
-    NoConnection: no connection came up at --port: is this the port of HSMS, and does the capture begin before the connection does, or is --joined given?";
+    NoConnection: no connection came up at --port: is this the port of HSMS, and does the capture begin before the connection does, or is --joined given?\n\
+    NotJudged: the last line of the output names HSMS that was not judged: give --joined, its --device or its --port";
 
 // What a table says of the first word of a fault, which may have its place behind that.
 fn said_of(name: &str, table: &'static str) -> Option<&'static str> {

@@ -8,17 +8,23 @@ const BEFORE: usize = 60;
 const BEHIND: usize = 40;
 
 /// What is said of the place in a text before which it has so many octets, or of its end: behind the number of its line
-/// and its column, from 1, in octets. Below stand the line, and a mark under the place. Of a long line the part around it
-/// is shown; an octet that is no printable ASCII is shown as `?`, a tab as a space.
+/// and its column, from 1, in octets. Below are the line, and a mark under the place.
 pub fn placed(alloc: Global, text: &[u8], at: usize, said: &str) -> Result<String, AllocError> {
     let (before, behind) = text.split_at(at.min(text.len()));
     let line = before.split(is_feed).count();
     let before = before.rsplit(is_feed).next().unwrap_or(before);
     let behind = behind.split(is_feed).next().unwrap_or(behind);
     let column = before.len().saturating_add(1);
+    let words = format!(in alloc; "line {line}, column {column}: {said}")?;
+    marked(words, before, behind)
+}
+
+/// Appends a line of a text, by what is before a place and from it on, and below it a mark under the place. Of a long line
+/// the part around the place is shown; an octet that is no printable ASCII is shown as `?`, a tab as a space.
+pub fn marked(mut words: String, before: &[u8], behind: &[u8]) -> Result<String, AllocError> {
     let before = &before[before.len().saturating_sub(BEFORE)..];
     let behind = &behind[..behind.len().min(BEHIND)];
-    let mut words = format!(in alloc; "line {line}, column {column}: {said}\n")?;
+    words.push('\n')?;
     for octet in before.iter().chain(behind) {
         words.push(printable(*octet))?;
     }

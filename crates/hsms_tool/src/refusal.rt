@@ -9,7 +9,7 @@ pub fn refused_words(alloc: Global, words: &[String]) -> Result<String, AllocErr
     let Err(error) = command(alloc)?.try_get_matches_from(words) else {
         return String::from_str(
             alloc,
-            "--role, --active and --log are host or equipment, --link is active or passive, --with is an IP address, --only is failures, --form is text, json or html, and --bare goes with --hex alone",
+            "--role, --active and --log are host or equipment, --link is active or passive, --with is an IP address, --only is failures, --form is text, json or html, --bare goes with --hex alone, and --once, --connections and --t5 with --again",
         );
     };
     let text = error.to_string(alloc)?;

@@ -1,5 +1,5 @@
 -- A connection by the number of its SYN: its packets wait until the SYN of the passive end is there, and then it is followed.
-use Rattle.std.specs.Prelude.{◌≡◌, ◌⊎◌, ◌≤◌, ◌<◌, ◌+◌, ◌%◌, ◌^◌, ◌==◌, ◌&&◌, ◌||◌, ◌++◌, ◌∷◌, ℕ, Bool, true, false, if◌then◌else◌, List, [], length, map, Option, Some, None, is_some, Vec}
+use Rattle.std.specs.Prelude.{◌≡◌, ◌⊎◌, ◌≤◌, ◌<◌, ◌+◌, ◌%◌, ◌^◌, ◌==◌, ◌&&◌, ◌||◌, ◌++◌, ◌∷◌, ℕ, Bool, true, false, not, if◌then◌else◌, List, [], length, map, Option, Some, None, is_some, Vec}
 use Rattle.std.specs.Option.{option_map}
 use Rattle.std.specs.declared.alloc.Global.{Global}
 use Rattle.hsms_machine.specs.Settings.{Parameters}
@@ -52,9 +52,9 @@ has_octets (syn ∷ cs) = has_octets cs
 has_octets (octet n ∷ cs) = true
 has_octets (fin ∷ cs) = has_octets cs
 
--- a packet shows that there was one: the active end acknowledges it, or there is data
+-- a packet shows that there was one: the active end acknowledges it, or there is data, which a RST hasn't
 abbrev pub shows_answer : Seen → Bool
-shows_answer s = (same_end s.from active && is_some s.acknowledged) || has_octets s.cells
+shows_answer s = (same_end s.from active && is_some s.acknowledged) || (has_octets s.cells && not s.reset)
 
 abbrev pub first_shown : List Seen → Option ℕ
 first_shown [] = None

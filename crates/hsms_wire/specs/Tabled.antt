@@ -42,6 +42,10 @@ is_live stage.Over = false
 
 -- a segment is the first of a session that was running before the capture: neither a SYN nor a reset, of a pair without a
 -- connection
+abbrev pub IsRunning : Table → Pair → Segment → Type 0
+IsRunning table pair segment = (has_syn segment ≡ false) × (has_rst segment ≡ false) × (HasOne table pair → ⊥)
+
+-- and such sessions are looked at
 abbrev pub Joins : Table → Pair → Segment → Type 0
 Joins table pair segment = (table.is_joined ≡ true) × (has_syn segment ≡ false) × (has_rst segment ≡ false) × (HasOne table pair → ⊥)
 

@@ -16,6 +16,7 @@ use crate::report::Report;
 use crate::shortfall::Shortfall;
 use crate::stop::fault_of;
 use crate::table::{Capture, Table};
+use capture_unjudged::Unjudged;
 use hsms_accounts::Stop;
 use hsms_frame::{Sink, Source};
 use hsms_options::{Capturing, ToolFault};
@@ -30,7 +31,7 @@ const MOST_STEPS: u64 = u64::MAX - 3;
 /// Reads a capture (pcap or pcapng) once, packet by packet, and follows each TCP connection at a port. As soon as a
 /// connection is over it writes two lines, the verdicts of the audit on the logs of both of its ends, of which the active
 /// one is the first; or, where the options say so, it writes the log of one end, line by line. It says whether each log
-/// passes.
+/// passes. What looks like HSMS and is not judged is recorded in `unjudged`.
 ///
 /// Of the capture no more is held than a packet, what connections that are open wait for, and at most 8,192 connections
 /// of which nothing is left to be told; and of what is told, that which is told with one packet.
@@ -48,6 +49,7 @@ pub fn capture_to<R: Source, W: Sink>(
     options: Capturing,
     source: &mut R,
     sink: &mut W,
+    unjudged: &mut Unjudged,
 ) -> Result<bool, ToolFault>
     ensures word { IfErr result IsReadWriteOrEndless }
     ensures endless { IfErr result (λ fault. IsEndless fault → WhereTold (R.state source.old).left HasMany) }
@@ -67,12 +69,20 @@ pub fn capture_to<R: Source, W: Sink>(
     let mut table = Table::new(alloc, options.port, options.peer, options.joined);
     match Packets::open(alloc, source) {
         Ok(mut packets) => {
-            let missing = read_all(alloc, &mut packets, source, sink, &mut table, &mut report)?;
-            finish(alloc, sink, table, report, missing)
+            let missing = read_all(
+                alloc,
+                &mut packets,
+                source,
+                sink,
+                &mut table,
+                &mut report,
+                unjudged,
+            )?;
+            finish(alloc, sink, table, report, unjudged, missing)
         }
         Err(fault) => {
             let missing = missing_by(fault, 0)?;
-            finish(alloc, sink, table, report, Some(missing))
+            finish(alloc, sink, table, report, unjudged, Some(missing))
         }
     }
 }
@@ -86,6 +96,7 @@ fn read_all<R: Source, W: Sink>(
     sink: &mut W,
     table: &mut Table,
     report: &mut Report,
+    unjudged: &mut Unjudged,
 ) -> Result<Option<Shortfall>, ToolFault>
     ensures word { IfErr result IsReadWriteOrEndless }
     ensures endless { IfErr result (λ fault. IsEndless fault → WhereTold (R.state source.old).left (λ input.
@@ -109,7 +120,9 @@ fn read_all<R: Source, W: Sink>(
         match step {
             Step::Packet(number, record) => {
                 let octets = octets_of(&record, packets.octets());
-                let missing = take(alloc, sink, table, report, number, &record, octets)?;
+                let missing = take(
+                    alloc, sink, table, report, unjudged, number, &record, octets,
+                )?;
                 if missing.is_some() {
                     return Ok(missing);
                 }
@@ -128,6 +141,7 @@ fn take<W: Sink>(
     sink: &mut W,
     table: &mut Table,
     report: &mut Report,
+    unjudged: &mut Unjudged,
     packet: u64,
     record: &Record,
     octets: &[u8],
@@ -142,7 +156,7 @@ fn take<W: Sink>(
     ensures refuses { IfErr result (λ fault. PutsAsRefused packet «record».now octets.now table.old report.old
         (W.state sink.old).written (W.state sink.new).written fault) }
 {
-    let taken = take_packet(alloc, table, report, packet, record, octets);
+    let taken = take_packet(alloc, table, report, unjudged, packet, record, octets);
     report.put_out(sink)?;
     match taken {
         Ok(missing) => Ok(missing),
@@ -155,6 +169,7 @@ fn take_packet(
     alloc: Global,
     table: &mut Table,
     report: &mut Report,
+    unjudged: &mut Unjudged,
     packet: u64,
     record: &Record,
     octets: &[u8],
@@ -173,7 +188,7 @@ fn take_packet(
                 time: record.time,
                 octets: body_of(&segment, octets),
             };
-            table.take(alloc, report, &segment, capture)
+            table.take(alloc, report, unjudged, &segment, capture)
         }
         Shown::Other => Ok(None),
         Shown::LeftOut(reason) => {
@@ -210,6 +225,7 @@ fn finish<W: Sink>(
     sink: &mut W,
     table: Table,
     mut report: Report,
+    unjudged: &mut Unjudged,
     missing: Option<Shortfall>,
 ) -> Result<bool, ToolFault>
     ensures word { IfErr result (HasWord (codes "Write")) }
@@ -225,7 +241,7 @@ fn finish<W: Sink>(
     ensures stops { IfErr result (λ fault. FinishesAsRefused missing table report
         (W.state sink.old).written (W.state sink.new).written fault) }
 {
-    let well = conclude(alloc, table, &mut report, missing);
+    let well = conclude(alloc, table, &mut report, unjudged, missing);
     report.put_out(sink)?;
     match well {
         Ok(well) => Ok(well),
@@ -238,6 +254,7 @@ fn conclude(
     alloc: Global,
     table: Table,
     report: &mut Report,
+    unjudged: &mut Unjudged,
     missing: Option<Shortfall>,
 ) -> Result<bool, Stop>
     ensures lines { IfOk result (λ well. Concludes missing report.old report.new (Ok well)) }
@@ -248,6 +265,7 @@ fn conclude(
     ensures stops { IfErr result (λ stop. ConcludesAsRefused missing table report.old report.new stop) }
 {
     report.note_missing(missing);
-    table.finish(alloc, report, missing)?;
+    table.finish(alloc, report, unjudged, missing)?;
+    unjudged.complete();
     report.finish(alloc)
 }

@@ -1,6 +1,6 @@
 //! A connection of a capture, from its first SYN on, or from the first packet of a session that was running before.
 
-ghost use Rattle.std.specs.Prelude.{◌≡◌, ◌&&◌, ◌||◌, ◌++◌, [], ◌∷◌, IfErr, IfOk, OnOk, is_some, map, ◌↔◌, IsTrue, false, None};
+ghost use Rattle.std.specs.Prelude.{◌≡◌, ◌&&◌, ◌||◌, ◌++◌, [], ◌∷◌, IfErr, IfOk, OnOk, is_some, map, ◌↔◌, IsTrue, false, not, None};
 ghost use Rattle.hsms_accounts.specs.Stop.{IsNoRefusal};
 ghost use Rattle.hsms_accounts.specs.declared.stop.Stop.TheVariants.{Memory};
 ghost use Rattle.hsms_capture.specs.Known.{seen_of};
@@ -22,6 +22,7 @@ use crate::report::Report;
 use crate::resets::{note_reset, time_of};
 use crate::shortfall::Shortfall;
 use crate::within::Within;
+use capture_unjudged::Unjudged;
 use hsms_accounts::{Ends, Pair, Stop, unboxed};
 use hsms_capture::{Connection, ConnectionFault, Ending, Event, Happening, Segment, Side};
 use hsms_joined::Gathering;
@@ -149,6 +150,7 @@ impl Stage {
         self,
         alloc: Global,
         report: &mut Report,
+        unjudged: &mut Unjudged,
         pair: &Pair,
         syn: Option<u32>,
         segment: Segment,
@@ -173,7 +175,9 @@ impl Stage {
                 let left = follow(alloc, report, pair, open, segment, octets)?;
                 Ok(stage_of(left))
             }
-            Stage::Joining(gathering) => join(alloc, report, pair, gathering, segment, octets),
+            Stage::Joining(gathering) => {
+                join(alloc, report, unjudged, pair, gathering, segment, octets)
+            }
             Stage::Within(within) => go_within(alloc, report, pair, within, segment, octets),
             Stage::Opening(waiting) => match answered(syn, &segment) {
                 Some(syn) => {
@@ -192,6 +196,7 @@ impl Stage {
         self,
         alloc: Global,
         report: &mut Report,
+        unjudged: &mut Unjudged,
         pair: &Pair,
         is_replaced: bool,
         missing: Option<Shortfall>,
@@ -211,7 +216,15 @@ impl Stage {
             Stage::Open(open) => end_open(alloc, report, pair, open, is_replaced, missing),
             Stage::Within(within) => within.end(alloc, report, pair, is_replaced, missing),
             Stage::Joining(gathering) => {
-                end_gathered(alloc, report, pair, gathering, is_replaced, missing)
+                end_gathered(
+                    alloc,
+                    report,
+                    unjudged,
+                    pair,
+                    gathering,
+                    is_replaced,
+                    missing,
+                )
             }
         }
     }
@@ -314,6 +327,7 @@ fn begin_with(
 fn join(
     alloc: Global,
     report: &mut Report,
+    unjudged: &mut Unjudged,
     pair: &Pair,
     gathering: Gathering,
     segment: Segment,
@@ -326,7 +340,7 @@ fn join(
     ensures refuses { IfErr result (λ stop. InLog stop report.old (λ journal. GatherRefused pair.now
         (session_of report.old.active) segment octets.now gathering stop journal report.old report.new)) }
 {
-    match gather(alloc, report, pair, gathering, segment, octets)? {
+    match gather(alloc, report, unjudged, pair, gathering, segment, octets)? {
         Joining::Gathers(gathering) => Ok(Stage::Joining(gathering)),
         Joining::Within(within) => Ok(Stage::Within(within)),
         Joining::Over => Ok(Stage::Over),
@@ -361,6 +375,7 @@ fn go_within(
 fn end_gathered(
     alloc: Global,
     report: &mut Report,
+    unjudged: &mut Unjudged,
     pair: &Pair,
     gathering: Gathering,
     is_replaced: bool,
@@ -372,7 +387,7 @@ fn end_gathered(
     ensures refuses { IfErr result (λ stop. InLog stop report.old (λ journal.
         EndGatheredRefused pair.now missing gathering stop journal report.old report.new)) }
 {
-    match begin(alloc, report, pair, gathering, true)? {
+    match begin(alloc, report, unjudged, pair, gathering, true)? {
         Joining::Gathers(_) => Ok(()),
         Joining::Within(within) => within.end(alloc, report, pair, is_replaced, missing),
         Joining::Over => Ok(()),
@@ -520,9 +535,9 @@ fn lost_at(waiting: &[Waiting]) -> Option<u64>
 
 // Whether a packet shows that it was there.
 fn shows_loss(packet: &Waiting) -> bool
-    ensures { result ≡ shows packet.now.segment.from packet.now.segment.acknowledged (is_there packet.now.octets.items) }
+    ensures { result ≡ shows packet.now.segment.from packet.now.segment.acknowledged (is_there packet.now.octets.items && not packet.now.segment.reset) }
 {
-    let is_some = !packet.octets.is_empty();
+    let is_some = !packet.octets.is_empty() && !packet.segment.reset;
     match packet.segment.from {
         Side::Active => packet.segment.acknowledged.is_some() || is_some,
         Side::Passive => is_some,

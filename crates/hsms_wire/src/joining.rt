@@ -1,6 +1,7 @@
 //! A session that was running before the capture, until both of its directions have begun.
 
-ghost use Rattle.std.specs.Prelude.{IfErr, IfOk, OnOk};
+ghost use Rattle.std.specs.Prelude.{IfErr, IfOk, IsTrue, OnOk, ◌↔◌};
+ghost use Rattle.hsms_joined.specs.Gathering.{AreSure};
 ghost use Rattle.hsms_wire.specs.Joining.{BeginsWith, GathersOn, TakesFrom};
 ghost use Rattle.hsms_wire.specs.Refused.{InLog};
 ghost use Rattle.hsms_wire.specs.RefusedSession.{BeginRefused, FromRefused, GatherRefused};
@@ -8,6 +9,7 @@ ghost use Rattle.hsms_wire.specs.Report.{StopsUnrefused, Tells, session_of};
 
 use crate::report::Report;
 use crate::within::{Within, take_all};
+use capture_unjudged::Unjudged;
 use hsms_accounts::{Pair, Stop};
 use hsms_capture::Segment;
 use hsms_joined::{Beginnings, Gathering, start_of};
@@ -26,6 +28,7 @@ pub enum Joining {
 pub fn gather(
     alloc: Global,
     report: &mut Report,
+    unjudged: &mut Unjudged,
     pair: &Pair,
     gathering: Gathering,
     segment: Segment,
@@ -44,7 +47,7 @@ pub fn gather(
     if !is_last && !gathering.is_due() {
         return Ok(Joining::Gathers(gathering));
     }
-    begin(alloc, report, pair, gathering, is_last)
+    begin(alloc, report, unjudged, pair, gathering, is_last)
 }
 
 /// The packets that are kept are taken, where both directions surely begin or no more are kept.
@@ -52,6 +55,7 @@ pub fn gather(
 pub fn begin(
     alloc: Global,
     report: &mut Report,
+    unjudged: &mut Unjudged,
     pair: &Pair,
     gathering: Gathering,
     is_last: bool,
@@ -66,10 +70,20 @@ pub fn begin(
     let Some(beginnings) = gathering.beginnings(alloc, report.session(), is_last)? else {
         return Ok(Joining::Gathers(gathering));
     };
+    if !are_sure(&beginnings) {
+        unjudged.give_up(alloc, gathering.packets())?;
+    }
     match take_from(alloc, report, pair, &gathering, beginnings)? {
         Some(within) => Ok(Joining::Within(within)),
         None => Ok(Joining::Over),
     }
+}
+
+// Whether both directions surely begin so.
+fn are_sure(beginnings: &Beginnings) -> bool
+    ensures { IsTrue result ↔ AreSure beginnings.now }
+{
+    beginnings.active.is_sure && beginnings.passive.is_sure
 }
 
 // The packets that are kept are taken as those of a session whose directions begin so.

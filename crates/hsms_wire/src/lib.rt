@@ -4,11 +4,11 @@
 //! verdict on the log of each of its ends, or the log of one end:
 //!
 //! ```
-//! let all_pass = capture_to(alloc, options, &mut source, &mut sink)?;
+//! let all_pass = capture_to(alloc, options, &mut source, &mut sink, &mut unjudged)?;
 //! ```
 //!
 //! What happens on a connection is told by `hsms_capture`; what its ends log of it, and what the audit says of their
-//! logs, by `hsms_accounts`.
+//! logs, by `hsms_accounts`. What looks like HSMS and is not judged is recorded by `capture_unjudged`.
 #![tactic(auto)]
 
 mod capturing;

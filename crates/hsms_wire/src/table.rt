@@ -3,7 +3,7 @@
 ghost use Rattle.std.specs.Prelude.{◌≡◌, ◌↔◌, ◌<◌, ℕ, IfNone, IfSome, IsTrue, [], true, false, IfErr, IfOk, OnOk, Some};
 ghost use Rattle.hsms_wire.specs.Segments.{has_flag, taken_segment, syn_by, IsPairAt};
 ghost use Rattle.hsms_wire.specs.Staged.{IsForgotten};
-ghost use Rattle.hsms_wire.specs.Tabled.{HasTime, BeginsFlow, BeginsWith, EndsFlows, FollowsFlow, HasFlow, HasOne, Joins, LooksAt, KeepsOf, ReplacesFlow, TakesOf, TakesPacket, is_live};
+ghost use Rattle.hsms_wire.specs.Tabled.{HasTime, BeginsFlow, BeginsWith, EndsFlows, FollowsFlow, HasFlow, HasOne, IsRunning, Joins, LooksAt, KeepsOf, ReplacesFlow, TakesOf, TakesPacket, is_live};
 ghost use Rattle.hsms_wire.specs.Kept.{EndsAsDealt, TakesAsDealt};
 ghost use Rattle.hsms_wire.specs.RefusedFile.{EndsAsRefused, TakesAsRefused};
 ghost use Rattle.hsms_wire.specs.RefusedTable.{FollowsFlowRefused, ReplacesRefused, StartsRefused, TakesOfRefused};
@@ -13,6 +13,7 @@ ghost use Rattle.hsms_wire.specs.Report.{StopsUnrefused, Tells};
 use crate::flow::{Flow, Stage};
 use crate::report::Report;
 use crate::shortfall::Shortfall;
+use capture_unjudged::Unjudged;
 use hsms_accounts::{Pair, Stop, pairs_of};
 use hsms_capture::{Flags, Segment, Side};
 use hsms_packets as packets;
@@ -76,12 +77,14 @@ impl Table {
         }
     }
 
-    /// Takes a packet. What is answered is why nothing behind it can be told.
+    /// Takes a packet. What is answered is why nothing behind it can be told. What looks like HSMS and is not judged is
+    /// recorded.
     #[tactic(auto, using(crate::proofs::Unrefused::telling_steps))]
     pub fn take(
         &mut self,
         alloc: Global,
         report: &mut Report,
+        unjudged: &mut Unjudged,
         segment: &packets::Segment,
         capture: Capture<'_>,
     ) -> Result<Option<Shortfall>, Stop>
@@ -95,8 +98,13 @@ impl Table {
             report.old report.new) }
     {
         match self.pair_of(segment) {
-            Some((pair, from)) => self.take_of(alloc, report, pair, from, segment, capture),
-            None => Ok(None),
+            Some((pair, from)) => {
+                self.take_of(alloc, report, unjudged, pair, from, segment, capture)
+            }
+            None => {
+                unjudged.pass(segment, capture.octets)?;
+                Ok(None)
+            }
         }
     }
 
@@ -106,6 +114,7 @@ impl Table {
         self,
         alloc: Global,
         report: &mut Report,
+        unjudged: &mut Unjudged,
         missing: Option<Shortfall>,
     ) -> Result<(), Stop>
         ensures told { OnOk result (Tells report.old report.new) }
@@ -122,7 +131,8 @@ impl Table {
             begun: _,
         } = self;
         for (pair, flow) in flows {
-            flow.stage.end(alloc, report, &pair, false, missing)?;
+            flow.stage
+                .end(alloc, report, unjudged, &pair, false, missing)?;
         }
         Ok(())
     }
@@ -133,6 +143,7 @@ impl Table {
         &mut self,
         alloc: Global,
         report: &mut Report,
+        unjudged: &mut Unjudged,
         pair: Pair,
         from: Side,
         segment: &packets::Segment,
@@ -148,6 +159,9 @@ impl Table {
         let syn = self.new_syn(&pair, from, segment);
         let begins = syn.is_some() || self.joins(&pair, segment);
         if !begins && !self.is_live(&pair) {
+            if self.is_running(&pair, segment) {
+                unjudged.run(&pair, capture.octets)?;
+            }
             return Ok(None);
         }
         let Some(time) = time_of(capture.time) else {
@@ -155,9 +169,9 @@ impl Table {
         };
         let taken = segment_of(segment, from, capture.packet, time);
         if begins {
-            self.begin(alloc, report, pair, syn)?;
+            self.begin(alloc, report, unjudged, pair, syn)?;
         }
-        self.follow(alloc, report, &pair, taken, capture.octets)?;
+        self.follow(alloc, report, unjudged, &pair, taken, capture.octets)?;
         Ok(None)
     }
 
@@ -215,8 +229,16 @@ impl Table {
     fn joins(&self, pair: &Pair, segment: &packets::Segment) -> bool
         ensures { IsTrue result ↔ Joins self.now pair.now segment.now }
     {
+        self.is_joined && self.is_running(pair, segment)
+    }
+
+    // Whether a segment is of a session that was running before the capture: neither a SYN nor a reset, of a pair without
+    // a connection.
+    fn is_running(&self, pair: &Pair, segment: &packets::Segment) -> bool
+        ensures { IsTrue result ↔ IsRunning self.now pair.now segment.now }
+    {
         let begins = !is_set(segment, SYN) && !is_set(segment, RST);
-        self.is_joined && begins && !self.has_one(pair)
+        begins && !self.has_one(pair)
     }
 
     // Whether more may be told of the connection of a pair.
@@ -240,14 +262,20 @@ impl Table {
 
     // Ends the connection of a pair, since another one replaces it.
     #[tactic(auto, using(crate::proofs::Unrefused::telling_steps))]
-    fn replace(&mut self, alloc: Global, report: &mut Report, pair: &Pair) -> Result<(), Stop>
+    fn replace(
+        &mut self,
+        alloc: Global,
+        report: &mut Report,
+        unjudged: &mut Unjudged,
+        pair: &Pair,
+    ) -> Result<(), Stop>
         ensures told { OnOk result (Tells report.old report.new) }
         ensures unrefused { IfErr result (StopsUnrefused report.old) }
         ensures replaces { OnOk result (ReplacesFlow pair.now self.old self.new report.old report.new) }
         ensures refuses { IfErr result (λ stop. ReplacesRefused pair.now self.old stop report.old report.new) }
     {
         if let Some(before) = self.flows.shift_remove(pair) {
-            before.stage.end(alloc, report, pair, true, None)?;
+            before.stage.end(alloc, report, unjudged, pair, true, None)?;
         }
         Ok(())
     }
@@ -259,6 +287,7 @@ impl Table {
         &mut self,
         alloc: Global,
         report: &mut Report,
+        unjudged: &mut Unjudged,
         pair: Pair,
         syn: Option<u32>,
     ) -> Result<(), Stop>
@@ -267,8 +296,8 @@ impl Table {
         ensures begins { OnOk result (BeginsFlow pair syn self.old self.new report.old report.new) }
         ensures refuses { IfErr result (λ stop. IsRefused stop → StartsRefused pair self.old stop report.old report.new) }
     {
-        self.replace(alloc, report, &pair.turned())?;
-        self.replace(alloc, report, &pair)?;
+        self.replace(alloc, report, unjudged, &pair.turned())?;
+        self.replace(alloc, report, unjudged, &pair)?;
         let flow = Flow::new(alloc, syn, self.begun);
         if self.flows.insert(pair, flow).is_err() {
             return Err(Stop::Memory);
@@ -301,6 +330,7 @@ impl Table {
         &mut self,
         alloc: Global,
         report: &mut Report,
+        unjudged: &mut Unjudged,
         pair: &Pair,
         segment: Segment,
         octets: &[u8],
@@ -316,7 +346,7 @@ impl Table {
             return Ok(());
         };
         let stage = mem::replace(&mut flow.stage, Stage::Over);
-        flow.stage = stage.take(alloc, report, pair, flow.syn, segment, octets)?;
+        flow.stage = stage.take(alloc, report, unjudged, pair, flow.syn, segment, octets)?;
         Ok(())
     }
 }

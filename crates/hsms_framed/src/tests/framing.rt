@@ -214,6 +214,30 @@ fn gives_each_data_message_from_any_two_pieces(rt: HostRuntime) -> Result<(), Fr
     gives_each_back(&rt, rt.alloc(), DATA_MESSAGES)
 }
 
+// A message of the greatest size that the framer takes.
+fn longest(alloc: Global) -> Result<Vec<u8>, FrameFault> {
+    let mut octets = Vec::from_slice(alloc, b"\0\0\x01\0\0\0\x01\x01\0\0\0\0\0\x01!\xf4")?;
+    octets.extend_from_slice(&[0; 244])?;
+    Ok(octets)
+}
+
+// A message of 32 lists in one another.
+fn deepest(alloc: Global) -> Result<Vec<u8>, FrameFault> {
+    let mut octets = Vec::from_slice(alloc, b"\0\0\0J\0\0\x01\x01\0\0\0\0\0\x02")?;
+    for _ in 0..31 {
+        octets.extend_from_slice(b"\x01\x01")?;
+    }
+    octets.extend_from_slice(b"\x01\0")?;
+    Ok(octets)
+}
+
+#[test]
+fn gives_long_messages_from_any_two_pieces(rt: HostRuntime) -> Result<(), FrameFault> {
+    let alloc = rt.alloc();
+    gives_back_from_any_two_pieces(&rt, alloc, &longest(alloc)?)?;
+    gives_back_from_any_two_pieces(&rt, alloc, &deepest(alloc)?)
+}
+
 fn gives_back_from_any_two_pieces(
     rt: &impl Abort,
     alloc: Global,

@@ -57,7 +57,6 @@ fn assert_whole(rt: &impl Abort, answer: Served, link: &Scripted, log: &Store) {
     let whole = Served {
         entries: 7,
         refused: 0,
-        left: 0,
     };
     assert_so(rt, answer == whole, "a whole connection");
     assert_octets(rt, log.written(), WHOLE_LOG.as_bytes(), "a whole log");

@@ -2,9 +2,10 @@
 
 use super::{
     Abort, AllocError, Answer, Desk, End, EndFault, Entry, EquipmentDesk, Event, Global, HostDesk,
-    Input, Message, Role, Settings, Side, Stop, assert_fault, assert_so, end_of, equipment, judge,
-    settings, tell, tell_well,
+    Input, Message, Role, Settings, Side, Stop, assert_fault, assert_octets, assert_so, end_of,
+    equipment, judge, lines_of, settings, tell, tell_well,
 };
+use hsms_frame::encode_frame;
 use secs_item::Item;
 
 /// Equipment that was selected at 10, with MAX 256 and first system bytes 1.
@@ -122,6 +123,102 @@ fn judge_greatest(
 fn the_greatest_items(rt: HostRuntime) -> Result<(), Stop> {
     let mut end = selected(rt.alloc())?;
     judge_greatest(&rt, rt.alloc(), &mut end)
+}
+
+/// The octets of a message with an item, as an end sends it.
+fn octets_sent(alloc: Global, item: Item) -> Result<Vec<u8>, Stop> {
+    let mut end = selected(alloc)?;
+    let input = Input::Send(Message::new(1, 1, false, Some(item)));
+    let entries = tell(&mut end, &input)?;
+    match entries.as_slice() {
+        [
+            Entry {
+                event: Event::Sent(frame),
+                ..
+            },
+        ] => Ok(encode_frame(alloc, frame)?),
+        _ => Err(Stop::Line),
+    }
+}
+
+/// The one entry is that these octets were taken.
+fn judge_taken(
+    rt: &impl Abort,
+    alloc: Global,
+    entries: &[Entry],
+    octets: &[u8],
+) -> Result<(), Stop> {
+    match entries {
+        [
+            Entry {
+                event: Event::Taken(frame),
+                ..
+            },
+        ] => {
+            let taken = encode_frame(alloc, frame)?;
+            assert_octets(rt, &taken, octets, "a message in two pieces");
+            Ok(())
+        }
+        _ => Err(Stop::Line),
+    }
+}
+
+/// Nothing comes of the first piece.
+fn tell_first(rt: &impl Abort, end: &mut End<EquipmentDesk>, first: &[u8]) -> Result<(), Stop> {
+    let entries = end.bytes(first)?;
+    assert_so(rt, entries.is_empty(), "a first piece");
+    Ok(())
+}
+
+/// An end takes a message with an item from any two pieces.
+fn judge_pieces(rt: &impl Abort, alloc: Global, item: Item) -> Result<(), Stop> {
+    let octets = octets_sent(alloc, item)?;
+    let mut end = selected(alloc)?;
+    for cut in 0..octets.len() {
+        let (first, last) = octets.split_at(cut);
+        tell_first(rt, &mut end, first)?;
+        let entries = end.bytes(last)?;
+        judge_taken(rt, alloc, &entries, &octets)?;
+    }
+    Ok(())
+}
+
+#[test]
+fn the_greatest_items_in_two_pieces(rt: HostRuntime) -> Result<(), Stop> {
+    let alloc = rt.alloc();
+    judge_pieces(&rt, alloc, zeros(alloc, 244)?)?;
+    judge_pieces(&rt, alloc, nested(alloc, 32)?)
+}
+
+/// An end cuts the connection by a length from any two pieces, and its log has these lines.
+fn judge_length_in_pieces(
+    rt: &impl Abort,
+    alloc: Global,
+    octets: &[u8],
+    lines: &str,
+) -> Result<(), Stop> {
+    for cut in 0..octets.len() {
+        let (first, last) = octets.split_at(cut);
+        let mut end = selected(alloc)?;
+        tell_first(rt, &mut end, first)?;
+        let entries = end.bytes(last)?;
+        let text = lines_of(alloc, &entries)?;
+        assert_octets(rt, &text, lines.as_bytes(), "a length in two pieces");
+    }
+    Ok(())
+}
+
+/// One octet past the greatest size, and one octet less than a header has.
+#[test]
+fn lengths_in_two_pieces(rt: HostRuntime) -> Result<(), Stop> {
+    let alloc = rt.alloc();
+    judge_length_in_pieces(
+        &rt,
+        alloc,
+        b"\0\0\x01\x01\0\0\x81\x01\0\0\0\0\0\x05",
+        "10 > 0000090b000000000001210a00008101000000000005\n10 cut length\n10 down\n",
+    )?;
+    judge_length_in_pieces(&rt, alloc, b"\0\0\0\x09", "10 cut length\n10 down\n")
 }
 
 /// 64 transactions are open at most.

@@ -46,7 +46,6 @@ const PASSIVE: Connection = Connection {
     answer: Ok(Served {
         entries: 7,
         refused: 0,
-        left: 0,
     }),
     until: Some(10001),
     log: "0 up
@@ -82,7 +81,6 @@ const ACTIVE: Connection = Connection {
     answer: Ok(Served {
         entries: 7,
         refused: 1,
-        left: 0,
     }),
     until: Some(45001),
     log: HOST_LOG,
@@ -135,7 +133,6 @@ const CONNECTIONS: &[Connection] = &[
         answer: Ok(Served {
             entries: 3,
             refused: 0,
-            left: 0,
         }),
         until: Some(10001),
         log: "0 up\n10001 cut t7\n10001 down\n",
@@ -149,7 +146,6 @@ const CONNECTIONS: &[Connection] = &[
         answer: Ok(Served {
             entries: 2,
             refused: 0,
-            left: 0,
         }),
         until: Some(10001),
         log: "0 up\n0 down\n",
@@ -164,7 +160,6 @@ const CONNECTIONS: &[Connection] = &[
         answer: Ok(Served {
             entries: 3,
             refused: 0,
-            left: 0,
         }),
         until: Some(10001),
         log: "0 up\n10001 cut t7\n10001 down\n",
@@ -179,7 +174,6 @@ const CONNECTIONS: &[Connection] = &[
         answer: Ok(Served {
             entries: 3,
             refused: 0,
-            left: 0,
         }),
         until: Some(10001),
         log: "0 up\n10001 cut t7\n10001 down\n",
@@ -192,7 +186,6 @@ const CONNECTIONS: &[Connection] = &[
         answer: Ok(Served {
             entries: 8,
             refused: 1,
-            left: 0,
         }),
         log: "0 up
 0 > ffff0000000100000001

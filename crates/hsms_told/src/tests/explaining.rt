@@ -63,6 +63,7 @@ const CUT_TOLD: &str = "     1         hsms-log 2 host active 0 45000 6000 10000
             goes on as if `10000 cut t7` stood before it
      6         nothing
        FAIL unreadable: it can't be read
+            column 1: no decimal number; expected TIME up, TIME > HEX, TIME < HEX, TIME ! HEX, TIME t3 SYSTEM, TIME cut CAUSE or TIME down
      7    9000 up
        FAIL Backwards: its time is before that of the last line
             goes on as if its time were 10001
@@ -89,6 +90,7 @@ pass entries=0 sent=0 taken=0 discarded=0 expired=0 waiting=0
 
 const NO_LOG_TOLD: &str = "     1         0 up
        FAIL unreadable: it can't be read
+            column 1: no line of settings; expected hsms-log VERSION ROLE LINK DEVICE T3 T6 T7 T8 MAX DEPTH
      2         0 down
 nothing was judged: line 1 can't be read
 fail line=1 unreadable

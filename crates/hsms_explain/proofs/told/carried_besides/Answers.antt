@@ -3,7 +3,12 @@ use Rattle.hsms_log.specs.Spelling.{IsBlank}
 use Rattle.hsms_log.proofs.EntryLaws.{line_unread}
 use Rattle.hsms_explain.proofs.told.carried_besides.Goals as goal
 
+pub unreadable_entry-requires : goal.unreadable_entry-requires
+unreadable_entry-requires c =
+    let other : IsBlank c.args.line.now → ⊥ = λ blank. (let t : c.is_blank.result ≡ true = c.is_blank.ensures.1 blank in let f : c.is_blank.result ≡ false = c.if-is_blank.false in cc) in
+    line_unread c.args.max c.args.line.now other (λ entry spelled. c.requires.frame entry spelled (c.in-None.ensures.none entry spelled))
+
 pub returns-in-None : goal.returns-in-None
 returns-in-None c =
     let other : IsBlank c.args.line.now → ⊥ = λ blank. (let t : c.is_blank.result ≡ true = c.is_blank.ensures.1 blank in let f : c.is_blank.result ≡ false = c.if-is_blank.false in cc) in
-    λ max fits. line_unread max c.args.line.now other (λ entry spelled. c.requires entry spelled (c.in-None.ensures.none entry spelled))
+    line_unread c.args.max c.args.line.now other (λ entry spelled. c.requires.frame entry spelled (c.in-None.ensures.none entry spelled))

@@ -12,4 +12,4 @@ returns-clause-notes c =
     ∙ ap (λ (w : Why). either before (Some w)) c.unreadable.ensures.why
 
 pub returns-clause-adds : goal.returns-clause-adds
-returns-clause-adds c = (c.unreadable.result, c.unreadable.ensures.why, c.unreadable.ensures.sentence, c.in_ok-push.ensures.items)
+returns-clause-adds c = (c.unreadable.result, c.unreadable.ensures.why, c.unreadable.ensures.sentence, c.unreadable.ensures.expected, c.in_ok-push.ensures.items)

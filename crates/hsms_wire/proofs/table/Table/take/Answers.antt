@@ -8,8 +8,8 @@ returns-in-Some-clause-deals c =
     found_deals c.take_of.result c.in-Some.pair c.in-Some.from c.args.segment.now c.args.capture c.args.self.now c.take_of.new.self c.args.report.now c.take_of.new.report
     c.in-Some.ensures.looks c.take_of.ensures.takes
 
-pub returns-in-None-clause-deals : goal.returns-in-None-clause-deals
-returns-in-None-clause-deals c = λ port peer how a p last all report past few is.
+pub returns-in_ok-pass-in-None-clause-deals : goal.returns-in_ok-pass-in-None-clause-deals
+returns-in_ok-pass-in-None-clause-deals c = λ port peer how a p last all report past few is.
     deals_packet port peer how a p last c.args.segment.now c.args.capture _ c.args.self.now c.args.self.now c.args.report.now c.args.report.now all report past few is
     (None, c.in-None.ensures.looks, (refl, refl, refl))
 

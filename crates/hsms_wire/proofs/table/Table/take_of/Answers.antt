@@ -75,7 +75,7 @@ returns-in_err-begin-clause-refuses c =
           (subst (λ (b : Bool). IsTrue b ↔ Joins c.args.self.now c.args.pair c.args.segment.now) (sym w.begins-is) w.joins-begins.ensures)
           c.new_syn-syn.ensures.none
     ] in
-    let p = err_from_is_err_and c.from_residual.result c.from_residual.ensures.1 in
+    let p = err_from_is_err_and c.from_residual-in_err-begin.result c.from_residual-in_err-begin.ensures.1 in
     rw (p.1, p.2)
     (takes_begun c.args.pair c.args.from c.args.segment.now c.args.capture c.args.self.now c.in-Some.time c.new_syn-syn.result _ c.args.report.now c.begin.new.report
     c.in-Some.ensures.there (decides.there c.if-begins.true) c.in_err-begin.ensures.refuses)

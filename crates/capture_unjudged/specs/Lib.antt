@@ -1,0 +1,6 @@
+pub mod Message
+pub mod Sets
+pub mod Devices
+pub mod Unjudged
+pub mod Line
+pub mod Telling

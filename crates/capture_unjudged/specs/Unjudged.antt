@@ -1,0 +1,77 @@
+-- What looks like HSMS in a capture and is not judged.
+use Rattle.std.specs.Prelude.{◌≡◌, ◌⊎◌, ◌^◌, ◌-◌, ◌+◌, ◌==◌, ◌&&◌, ◌||◌, ℕ, Bool, true, false, not, min, nat_lt, if◌then◌else◌, List, [], fold, length, Option, Some, None}
+use Rattle.std.specs.List.{list_any}
+use Rattle.std.specs.declared.net.ip_addr.IpAddr.{IpAddr}
+use Rattle.hsms_accounts.specs.Pair.{IsOfPeer, pairs_at}
+use Rattle.hsms_accounts.specs.declared.pair.Pair.{Pair}
+use Rattle.hsms_capture.specs.declared.packet.Side.{Side}
+use Rattle.hsms_frame.specs.declared.header.Header.{Header}
+use Rattle.hsms_joined.specs.declared.gathered.Gathered.{Gathered}
+use Rattle.hsms_machine.specs.Settings.{Parameters}
+use Rattle.hsms_packets.specs.declared.segment.Segment.{Segment}
+use Rattle.capture_unjudged.specs.Devices.{AreDevices}
+use Rattle.capture_unjudged.specs.Message.{IsMessage}
+use Rattle.capture_unjudged.specs.Sets.{AddsPair, with_number}
+use Rattle.capture_unjudged.specs.declared.unjudged.Unjudged.{Unjudged}
+
+-- nothing is recorded yet
+pub record IsNone (port : ℕ) (peer : Option IpAddr) (settings : Parameters) (u : Unjudged) : Type 0 where
+  pub port_is : u.port ≡ port
+  pub peer_is : u.peer ≡ peer
+  pub settings_are : u.settings ≡ settings
+  pub running : (u.running.pairs.keys ≡ []) × (u.running.has_more ≡ false)
+  pub elsewhere : (u.elsewhere.pairs.keys ≡ []) × (u.elsewhere.has_more ≡ false)
+  pub strange : u.strange ≡ 0
+  pub devices : u.devices.lowest.items ≡ []
+  pub ports : u.ports.lowest.items ≡ []
+  pub incomplete : u.is_complete ≡ false
+
+-- the bytes of a segment are one message
+abbrev pub AreOne : Parameters → List ℕ → Type 0
+AreOne s octets = (h : Header) × IsMessage s octets h
+
+-- the lower of a segment's two ports
+abbrev pub lower_port : Segment → ℕ
+lower_port segment = min segment.source_port segment.target_port
+
+abbrev pub is_at : ℕ → Segment → Bool
+is_at port segment = (segment.source_port == port) || (segment.target_port == port)
+
+-- A segment of other addresses than `--with` counts for its pair, and one of another port for its lower port.
+abbrev pub PassesOf : Option (Pair × Side × Option Pair) → Segment → Unjudged → Unjudged → Type 0
+PassesOf None segment old new = new ≡ old
+PassesOf (Some found) segment old new =
+    ((IsOfPeer old.peer found.0 → ⊥) × AddsPair found.0 old.elsewhere new.elsewhere × (new ≡ record old { elsewhere = new.elsewhere }))
+    ⊎ (IsOfPeer old.peer found.0 × (is_at old.port segment ≡ true) × (new ≡ old))
+    ⊎ (IsOfPeer old.peer found.0 × (is_at old.port segment ≡ false)
+    × (new.ports.lowest.items ≡ with_number old.ports.lowest.items (lower_port segment)) × (new ≡ record old { ports = new.ports }))
+
+abbrev pub Passes : Segment → List ℕ → Unjudged → Unjudged → Type 0
+Passes segment octets old new =
+    (AreOne old.settings octets × PassesOf (pairs_at (lower_port segment) segment) segment old new)
+    ⊎ ((AreOne old.settings octets → ⊥) × (new ≡ old))
+
+-- a segment of a session that was running counts for its pair
+abbrev pub Runs : Pair → List ℕ → Unjudged → Unjudged → Type 0
+Runs pair octets old new =
+    (AreOne old.settings octets × AddsPair pair old.running new.running × (new ≡ record old { running = new.running }))
+    ⊎ ((AreOne old.settings octets → ⊥) × (new ≡ old))
+
+-- data, and none of it of the device that is judged
+abbrev pub are_strange : ℕ → List ℕ → Bool
+are_strange device devices = nat_lt 0 (length devices) && not (list_any (λ d. d == device) devices)
+
+-- a session counts as one of other devices if some of its packets are data, and none is data of the device that is judged
+abbrev pub GivesUp : List Gathered → Unjudged → Unjudged → Type 0
+GivesUp packets old new =
+    (devices : List ℕ) × AreDevices old.settings packets [] devices
+    × (((are_strange old.settings.device devices ≡ true) × (new.strange ≡ min (old.strange + 1) (2 ^ 64 - 1))
+    × (new.devices.lowest.items ≡ fold with_number old.devices.lowest.items devices)
+    × (new ≡ record old { strange = new.strange; devices = new.devices }))
+    ⊎ ((are_strange old.settings.device devices ≡ false) × (new ≡ old)))
+
+-- something is not judged that no option leaves out
+abbrev pub is_refused : Bool → Unjudged → Bool
+is_refused has_port u =
+    nat_lt 0 (length u.running.pairs.keys)
+    || (nat_lt 0 u.strange || (not has_port && nat_lt 0 (length u.ports.lowest.items)))

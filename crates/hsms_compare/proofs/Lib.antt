@@ -1,0 +1,13 @@
+pub mod Histories
+pub mod Merges
+pub mod Numbered
+pub mod Agreements
+pub mod Contradictions
+pub mod CausesFirst
+pub mod ByteStreams
+pub mod Outcomes
+pub mod Finals
+pub mod RequestStates
+pub mod Connected
+pub mod LinesRead
+pub mod OpenLogs

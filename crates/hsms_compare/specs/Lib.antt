@@ -1,0 +1,9 @@
+pub mod Conversation
+pub mod Agreement
+pub mod Merge
+pub mod Outcome
+pub mod Connections
+pub mod LineStops
+pub mod Laws
+pub mod ByteStreams
+pub mod RequestState

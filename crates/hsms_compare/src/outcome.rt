@@ -1,0 +1,39 @@
+//! The outcome of a request, by the logs of both ends.
+
+/// The outcome of a frame that an end sent, by the logs of both ends. `received`, `discarded` and `answered` are
+/// entries of the other log, `reply` is one of the own log: all are counted from 0. `took` and `after` are
+/// milliseconds, each within one log.
+#[derive(Clone, Copy, Debug, PartialEq, Eq)]
+pub enum Outcome {
+    /// The other log does not receive it.
+    NotReceived,
+    /// The other log discards it.
+    Discarded {
+        discarded: u64,
+    },
+    /// The other log accepts it and does not answer it.
+    Unanswered {
+        received: u64,
+    },
+    /// The other log accepts it and answers it after `took`: too late.
+    AnsweredLate {
+        received: u64,
+        answered: u64,
+        took: u64,
+    },
+    /// The other log accepts it and answers it in time, and the own log does not receive the answer.
+    ReplyNotReceived {
+        received: u64,
+        answered: u64,
+        took: u64,
+    },
+    /// The other log accepts it and answers it in time, and the own log receives the answer, `after` the frame was
+    /// sent.
+    Replied {
+        received: u64,
+        answered: u64,
+        took: u64,
+        reply: u64,
+        after: u64,
+    },
+}

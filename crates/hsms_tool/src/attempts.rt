@@ -1,0 +1,48 @@
+//! What is said of attempts to connect that fail and are made again.
+
+use crate::advice::link_words;
+use hsms_service::{Attempts, ConnectError};
+use std::alloc::Global;
+
+/// Writes one line for each kind of failure to standard error, where words are asked for.
+#[derive(Drop)]
+pub struct FailedAttempts<'a, R: Eprint> {
+    alloc: Global,
+    rt: &'a R,
+    address: &'a str,
+    port: u16,
+    is_verbose: bool,
+    // What was written.
+    written: Vec<ConnectError>,
+}
+
+impl<'a, R: Eprint> FailedAttempts<'a, R> {
+    /// Returns those of a service at this address and port, of which none has failed yet.
+    pub fn new(
+        alloc: Global,
+        rt: &'a R,
+        address: &'a str,
+        port: u16,
+        is_verbose: bool,
+    ) -> FailedAttempts<'a, R> {
+        FailedAttempts {
+            alloc,
+            rt,
+            address,
+            port,
+            is_verbose,
+            written: Vec::new(alloc),
+        }
+    }
+}
+
+impl<'a, R: Eprint> Attempts for FailedAttempts<'a, R> {
+    fn failed(&mut self, error: ConnectError) {
+        if !self.is_verbose || self.written.contains(&error) || self.written.push(error).is_err() {
+            return;
+        }
+        if let Ok(words) = link_words(self.alloc, self.address, self.port, error) {
+            let _ = eprintln!(self.rt; "hsms: it tries again: {words}");
+        }
+    }
+}
