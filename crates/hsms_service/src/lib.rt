@@ -19,5 +19,5 @@ pub use counters::Counters;
 pub use desks::{OwnDesk, desk_of};
 pub use lines::Lines;
 pub use script::{Script, read_script};
-pub use serving::{fault_told, serve_again_to, serve_to, told, told_again};
+pub use serving::{fault_told, serve_again_to, serve_to, serve_result, told_again};
 pub use socket::{SocketLink, connected, unconnected};

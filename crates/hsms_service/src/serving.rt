@@ -114,7 +114,7 @@ pub fn told_again(
 
 /// What came of serving, as the command tells it: `Device` with the name of a fault, but for `Memory`. Where all is to be
 /// sent, it is well only where each step of the script was taken, and none refused.
-pub fn told(all_sent: bool, served: Result<ServedScript, ServeFault>) -> Result<bool, ToolFault>
+pub fn serve_result(all_sent: bool, served: Result<ServedScript, ServeFault>) -> Result<bool, ToolFault>
     ensures { TellsServed all_sent served result }
 {
     match served {
