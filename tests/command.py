@@ -7,7 +7,7 @@ TOP = os.path.dirname(os.path.dirname(os.path.abspath(__file__)))
 PROGRAM = f"{TOP}/crates/hsms_tool/out/hsms_tool"
 
 # The program that tells ends lists.
-DRIVER = f"{TOP}/crates/hsms_replay/out/hsms_replay"
+DRIVER = f"{TOP}/crates/hsms_ends_driver/out/hsms_ends_driver"
 
 # How much of an answer is shown, in octets.
 LONGEST_SHOWN = 100_000

@@ -4,7 +4,7 @@
 Use: tests/driven.py [--count N] [--seed WORD] [--workers N]. Without words there are 3000 lists by chance, the seed is
 1, and two workers. These lists depend on the seed alone: what an end was told in a random talk, with octets that are
 cut, flipped or lie, in other pieces, at other moments, in another order. Before them come some hundred lists of tables:
-each message, timer and front of a message, to hosts and equipment that connect or listen. `hsms_replay` tells them to an
+each message, timer and front of a message, to hosts and equipment that connect or listen. `hsms_ends_driver` tells them to an
 end call by call, and to `drive` as a whole; both have to answer the entries and the pending octets that the second
 reading has, and the calls the refusals too. It runs what `rt ci` has built.
 
@@ -93,7 +93,7 @@ def main() -> int:
             failing += len(wrongs)
             for wrong in wrongs:
                 print(wrong, flush=True)
-    # why a message is thrown away isn't told to a list, and `hsms_replay` has no desk that replies from a script
+    # why a message is thrown away isn't told to a list, and `hsms_ends_driver` has no desk that replies from a script
     of_talks = [what for what in talks.TO_REACH if not what.startswith("!") and not what.endswith(" of a script")]
     to_reach = of_talks + crowds.TO_REACH + tables.TO_REACH
     missed = [what for what in to_reach if not reached[what]]

@@ -85,7 +85,7 @@ ASKED = {
         ServeFault: Link Log Turns Memory
         drive serve
     """,
-    "hsms_tasks": """
+    "cli_filters": """
         ToolFault: Refused Device Memory
         show encode_all audit_to
     """,
@@ -93,8 +93,8 @@ ASKED = {
 
 # The crates that have the items of one that was asked for.
 PARTS = {
-    "hsms_ends": ["hsms_ends", "hsms_entity"],
-    "hsms_tasks": ["hsms_options", "hsms_lines", "hsms_show", "hsms_tasks"],
+    "hsms_ends": ["hsms_ends", "hsms_endpoint"],
+    "cli_filters": ["cli_options", "cli_output", "cli_show", "cli_filters"],
 }
 
 # What the list names besides items: commands, and the module of a crate's laws.

@@ -65,15 +65,15 @@ LONG = {"walks_of_two_ends"}
 
 # The tests that judge each refusal themselves, or try again: those of these modules, and those whose names begin with
 # `refused`. Of the second ones what they take for themselves may be refused too.
-JUDGE = ("hsms_judged tests::",)
-TRY_AGAIN = ("hsms_framed tests::framing::",)
+JUDGE = ("hsms_machine_tests tests::",)
+TRY_AGAIN = ("hsms_frame_tests tests::framing::",)
 
 # Tests of calls that ask for no memory, and how often those do that make something for them beforehand.
 WITHOUT_GROWTH = "no_growth"
 MADE_BEFOREHAND = {"no_growth_for_what_is_too_large": 5}
 
 # A test with a desk that refuses memory itself, at last, and wants to be told so.
-REFUSES = ("hsms_served tests::limits::a_desk_of_its_own",)
+REFUSES = ("hsms_ends_tests tests::limits::a_desk_of_its_own",)
 
 # A port at which nobody listens.
 NOBODY_THERE = "--role equipment --link active --address 127.0.0.1 --port 1 --mdln M --softrev 1".split()
@@ -343,7 +343,7 @@ def ends():
     """Ends that are told damaged lists, call by call and by `drive`."""
     for number in range(LISTS):
         listed = damaged("refusals", number)
-        name = f"hsms_replay, list {number} of {len(listed.told)} calls"
+        name = f"hsms_ends_driver, list {number} of {len(listed.told)} calls"
         yield Check(name, [DRIVER], listed.text().encode(), judge_of_list(listed))
 
 
@@ -360,7 +360,7 @@ def ways_to_memory(names):
 def groups(wanted):
     """What is run of the wanted crates: their tests, and of the two programs the ends, the command and connections."""
     made = [("tests", list(tests(wanted)))]
-    programs = [("hsms_replay", "ends", ends), ("hsms_tool", "the command", runs), ("hsms_tool", "connections", served)]
+    programs = [("hsms_ends_driver", "ends", ends), ("hsms_tool", "the command", runs), ("hsms_tool", "connections", served)]
     for crate, name, checks in programs:
         if crate in wanted:
             made.append((name, list(checks())))

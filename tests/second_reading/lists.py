@@ -1,4 +1,4 @@
-"""Damaged lists of what an end is told, as `hsms_replay` reads them, and what a second reading of the ends answers.
+"""Damaged lists of what an end is told, as `hsms_ends_driver` reads them, and what a second reading of the ends answers.
 
 A list is what an end was told in a talk, with octets that are cut, flipped or lie, in other pieces, at other moments,
 in another order. Nothing here judges: what a list comes to, the two readings say.

@@ -3,13 +3,13 @@ use Rattle.std.proofs.Common.{◌≡◌, ◌<◌, ◌≤◌, ◌-◌, ◌+◌, �
 use Rattle.std.specs.Prelude.{is_ok, OnOk, Option, Result, Ok, Err, codes, decimal, fold, nat_lt, if◌then◌else◌}
 use Rattle.std.proofs.lemmas.Bool.Decides.{nat_tests}
 use Rattle.std.proofs.lemmas.List.{append-nil}
-use Rattle.hsms_frame.specs.Device.{Grows}
-use Rattle.hsms_joined.specs.declared.gathered.Gathered.{Gathered}
+use Rattle.hsms_frame.specs.Io.{Grows}
+use Rattle.capture_midstream.specs.declared.buffered_packet.BufferedPacket.{BufferedPacket}
 use Rattle.hsms_machine.specs.Settings.{Parameters}
 use Rattle.capture_unjudged.specs.Devices.{AreDevices, IsDevice}
 use Rattle.capture_unjudged.specs.Line.{line_of, rest_text}
 use Rattle.capture_unjudged.specs.Sets.{count_lower, with_number}
-use Rattle.capture_unjudged.specs.Telling.{line_if}
+use Rattle.capture_unjudged.specs.UnjudgedOutput.{line_if}
 use Rattle.capture_unjudged.specs.declared.unjudged.Unjudged.{Unjudged}
 
 pub on_ok : {T E P Q : Type 0} (r : Result T E) → (P → Q) → OnOk r P → OnOk r Q
@@ -49,34 +49,34 @@ all_first r zs mid new ns rest n parts is more =
 
 -- ---- devices
 
-pub devices_none : (s : Parameters) (gs : List Gathered) (ds : List ℕ) → length gs ≡ 0 → AreDevices s gs ds ds
+pub devices_none : (s : Parameters) (gs : List BufferedPacket) (ds : List ℕ) → length gs ≡ 0 → AreDevices s gs ds ds
 unfolding AreDevices
 devices_none s [] ds none = refl
 devices_none s (g ∷ gs) ds none = absurd (omega arith)
 
-devices_data : (s : Parameters) (g : Gathered) (rest : List Gathered) (ds new : List ℕ) (d : ℕ) → IsDevice s g.octets.items d
+devices_data : (s : Parameters) (g : BufferedPacket) (rest : List BufferedPacket) (ds new : List ℕ) (d : ℕ) → IsDevice s g.octets.items d
     → AreDevices s rest (ds ++ d ∷ []) new → AreDevices s (g ∷ rest) ds new
 unfolding AreDevices
 devices_data s g rest ds new d is more = inl (d, is, more)
 
-devices_other : (s : Parameters) (g : Gathered) (rest : List Gathered) (ds new : List ℕ) → ((d : ℕ) → IsDevice s g.octets.items d → ⊥)
+devices_other : (s : Parameters) (g : BufferedPacket) (rest : List BufferedPacket) (ds new : List ℕ) → ((d : ℕ) → IsDevice s g.octets.items d → ⊥)
     → AreDevices s rest ds new → AreDevices s (g ∷ rest) ds new
 unfolding AreDevices
 devices_other s g rest ds new none more = inr (none, more)
 
-pub devices_first : {T E : Type 0} (r : Result T E) (s : Parameters) (gs rest : List Gathered) (g : Gathered) (octets ds mid new : List ℕ) (d : ℕ)
+pub devices_first : {T E : Type 0} (r : Result T E) (s : Parameters) (gs rest : List BufferedPacket) (g : BufferedPacket) (octets ds mid new : List ℕ) (d : ℕ)
     → gs ≡ g ∷ rest → octets ≡ g.octets.items → IsDevice s octets d → mid ≡ ds ++ d ∷ []
     → OnOk r (AreDevices s rest mid new) → OnOk r (AreDevices s gs ds new)
 devices_first r s gs rest g octets ds mid new d parts of is with_it more =
-    on_ok r (λ it. subst (λ (all : List Gathered). AreDevices s all ds new) (sym parts)
+    on_ok r (λ it. subst (λ (all : List BufferedPacket). AreDevices s all ds new) (sym parts)
     (devices_data s g rest ds new d (subst (λ (os : List ℕ). IsDevice s os d) of is)
     (subst (λ (ys : List ℕ). AreDevices s rest ys new) with_it it))) more
 
-pub devices_next : {T E : Type 0} (r : Result T E) (s : Parameters) (gs rest : List Gathered) (g : Gathered) (octets ds new : List ℕ)
+pub devices_next : {T E : Type 0} (r : Result T E) (s : Parameters) (gs rest : List BufferedPacket) (g : BufferedPacket) (octets ds new : List ℕ)
     → gs ≡ g ∷ rest → octets ≡ g.octets.items → ((d : ℕ) → IsDevice s octets d → ⊥)
     → OnOk r (AreDevices s rest ds new) → OnOk r (AreDevices s gs ds new)
 devices_next r s gs rest g octets ds new parts of none more =
-    on_ok r (λ it. subst (λ (all : List Gathered). AreDevices s all ds new) (sym parts)
+    on_ok r (λ it. subst (λ (all : List BufferedPacket). AreDevices s all ds new) (sym parts)
     (devices_other s g rest ds new (subst (λ (os : List ℕ). (d : ℕ) → IsDevice s os d → ⊥) of none) it)) more
 
 -- ---- the line

@@ -4,7 +4,7 @@ use Rattle.hsms_frame.specs.declared.header.Header.{Header}
 use Rattle.hsms_frame.specs.declared.kinds.Kind.{Kind}
 use Rattle.hsms_frame.specs.declared.kinds.Kind.TheVariants.{Primary, Reply}
 use Rattle.hsms_frame.specs.Header.{kind_of}
-use Rattle.hsms_joined.specs.declared.gathered.Gathered.{Gathered}
+use Rattle.capture_midstream.specs.declared.buffered_packet.BufferedPacket.{BufferedPacket}
 use Rattle.hsms_machine.specs.Settings.{Parameters}
 use Rattle.capture_unjudged.specs.Message.{IsMessage}
 
@@ -19,7 +19,7 @@ IsDevice s octets device =
     (h : Header) × IsMessage s octets h × (is_data (kind_of h) ≡ true) × (device ≡ h.session)
 
 -- the devices of the packets that are one data message are appended, in order
-unfoldable pub AreDevices : Parameters → List Gathered → List ℕ → List ℕ → Type 0
+unfoldable pub AreDevices : Parameters → List BufferedPacket → List ℕ → List ℕ → Type 0
 AreDevices s [] old new = new ≡ old
 AreDevices s (g ∷ gs) old new =
     ((device : ℕ) × IsDevice s g.octets.items device × AreDevices s gs (old ++ device ∷ []) new)

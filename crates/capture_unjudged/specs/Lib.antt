@@ -3,4 +3,4 @@ pub mod Sets
 pub mod Devices
 pub mod Unjudged
 pub mod Line
-pub mod Telling
+pub mod UnjudgedOutput

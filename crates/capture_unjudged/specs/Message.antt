@@ -1,12 +1,12 @@
 -- Segments that are one message of HSMS (SEMI E37, section 8).
 use Rattle.std.specs.Prelude.{◌≡◌, ◌≤◌, ◌==◌, ◌&&◌, ◌||◌, ℕ, Bool, true, false, nat_le, nat_lt, List, length, take, drop}
-use Rattle.secs_item.specs.Spelling.{IsText}
+use Rattle.secs_item.specs.Encoding.{IsText}
 use Rattle.hsms_frame.specs.declared.header.Header.{Header}
 use Rattle.hsms_frame.specs.declared.kinds.Kind.{Kind}
 use Rattle.hsms_frame.specs.declared.kinds.Kind.TheVariants.{Primary, Reply, SelectReq, SelectRsp, LinktestReq, LinktestRsp, Reject, Separate, OtherSType, OtherPType}
 use Rattle.hsms_frame.specs.Frame.{length_field}
 use Rattle.hsms_frame.specs.Header.{kind_of, stream_of}
-use Rattle.hsms_joined.specs.Front.{header_of}
+use Rattle.capture_midstream.specs.MessageCheck.{header_of}
 use Rattle.hsms_machine.specs.Settings.{Parameters}
 
 -- a length field counts this many bytes, at most `max`

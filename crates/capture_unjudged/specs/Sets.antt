@@ -1,9 +1,9 @@
 -- Numbers and pairs of endpoints, each counted once.
 use Rattle.std.specs.Prelude.{◌≡◌, ◌||◌, ◌++◌, ◌==◌, ℕ, zero, suc, Bool, true, nat_lt, nat_le, if◌then◌else◌, List, [], ◌∷◌, length, take, insert}
 use Rattle.std.specs.List.{list_any}
-use Rattle.hsms_accounts.specs.Pair.{turned}
-use Rattle.hsms_accounts.specs.declared.pair.Pair.{Pair}
-use Rattle.hsms_accounts.specs.contracts.pair.PairPartialEq.TheImpl as same_pair
+use Rattle.capture_log.specs.SocketPair.{turned}
+use Rattle.capture_log.specs.declared.socket_pair.Pair.{Pair}
+use Rattle.capture_log.specs.contracts.pair.PairPartialEq.TheImpl as same_pair
 use Rattle.capture_unjudged.specs.declared.pairs.Pairs.{Pairs}
 
 -- how many at the front are lower than a number

@@ -2,13 +2,13 @@
 use Rattle.std.specs.Prelude.{◌≡◌, ◌⊎◌, ◌^◌, ◌-◌, ◌+◌, ◌==◌, ◌&&◌, ◌||◌, ℕ, Bool, true, false, not, min, nat_lt, if◌then◌else◌, List, [], fold, length, Option, Some, None}
 use Rattle.std.specs.List.{list_any}
 use Rattle.std.specs.declared.net.ip_addr.IpAddr.{IpAddr}
-use Rattle.hsms_accounts.specs.Pair.{IsOfPeer, pairs_at}
-use Rattle.hsms_accounts.specs.declared.pair.Pair.{Pair}
-use Rattle.hsms_capture.specs.declared.packet.Side.{Side}
+use Rattle.capture_log.specs.SocketPair.{IsOfPeer, pairs_at}
+use Rattle.capture_log.specs.declared.socket_pair.Pair.{Pair}
+use Rattle.capture_tcp.specs.declared.packet.Side.{Side}
 use Rattle.hsms_frame.specs.declared.header.Header.{Header}
-use Rattle.hsms_joined.specs.declared.gathered.Gathered.{Gathered}
+use Rattle.capture_midstream.specs.declared.buffered_packet.BufferedPacket.{BufferedPacket}
 use Rattle.hsms_machine.specs.Settings.{Parameters}
-use Rattle.hsms_packets.specs.declared.segment.Segment.{Segment}
+use Rattle.capture_pcap.specs.declared.segment.Segment.{Segment}
 use Rattle.capture_unjudged.specs.Devices.{AreDevices}
 use Rattle.capture_unjudged.specs.Message.{IsMessage}
 use Rattle.capture_unjudged.specs.Sets.{AddsPair, with_number}
@@ -62,7 +62,7 @@ abbrev pub are_strange : ℕ → List ℕ → Bool
 are_strange device devices = nat_lt 0 (length devices) && not (list_any (λ d. d == device) devices)
 
 -- a session counts as one of other devices if some of its packets are data, and none is data of the device that is judged
-abbrev pub GivesUp : List Gathered → Unjudged → Unjudged → Type 0
+abbrev pub GivesUp : List BufferedPacket → Unjudged → Unjudged → Type 0
 GivesUp packets old new =
     (devices : List ℕ) × AreDevices old.settings packets [] devices
     × (((are_strange old.settings.device devices ≡ true) × (new.strange ≡ min (old.strange + 1) (2 ^ 64 - 1))

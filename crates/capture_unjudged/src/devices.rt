@@ -4,8 +4,8 @@ ghost use Rattle.std.specs.Prelude.{◌≡◌, ℕ, IfSome, IfNone, OnOk};
 ghost use Rattle.capture_unjudged.specs.Devices.{AreDevices, IsDevice};
 
 use crate::message::message_of;
+use capture_midstream::BufferedPacket;
 use hsms_frame::{Kind, kind};
-use hsms_joined::Gathered;
 use hsms_machine::Settings;
 use std::alloc::AllocError;
 
@@ -13,7 +13,7 @@ use std::alloc::AllocError;
 #[tactic(auto, using(crate::proofs::Recursions::devices_none, crate::proofs::Recursions::devices_first, crate::proofs::Recursions::devices_next))]
 pub(crate) fn push_devices(
     settings: &Settings,
-    packets: &[Gathered],
+    packets: &[BufferedPacket],
     devices: &mut Vec<u16>,
 ) -> Result<(), AllocError>
     ensures { OnOk result (AreDevices settings.now packets.now devices.old.items devices.new.items) }

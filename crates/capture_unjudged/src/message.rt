@@ -1,8 +1,8 @@
 //! Segments that are one message of HSMS.
 
 ghost use Rattle.std.specs.Prelude.{◌≡◌, ◌≤◌, ◌↔◌, IfNone, IfSome, IsTrue};
-ghost use Rattle.secs_item.specs.Spelling.{IsText};
-ghost use Rattle.hsms_joined.specs.Front.{header_of};
+ghost use Rattle.secs_item.specs.Encoding.{IsText};
+ghost use Rattle.capture_midstream.specs.MessageCheck.{header_of};
 ghost use Rattle.capture_unjudged.specs.Message.{IsMessage, is_length, may_be_data, may_have};
 ghost use Rattle.hsms_frame.specs.declared.header.Header.{Header};
 
@@ -20,10 +20,10 @@ pub fn message_of(settings: &Settings, octets: &[u8]) -> Option<Header>
     ensures some { IfSome result (IsMessage settings.now octets.now) }
     ensures none { IfNone result ((header : Header) → IsMessage settings.now octets.now header → ⊥) }
 {
-    let (field, behind) = octets.split_first_chunk::<4>()?;
-    let (front, text) = behind.split_first_chunk::<HEADER_LENGTH>()?;
+    let (field, subsequent) = octets.split_first_chunk::<4>()?;
+    let (front, text) = subsequent.split_first_chunk::<HEADER_LENGTH>()?;
     let header = header_in(*front);
-    if is_length(u32::from_be_bytes(*field), behind.len(), settings.max())
+    if is_length(u32::from_be_bytes(*field), subsequent.len(), settings.max())
         && may_have(header, text.len())
         && is_readable(text, settings.depth())
     {

@@ -1,6 +1,6 @@
 //! Pairs of endpoints, each counted once.
 
-use hsms_accounts::Pair;
+use capture_log::Pair;
 use indexmap::IndexSet;
 use std::alloc::{AllocError, Global};
 

@@ -8,10 +8,10 @@ use crate::devices::push_devices;
 use crate::message::message_of;
 use crate::numbers::Numbers;
 use crate::pairs::Pairs;
-use hsms_accounts::{Pair, pairs_of};
-use hsms_joined::Gathered;
+use capture_log::{Pair, pairs_of};
+use capture_midstream::BufferedPacket;
+use capture_pcap::Segment;
 use hsms_machine::Settings;
-use hsms_packets::Segment;
 use std::alloc::{AllocError, Global};
 use std::net::IpAddr;
 
@@ -89,7 +89,7 @@ impl Unjudged {
 
     /// Records a session that was running before the capture, of which these packets are kept and no beginning is sure. It
     /// is one of other devices if packets are data of other devices, and none is data of this one.
-    pub fn give_up(&mut self, alloc: Global, packets: &[Gathered]) -> Result<(), AllocError>
+    pub fn give_up(&mut self, alloc: Global, packets: &[BufferedPacket]) -> Result<(), AllocError>
         ensures { OnOk result (GivesUp packets.now self.old self.new) }
     {
         let mut devices = Vec::new(alloc);

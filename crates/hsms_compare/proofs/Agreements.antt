@@ -73,8 +73,8 @@ one_step log other i j is_stuck a b e le le' d ra rb in_log in_other =
           omega arith
     ]
 
-pub meets : (host equipment : List Entry) (i j : ℕ) → i ≤ length host → j ≤ length equipment → Agree (take i host) (take j equipment) → IsStuck host i (take j equipment) → IsStuck equipment j (take i host) → AgreeUpTo host equipment i j
-meets host equipment i j within_host within_equipment agree host_stuck equipment_stuck = record {
+pub encounters : (host equipment : List Entry) (i j : ℕ) → i ≤ length host → j ≤ length equipment → Agree (take i host) (take j equipment) → IsStuck host i (take j equipment) → IsStuck equipment j (take i host) → AgreeUpTo host equipment i j
+encounters host equipment i j within_host within_equipment agree host_stuck equipment_stuck = record {
   within_host = within_host;
   within_equipment = within_equipment;
   agree = agree;
@@ -110,7 +110,7 @@ merged host equipment i j n merge ours theirs within_host within_equipment s e h
     let P : List Entry → Type 0 = λ x. Agree x (entries (numbered 0 (take i host))) in
     let Q : List Entry → Type 0 = λ x. Agree (take j equipment) x in
     let agree : Agree (take j equipment) (take i host) = subst Q (entries-numbered 0 (take i host)) (subst P (entries-numbered 0 (take j equipment)) s.agree) in
-    meets host equipment i j within_host within_equipment (agree-swap (take j equipment) (take i host) agree)
+    encounters host equipment i j within_host within_equipment (agree-swap (take j equipment) (take i host) agree)
     (stuck host i (take j equipment) ours (stops_as host equipment i j n ours e h)) (stuck equipment j (take i host) theirs h')
 
 -- how many frames are lost

@@ -66,14 +66,14 @@ from_connection-add zero m log = ap (λ n. from_connection n log) (let e : 0 + m
 from_connection-add (suc k) m log = ap (λ n. from_connection n log) (let e : suc k + m ≡ suc (k + m) = omega arith in e) ∙ from_connection-add k m (later_connections log)
 
 -- what is left of both logs, after k connections that agree
-pub record HasGone (host equipment host_left equipment_left : List Entry) : Type 0 where
+pub record HasConsumed (host equipment host_left equipment_left : List Entry) : Type 0 where
   pub k : ℕ
   pub before : CanAgreeBefore k host equipment
   pub at_host : host_left ≡ from_connection k host
   pub at_equipment : equipment_left ≡ from_connection k equipment
 
-pub none_gone : (host equipment : List Entry) → HasGone host equipment host equipment
-none_gone host equipment = record { k = 0; before = λ m lt. absurd (omega arith); at_host = refl; at_equipment = refl }
+pub none_consumed : (host equipment : List Entry) → HasConsumed host equipment host equipment
+none_consumed host equipment = record { k = 0; before = λ m lt. absurd (omega arith); at_host = refl; at_equipment = refl }
 
 can_agree_as : (a a' b b' : Bool) (x x' y y' : List Entry) → a ≡ a' → b ≡ b' → x ≡ x' → y ≡ y' → CanAgree a b x y → CanAgree a' b' x' y'
 can_agree_as a a' b b' x x' y y' e f g h c =
@@ -102,8 +102,8 @@ open_first left part rest may_go_on s =
     s.open_so ∙ ap (λ x. (length x == 0) && is_open part) s.rest_so
     ∙ ap (λ x. (length (later_connections left) == 0) && is_open x) s.part_so
 
-pub one_gone : (host equipment host_left equipment_left host_part equipment_part host_rest equipment_rest : List Entry) (host_open equipment_open : Bool) → HasGone host equipment host_left equipment_left → IsSplit host_left host_part host_rest host_open → IsSplit equipment_left equipment_part equipment_rest equipment_open → CanAgree host_open equipment_open host_part equipment_part → HasGone host equipment host_rest equipment_rest
-one_gone host equipment host_left equipment_left host_part equipment_part host_rest equipment_rest host_open equipment_open g s t agree =
+pub one_consumed : (host equipment host_left equipment_left host_part equipment_part host_rest equipment_rest : List Entry) (host_open equipment_open : Bool) → HasConsumed host equipment host_left equipment_left → IsSplit host_left host_part host_rest host_open → IsSplit equipment_left equipment_part equipment_rest equipment_open → CanAgree host_open equipment_open host_part equipment_part → HasConsumed host equipment host_rest equipment_rest
+one_consumed host equipment host_left equipment_left host_part equipment_part host_rest equipment_rest host_open equipment_open g s t agree =
     let here : CanAgreeFirst host_left equipment_left =
     can_agree_as host_open (is_open_first host_left) equipment_open (is_open_first equipment_left) host_part (first_connection host_left) equipment_part (first_connection equipment_left)
     (open_first host_left host_part host_rest host_open s) (open_first equipment_left equipment_part equipment_rest equipment_open t) s.part_so t.part_so agree in
@@ -132,8 +132,8 @@ no_entries log left k m at none le some =
     let e = ap length (empty_after log left k m at (nil_from_length left none) le) in
     omega arith
 
-pub all_gone : (host equipment host_left equipment_left : List Entry) → HasGone host equipment host_left equipment_left → (length host_left ≡ 0) ⊎ (length equipment_left ≡ 0) → CanAgreeThroughout host equipment
-all_gone host equipment host_left equipment_left g none m some some_too =
+pub all_consumed : (host equipment host_left equipment_left : List Entry) → HasConsumed host equipment host_left equipment_left → (length host_left ≡ 0) ⊎ (length equipment_left ≡ 0) → CanAgreeThroughout host equipment
+all_consumed host equipment host_left equipment_left g none m some some_too =
     elim (cases_lt m g.k) [
       | inl l ↦ g.before m l
       | inr ge ↦ elim none [
@@ -165,7 +165,7 @@ after_position log left b =
     let w = b.within in
     ap (λ n. drop n log) (let e : length log - length left ≡ b.position = omega arith in e) ∙ sym b.left_so
 
-pub is_first_in : (host equipment host_left equipment_left host_part equipment_part host_rest equipment_rest : List Entry) (host_open equipment_open : Bool) (found : Contradiction) → HasGone host equipment host_left equipment_left → IsAfter host host_left → IsAfter equipment equipment_left → IsSplit host_left host_part host_rest host_open → IsSplit equipment_left equipment_part equipment_rest equipment_open → FirstContradiction host_open equipment_open host_part equipment_part (Some found) → IsFirstIn host equipment (record { host = length host - length host_left; equipment = length equipment - length equipment_left; contradiction = found })
+pub is_first_in : (host equipment host_left equipment_left host_part equipment_part host_rest equipment_rest : List Entry) (host_open equipment_open : Bool) (found : Contradiction) → HasConsumed host equipment host_left equipment_left → IsAfter host host_left → IsAfter equipment equipment_left → IsSplit host_left host_part host_rest host_open → IsSplit equipment_left equipment_part equipment_rest equipment_open → FirstContradiction host_open equipment_open host_part equipment_part (Some found) → IsFirstIn host equipment (record { host = length host - length host_left; equipment = length equipment - length equipment_left; contradiction = found })
 is_first_in host equipment host_left equipment_left host_part equipment_part host_rest equipment_rest host_open equipment_open found g b b' s t first =
     record {
       k = g.k;

@@ -19,7 +19,7 @@ use Rattle.hsms_compare.specs.Conversation.{Agree, Line, entries, sent, received
 use Rattle.hsms_compare.specs.Agreement.{ReceivesAs, SendsAs}
 use Rattle.hsms_compare.specs.Merge.{IsMergeOf, line_at}
 use Rattle.hsms_compare.specs.LineStops.{AreLineStops, IsLineStop, IsOffered, IsRead, line_of, pending}
-use Rattle.hsms_compare.proofs.Agreements.{IsStuck, is_merge-swap, meets, stuck}
+use Rattle.hsms_compare.proofs.Agreements.{IsStuck, is_merge-swap, encounters, stuck}
 
 -- what is known between two lines
 pub record HasRead (host equipment : List Line) (merge : Merge) (host_next equipment_next : Option NumberedEntry) (left_host left_equipment : List Line) : Type 0 where
@@ -158,7 +158,7 @@ line_stops_so host equipment merge host_next equipment_next left left' host_stop
     let Q : List Entry → Type 0 = λ x. Agree (take (length h.own) (entries host)) x in (
       length h.own,
       length h.other,
-      meets (entries host) (entries equipment) (length h.own) (length h.other)
+      encounters (entries host) (entries equipment) (length h.own) (length h.other)
           (let l = length-entries host in let m = ap length h.host_so in let n = length-append h.own h.rest in omega arith)
           (let l = length-entries equipment in let m = ap length h.equipment_so in let n = length-append h.other h.rest_too in omega arith)
           (subst Q (sym (prefix_of equipment h.other h.rest_too h.equipment_so)) (subst P (sym (prefix_of host h.own h.rest h.host_so)) h.merged.agree))

@@ -56,20 +56,20 @@ coming-more sender receiver line old arrived new f split here = record {
       ∙ ap (λ x. received (entries receiver) ++ x) here ∙ sym (received-more (entries receiver) line.entry) ∙ ap received (sym (entries-more receiver line));
 }
 
-going-more : (sender receiver : List Line) (line : Line) (old new : List SentFrame) → AreInFlight sender receiver old → new ≡ old ++ sent_frames_by line → AreInFlight (sender ++ line ∷ []) receiver new
-going-more sender receiver line old new f grown = record {
+outbound-more : (sender receiver : List Line) (line : Line) (old new : List SentFrame) → AreInFlight sender receiver old → new ≡ old ++ sent_frames_by line → AreInFlight (sender ++ line ∷ []) receiver new
+outbound-more sender receiver line old new f grown = record {
   arrived = f.arrived;
   all = sent_frames_of-more sender line ∙ ap (λ x. x ++ sent_frames_by line) f.all
       ∙ append_assoc f.arrived old (sent_frames_by line) ∙ ap (λ x. f.arrived ++ x) (sym grown);
   received_so = f.received_so;
 }
 
-pub between-swap : (coming going : List SentFrame) (a b : List Line) → AreMerged coming going a b → AreMerged going coming b a
-between-swap coming going a b s = record { agree = agree-swap (entries a) (entries b) s.agree; coming = s.going; going = s.coming }
+pub between-swap : (coming outbound : List SentFrame) (a b : List Line) → AreMerged coming outbound a b → AreMerged outbound coming b a
+between-swap coming outbound a b s = record { agree = agree-swap (entries a) (entries b) s.agree; coming = s.outbound; outbound = s.coming }
 
 -- a line that is delivered leaves two logs that agree
-goes : (coming going : List SentFrame) (own other : List Line) (line : Line) (coming' going' : List SentFrame) → AreMerged coming going own other → IsStep coming going line Merged coming' going' → AreMerged coming' going' (own ++ line ∷ []) other
-goes coming going own other line coming' going' s f =
+proceeds : (coming outbound : List SentFrame) (own other : List Line) (line : Line) (coming' outbound' : List SentFrame) → AreMerged coming outbound own other → IsStep coming outbound line Merged coming' outbound' → AreMerged coming' outbound' (own ++ line ∷ []) other
+proceeds coming outbound own other line coming' outbound' s f =
     let c : AreInFlight other (own ++ line ∷ []) coming' = coming-more other own line coming f.0 coming' s.coming f.1 f.2 in
     let e : entries (own ++ line ∷ []) ≡ entries own ++ line.entry ∷ [] = entries-more own line in
     let P : List Entry → Type 0 = λ x. Agree x (entries other) in
@@ -77,7 +77,7 @@ goes coming going own other line coming' going' s f =
       agree = subst P (sym e) (agree-host (entries own) (entries other) line.entry s.agree
           (frames_of coming', sent_so other (own ++ line ∷ []) coming' c ∙ ap (λ x. received x ++ frames_of coming') e));
       coming = c;
-      going = going-more own other line going going' s.going f.3;
+      outbound = outbound-more own other line outbound outbound' s.outbound f.3;
     }
 
 -- ---- where a frame in flight was sent
@@ -138,13 +138,13 @@ found (first ∷ lines) prefix position frame later e =
 
 -- ---- the result of adding a line
 
-waits : (coming going : List SentFrame) (own other : List Line) → AreMerged coming going own other → coming ≡ [] → sent (entries other) ≡ received (entries own)
-waits coming going own other s none =
+waits : (coming outbound : List SentFrame) (own other : List Line) → AreMerged coming outbound own other → coming ≡ [] → sent (entries other) ≡ received (entries own)
+waits coming outbound own other s none =
     sent_so other own coming s.coming ∙ ap (λ x. received (entries own) ++ frames_of x) none ∙ append-nil (received (entries own))
 
-differs : (coming going : List SentFrame) (own other : List Line) (position : ℕ) (another : Frame) (later : List SentFrame) → AreMerged coming going own other → coming ≡ sent_frame position another ∷ later
+differs : (coming outbound : List SentFrame) (own other : List Line) (position : ℕ) (another : Frame) (later : List SentFrame) → AreMerged coming outbound own other → coming ≡ sent_frame position another ∷ later
     → (k : ℕ) × ((line_at other k).position ≡ position) × SendsAs (entries other) k another (length (received (entries own)))
-differs coming going own other position another later s first =
+differs coming outbound own other position another later s first =
     let g : LineFound other position another (length s.coming.arrived) = found other s.coming.arrived position another later (s.coming.all ∙ ap (λ x. s.coming.arrived ++ x) first) in
     let n : length s.coming.arrived ≡ length (received (entries own)) = sym (length-map s.coming.arrived (λ (one : SentFrame). one.frame)) ∙ ap length s.coming.received_so in
     let P : ℕ → Type 0 = λ m. SendsAs (entries other) g.at another m in
@@ -155,7 +155,7 @@ same_merge a b e f =
     ap (λ (x : List SentFrame). record a { to_host = x }) e ∙ ap (λ (x : List SentFrame). record b { to_equipment = x }) f
 
 pub merged_host : (old new : Merge) (own other : List Line) (line : Line) (answer : MergeResult) → IsMergeOf Host old own other → IsStep old.to_host old.to_equipment line answer new.to_host new.to_equipment → IsMergeStep own other Host line old answer new
-merged_host old new own other line Merged s f = goes old.to_host old.to_equipment own other line new.to_host new.to_equipment s f
+merged_host old new own other line Merged s f = proceeds old.to_host old.to_equipment own other line new.to_host new.to_equipment s f
 merged_host old new own other line NoneInFlight s f =
     (f.0, f.1, waits old.to_host old.to_equipment own other s f.2, same_merge new old f.3 f.4)
 merged_host old new own other line (OtherInFlight position) s f =
@@ -163,7 +163,7 @@ merged_host old new own other line (OtherInFlight position) s f =
     (f.0, f.1, d.0, f.3, d.1, d.2, f.5, same_merge new old f.6 f.7)
 
 pub merged_equipment : (old new : Merge) (own other : List Line) (line : Line) (answer : MergeResult) → IsMergeOf Equipment old own other → IsStep old.to_equipment old.to_host line answer new.to_equipment new.to_host → IsMergeStep own other Equipment line old answer new
-merged_equipment old new own other line Merged s f = goes old.to_equipment old.to_host own other line new.to_equipment new.to_host s f
+merged_equipment old new own other line Merged s f = proceeds old.to_equipment old.to_host own other line new.to_equipment new.to_host s f
 merged_equipment old new own other line NoneInFlight s f =
     (f.0, f.1, waits old.to_equipment old.to_host own other s f.2, same_merge new old f.4 f.3)
 merged_equipment old new own other line (OtherInFlight position) s f =
@@ -186,11 +186,11 @@ takes_equipment (Ok answer) old new line end is f =
 
 -- ---- the result of a receipt
 
-pub receives : (coming going : List SentFrame) (line : Line) (frame : Frame) (answer : MergeResult) (coming' : List SentFrame) → received_by line.entry.event ≡ frame ∷ [] → sent_by line.entry.event ≡ [] → Receives coming frame answer coming' → IsStep coming going line answer coming' going
-receives coming going line frame Merged coming' is silent r =
-    (sent_frame r.0 frame ∷ [], r.1, sym is, sym (ap (λ x. going ++ map (sent_frame line.position) x) silent ∙ append-nil going))
-receives coming going line frame NoneInFlight coming' is silent r = (frame, is, r.0, r.1, refl)
-receives coming going line frame (OtherInFlight position) coming' is silent r = (frame, r.0, r.1, is, r.2, r.3, r.4, refl)
+pub receives : (coming outbound : List SentFrame) (line : Line) (frame : Frame) (answer : MergeResult) (coming' : List SentFrame) → received_by line.entry.event ≡ frame ∷ [] → sent_by line.entry.event ≡ [] → Receives coming frame answer coming' → IsStep coming outbound line answer coming' outbound
+receives coming outbound line frame Merged coming' is silent r =
+    (sent_frame r.0 frame ∷ [], r.1, sym is, sym (ap (λ x. outbound ++ map (sent_frame line.position) x) silent ∙ append-nil outbound))
+receives coming outbound line frame NoneInFlight coming' is silent r = (frame, is, r.0, r.1, refl)
+receives coming outbound line frame (OtherInFlight position) coming' is silent r = (frame, r.0, r.1, is, r.2, r.3, r.4, refl)
 
 -- ---- what is in flight
 

@@ -35,8 +35,8 @@ module _ (end : Role) (log other : List Entry) (i : ℕ) (there : i < length log
   at : x ≡ entry_at log i
   at = get_or_read log i x there x_is (record { time = 0; event = Up })
 
-  pub goes_on : IsMergeStep (numbered 0 (take i log)) (numbered 0 other) end (record { position = i; entry = x }) old Merged new → IsMergeOf end new (numbered 0 (take (i + 1) log)) (numbered 0 other)
-  goes_on h =
+  pub can_continue : IsMergeStep (numbered 0 (take i log)) (numbered 0 other) end (record { position = i; entry = x }) old Merged new → IsMergeOf end new (numbered 0 (take (i + 1) log)) (numbered 0 other)
+  can_continue h =
       let n : length (take i log) ≡ i = length-take-le i log (omega arith) in
       let e : numbered 0 (take (i + 1) log) ≡ numbered 0 (take i log) ++ record { position = i; entry = x } ∷ [] =
       ap (λ t. numbered 0 t) (take_more log i (record { time = 0; event = Up }) there)

@@ -14,7 +14,7 @@ use Rattle.hsms_compare.specs.declared.contradiction.Contradiction.{Contradictio
 use Rattle.hsms_compare.specs.declared.contradiction.Contradiction.TheVariants.{Differs, Unsent, Order}
 use Rattle.hsms_compare.specs.Conversation.{Agree, IsDelivered, IsPrefix, sent, received}
 use Rattle.hsms_compare.specs.Agreement.{AgreeUpTo, CanAgree, Contradicts, FirstContradiction, IsDifferent, IsUnsent, MayHave, ReceivesAs, StopsAt}
-use Rattle.hsms_compare.proofs.Agreements.{IsStuck, meets, stuck}
+use Rattle.hsms_compare.proofs.Agreements.{IsStuck, encounters, stuck}
 use Rattle.hsms_compare.proofs.Finals.{receives-more, sends-more}
 use Rattle.hsms_compare.proofs.Histories.{agree-delivered, agree-host, agree-many, agree-swap, delivered-as, delivered-prefix, received-append, sent-append}
 
@@ -69,7 +69,7 @@ both_stuck host equipment more rest i j u lt lt' g =
     let t : IsStuck (equipment ++ rest) j (take i (host ++ more)) =
     subst Q (sym te) (stuck-more equipment rest j (take i host) lt' (stuck_host equipment host j i (agree_up_to-swap host equipment i j u))) in
     let up : AgreeUpTo (host ++ more) (equipment ++ rest) i j =
-    meets (host ++ more) (equipment ++ rest) i j (omega arith) (omega arith)
+    encounters (host ++ more) (equipment ++ rest) i j (omega arith) (omega arith)
     (agree_as (take i host) (take i (host ++ more)) (take j equipment) (take j (equipment ++ rest)) (sym te) (sym tf) u.agree) s t in
     let all = agree_as (host ++ more) (take (length (host ++ more)) (host ++ more)) (equipment ++ rest) (take (length (equipment ++ rest)) (equipment ++ rest))
     (sym (take_all (length (host ++ more)) (host ++ more) (omega arith))) (sym (take_all (length (equipment ++ rest)) (equipment ++ rest) (omega arith))) g in

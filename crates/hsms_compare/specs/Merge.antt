@@ -38,7 +38,7 @@ pub record AreInFlight (sender receiver : List Line) (flight : List SentFrame) :
 pub record AreMerged (incoming outgoing : List SentFrame) (own other : List Line) : Type 0 where
   pub agree : Agree (entries own) (entries other)
   pub coming : AreInFlight other own incoming
-  pub going : AreInFlight own other outgoing
+  pub outbound : AreInFlight own other outgoing
 
 -- ---- a merge
 
@@ -75,12 +75,12 @@ Receives old frame (OtherInFlight position) new =
 
 -- What the next line changes of what is in flight. It receives the first frame or none, and sends what it sends; or it
 -- receives a frame and none is in flight, or another one is the first.
-abbrev pub IsStep : (coming going : List SentFrame) → Line → MergeResult → (coming' going' : List SentFrame) → Type 0
-IsStep coming going line Merged coming' going' =
+abbrev pub IsStep : (coming outbound : List SentFrame) → Line → MergeResult → (coming' outbound' : List SentFrame) → Type 0
+IsStep coming outbound line Merged coming' outbound' =
     (arrived : List SentFrame) × (coming ≡ arrived ++ coming') × (frames_of arrived ≡ received_by line.entry.event)
-    × (going' ≡ going ++ sent_frames_by line)
-IsStep coming going line NoneInFlight coming' going' =
-    (frame : Frame) × (received_by line.entry.event ≡ frame ∷ []) × (coming ≡ []) × (coming' ≡ coming) × (going' ≡ going)
-IsStep coming going line (OtherInFlight position) coming' going' =
+    × (outbound' ≡ outbound ++ sent_frames_by line)
+IsStep coming outbound line NoneInFlight coming' outbound' =
+    (frame : Frame) × (received_by line.entry.event ≡ frame ∷ []) × (coming ≡ []) × (coming' ≡ coming) × (outbound' ≡ outbound)
+IsStep coming outbound line (OtherInFlight position) coming' outbound' =
     (frame : Frame) × (another : Frame) × (later : List SentFrame) × (received_by line.entry.event ≡ frame ∷ [])
-    × (coming ≡ sent_frame position another ∷ later) × (another ≢ frame) × (coming' ≡ coming) × (going' ≡ going)
+    × (coming ≡ sent_frame position another ∷ later) × (another ≢ frame) × (coming' ≡ coming) × (outbound' ≡ outbound)

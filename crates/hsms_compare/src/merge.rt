@@ -88,19 +88,19 @@ impl Merge {
     fn step(
         alloc: Global,
         coming: &mut Channel,
-        going: &mut Channel,
+        outbound: &mut Channel,
         position: u64,
         entry: &Entry,
     ) -> Result<MergeResult, AllocError>
         ensures follows { IfOk result (λ answer.
-            IsStep coming.old going.old (record { position = position; entry = entry.now })
-            answer coming.new going.new) }
+            IsStep coming.old outbound.old (record { position = position; entry = entry.now })
+            answer coming.new outbound.new) }
         ensures err { OnErr result (coming.new ≡ coming.old) }
-        ensures err_going { OnErr result (going.new ≡ going.old) }
+        ensures err_outbound { OnErr result (outbound.new ≡ outbound.old) }
     {
         match &entry.event {
             Event::Sent(frame) => {
-                going.send(alloc, position, frame)?;
+                outbound.send(alloc, position, frame)?;
                 Ok(MergeResult::Merged)
             }
             Event::Taken(frame) => Ok(coming.receive(frame)),

@@ -8,10 +8,10 @@ use Rattle.hsms_machine.specs.declared.entry.Event.{Event}
 use Rattle.hsms_machine.specs.declared.entry.Event.TheVariants.{Up, Sent, Taken, Discarded, T3, Cut, Down}
 use Rattle.hsms_machine.specs.declared.settings.Role.{Role}
 use Rattle.hsms_machine.specs.declared.settings.Role.TheVariants.{Host, Equipment}
-use Rattle.hsms_entity.specs.EndState.{EndState}
-use Rattle.hsms_entity.specs.Turn.{Told}
-use Rattle.hsms_entity.specs.Drive.{Responds, is_refused, is_accepted, octets_told, octets_received, octets_in, octets_of as octets_of_input}
-use Rattle.hsms_entity.proofs.Kept.{turn_keeps_octets}
+use Rattle.hsms_endpoint.specs.EndState.{EndState}
+use Rattle.hsms_endpoint.specs.Turn.{InputEvent}
+use Rattle.hsms_endpoint.specs.Drive.{Responds, is_refused, is_accepted, input_octets, octets_received, octets_in, octets_of as octets_of_input}
+use Rattle.hsms_endpoint.proofs.KeptRequests.{turn_keeps_octets}
 use Rattle.hsms_compare.specs.Conversation.{Agree, received, received_by}
 use Rattle.hsms_compare.specs.ByteStreams.{Turn, AtHost, AtEquipment, AreStreamed, IsStreamed, host_log, equipment_log, octets_of, CarriesMessages}
 use Rattle.hsms_compare.proofs.Histories.{agree-empty, received-append}
@@ -40,26 +40,26 @@ same_octets (entry ∷ log) =
 IsKept : OwnEnd → Type 0
 IsKept own = own.delivered ≡ octets_of (received own.log) ++ own.state.pending
 
-input_keeps : (desk : Desk) (end : EndState) (input : Told) (accepted : List Told) (entries : List Entry) (end' : EndState) → Responds desk end input accepted entries end' → end.pending ++ octets_told accepted ≡ octets_of (received entries) ++ end'.pending
-input_keeps desk end input accepted entries end' (is_refused fault meets none silent same) =
-    ap (λ x. end.pending ++ octets_told x) none ∙ append-nil end.pending ∙ ap (λ (x : EndState). x.pending) (sym same)
+input_keeps : (desk : Desk) (end : EndState) (input : InputEvent) (accepted : List InputEvent) (entries : List Entry) (end' : EndState) → Responds desk end input accepted entries end' → end.pending ++ input_octets accepted ≡ octets_of (received entries) ++ end'.pending
+input_keeps desk end input accepted entries end' (is_refused fault encounters none silent same) =
+    ap (λ x. end.pending ++ input_octets x) none ∙ append-nil end.pending ∙ ap (λ (x : EndState). x.pending) (sym same)
     ∙ ap (λ x. octets_of (received x) ++ end'.pending) (sym silent)
-input_keeps desk end input accepted entries end' (is_accepted meets turn one) =
-    ap (λ x. end.pending ++ octets_told x) one ∙ ap (λ x. end.pending ++ x) (append-nil (octets_of_input input))
+input_keeps desk end input accepted entries end' (is_accepted encounters turn one) =
+    ap (λ x. end.pending ++ input_octets x) one ∙ ap (λ x. end.pending ++ x) (append-nil (octets_of_input input))
     ∙ turn_keeps_octets desk end input entries end' turn ∙ ap (λ x. x ++ end'.pending) (same_octets entries)
 
-kept_on : (desk : Desk) (own other : OwnEnd) (input : Told) (next : OwnEnd) → IsKept own → IsTurn desk own other input next → IsKept next
+kept_on : (desk : Desk) (own other : OwnEnd) (input : InputEvent) (next : OwnEnd) → IsKept own → IsTurn desk own other input next → IsKept next
 unfolding IsKept
 kept_on desk own other input next kept t =
-    t.octets ∙ ap (λ x. x ++ octets_told t.accepted) kept
-    ∙ append_assoc (octets_of (received own.log)) own.state.pending (octets_told t.accepted)
+    t.octets ∙ ap (λ x. x ++ input_octets t.accepted) kept
+    ∙ append_assoc (octets_of (received own.log)) own.state.pending (input_octets t.accepted)
     ∙ ap (λ x. octets_of (received own.log) ++ x) (input_keeps desk own.state input t.accepted t.entries next.state t.responds)
     ∙ sym (append_assoc (octets_of (received own.log)) (octets_of (received t.entries)) next.state.pending)
     ∙ ap (λ x. x ++ next.state.pending) (sym (octets_of-append (received own.log) (received t.entries)))
     ∙ ap (λ x. octets_of x ++ next.state.pending) (sym (received-append own.log t.entries))
     ∙ ap (λ x. octets_of (received x) ++ next.state.pending) (sym t.logged)
 
-streamed_turn : (desk : Desk) (own other : OwnEnd) (input : Told) (next : OwnEnd) → IsKept own → (t : IsTurn desk own other input next) → IsStreamed other.log (own.log ++ t.entries) (own.delivered ++ octets_told t.accepted)
+streamed_turn : (desk : Desk) (own other : OwnEnd) (input : InputEvent) (next : OwnEnd) → IsKept own → (t : IsTurn desk own other input next) → IsStreamed other.log (own.log ++ t.entries) (own.delivered ++ input_octets t.accepted)
 unfolding IsKept
 streamed_turn desk own other input next kept t = (
   next.state.pending,
@@ -83,7 +83,7 @@ streamed_as turns a a' b b' m m' n n' e f g k h =
     let S : List ℕ → Type 0 = λ x. AreStreamed a' b' m' x turns in
     subst S k (subst R g (subst Q f (subst P e h)))
 
-turns_of : (at_host at_equipment : Desk) (host equipment : OwnEnd) (inputs : List (Role × Told)) (host' equipment' : OwnEnd) → IsKept host → IsKept equipment → AreTurns at_host at_equipment host equipment inputs host' equipment' → Turns host equipment host' equipment'
+turns_of : (at_host at_equipment : Desk) (host equipment : OwnEnd) (inputs : List (Role × InputEvent)) (host' equipment' : OwnEnd) → IsKept host → IsKept equipment → AreTurns at_host at_equipment host equipment inputs host' equipment' → Turns host equipment host' equipment'
 unfolding IsKept
 turns_of at_host at_equipment host equipment [] host' equipment' kept kept_too (same, same_too) = record {
   turns = [];
@@ -94,10 +94,10 @@ turns_of at_host at_equipment host equipment [] host' equipment' kept kept_too (
 turns_of at_host at_equipment host equipment ((Host, input) ∷ inputs) host' equipment' kept kept_too (next, t, more) =
     let rest : Turns next equipment host' equipment' = turns_of at_host at_equipment next equipment inputs host' equipment' (kept_on at_host host equipment input next kept t) kept_too more in
     record {
-      turns = AtHost (octets_told t.accepted) t.entries ∷ rest.turns;
+      turns = AtHost (input_octets t.accepted) t.entries ∷ rest.turns;
       streamed = (
         streamed_turn at_host host equipment input next kept t,
-        streamed_as rest.turns next.log (host.log ++ t.entries) equipment.log equipment.log next.delivered (host.delivered ++ octets_told t.accepted) equipment.delivered equipment.delivered t.logged refl t.octets refl rest.streamed,
+        streamed_as rest.turns next.log (host.log ++ t.entries) equipment.log equipment.log next.delivered (host.delivered ++ input_octets t.accepted) equipment.delivered equipment.delivered t.logged refl t.octets refl rest.streamed,
       );
       at_host = rest.at_host ∙ ap (λ x. x ++ host_log rest.turns) t.logged ∙ append_assoc host.log t.entries (host_log rest.turns);
       at_equipment = rest.at_equipment;
@@ -105,10 +105,10 @@ turns_of at_host at_equipment host equipment ((Host, input) ∷ inputs) host' eq
 turns_of at_host at_equipment host equipment ((Equipment, input) ∷ inputs) host' equipment' kept kept_too (next, t, more) =
     let rest : Turns host next host' equipment' = turns_of at_host at_equipment host next inputs host' equipment' kept (kept_on at_equipment equipment host input next kept_too t) more in
     record {
-      turns = AtEquipment (octets_told t.accepted) t.entries ∷ rest.turns;
+      turns = AtEquipment (input_octets t.accepted) t.entries ∷ rest.turns;
       streamed = (
         streamed_turn at_equipment equipment host input next kept_too t,
-        streamed_as rest.turns host.log host.log next.log (equipment.log ++ t.entries) host.delivered host.delivered next.delivered (equipment.delivered ++ octets_told t.accepted) refl t.logged refl t.octets rest.streamed,
+        streamed_as rest.turns host.log host.log next.log (equipment.log ++ t.entries) host.delivered host.delivered next.delivered (equipment.delivered ++ input_octets t.accepted) refl t.logged refl t.octets rest.streamed,
       );
       at_host = rest.at_host;
       at_equipment = rest.at_equipment ∙ ap (λ x. x ++ equipment_log rest.turns) t.logged ∙ append_assoc equipment.log t.entries (equipment_log rest.turns);

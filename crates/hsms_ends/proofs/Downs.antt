@@ -9,7 +9,7 @@ use Rattle.hsms_machine.specs.Settings.{Parameters}
 use Rattle.hsms_machine.specs.Entry.{entry_at, is_down, connection_of}
 use Rattle.hsms_machine.specs.Run.{IsRun}
 use Rattle.hsms_machine.specs.View.{HasView, phase_of}
-use Rattle.hsms_machine.specs.Step.{is_gone, phase_after}
+use Rattle.hsms_machine.specs.ViewRules.{is_gone, phase_after}
 use Rattle.hsms_machine.specs.declared.view.View.{View}
 use Rattle.hsms_ends.specs.Serving.{ends_down}
 use Rattle.hsms_machine.proofs.ViewsOfRuns.{follows_to, follows_from}

@@ -4,27 +4,27 @@ use Rattle.std.specs.Prelude.{Option, Result, All}
 use Rattle.std.proofs.lemmas.List.{append-nil}
 use Rattle.std.proofs.lemmas.List.Elements.{All-append}
 use Rattle.secs_text.specs.Content.{Content}
-use Rattle.hsms_frame.specs.Device.{SinkState}
+use Rattle.hsms_frame.specs.Io.{SinkState}
 use Rattle.hsms_machine.specs.declared.entry.Entry.{Entry}
-use Rattle.hsms_machine.specs.Step.{is_gone}
-use Rattle.hsms_log.specs.Spelling.{IsEntry}
-use Rattle.hsms_entity.specs.Answer.{Answered}
-use Rattle.hsms_entity.specs.EndState.{EndOf, EndState}
-use Rattle.hsms_entity.specs.Turn.{lost}
-use Rattle.hsms_entity.specs.End.{Accepts}
+use Rattle.hsms_machine.specs.ViewRules.{is_gone}
+use Rattle.hsms_log.specs.LineFormat.{IsEntry}
+use Rattle.hsms_endpoint.specs.Answer.{Answered}
+use Rattle.hsms_endpoint.specs.EndState.{EndOf, EndState}
+use Rattle.hsms_endpoint.specs.Turn.{lost}
+use Rattle.hsms_endpoint.specs.End.{Accepts}
 use Rattle.hsms_ends.specs.declared.step.Step.{Step}
 use Rattle.hsms_ends.specs.declared.output.Stop.{Stop}
 use Rattle.hsms_ends.specs.declared.output.Stop.TheVariants.{Link, Log, Memory}
 use Rattle.hsms_ends.specs.declared.serving.ServedScript.{ServedScript}
 use Rattle.hsms_ends.specs.declared.fault.ServeFault.{ServeFault}
 use Rattle.hsms_ends.specs.declared.fault.ServeFault.TheVariants as serve
-use Rattle.hsms_ends.specs.Link.{Told, Heard, Hears}
-use Rattle.hsms_ends.specs.PutOut.{GrowsByPart, LogGrows, IsEnding, sent_octets, log_lines}
-use Rattle.hsms_ends.specs.Turning.{has_gone}
-use Rattle.hsms_ends.specs.Serving.{Story, Unopened, Unstarted, Started, IsStory, IsLost, IsStarted, has_lost, lost_entries, last_lost, last_call, entries_of, heard_of, turns_begun, MayHaveFailed}
-use Rattle.hsms_ends.specs.Outcome.{Ran, ClosedAs, IsLeft, ClosedLink, RestClosed, StoppedAs, AnswersEnd, HoldsLines, ServesEnd}
-use Rattle.hsms_ends.proofs.Puttings.{lines-append, sent-append, part_of_first, log_then, stops_then, grows_along, whole_is}
-use Rattle.hsms_ends.proofs.Yielding.{ending_none}
+use Rattle.hsms_ends.specs.Link.{LinkState, LinkInput, ProcessesInput}
+use Rattle.hsms_ends.specs.Output.{GrowsByPart, LogGrows, IsEnding, sent_octets, log_lines}
+use Rattle.hsms_ends.specs.Turns.{has_gone}
+use Rattle.hsms_ends.specs.Serving.{Story, Unopened, Unstarted, Started, IsStory, IsLost, IsStarted, has_lost, lost_entries, last_lost, last_call, entries_of, reception_of, turns_begun, MayHaveFailed}
+use Rattle.hsms_ends.specs.ServeSteps.{Ran, ClosedAs, IsLeft, ClosedLink, RestClosed, StoppedAs, AnswersEnd, HoldsLines, ServesEnd}
+use Rattle.hsms_ends.proofs.OutputSteps.{lines-append, sent-append, part_of_first, log_then, stops_then, grows_along, whole_is}
+use Rattle.hsms_ends.proofs.TurnResults.{ending_none}
 use Rattle.hsms_ends.proofs.Downs.{gone_after}
 
 pub closed_by : {D : Type 0} (fault : ServeFault) (end : EndOf D) (entries : List Entry) (log log' : SinkState) → RestClosed fault log log' entries → has_gone end ≡ true → ClosedAs fault end (Some entries) log log'
@@ -90,15 +90,15 @@ pub record Extended {D : Type 0} (answers : D → ℕ → Content → Answered) 
   pub longer : Story
   pub is_story : IsStory answers pause new script longer end
   pub entries : entries_of story ++ lost_entries loss ≡ entries_of longer
-  pub heard : heard_of story ≡ heard_of longer
+  pub reception : reception_of story ≡ reception_of longer
   pub begun : turns_begun longer ≡ turns_begun story
   pub last : last_call longer ≡ last_lost loss (last_call story)
   pub started : IsStarted longer
 
 module _ {D : Type 0} (answers : D → ℕ → Content → Answered) where
   -- a loss that is accepted ends the connection
-  pub lost_goes : (end end' : EndOf D) (entries : List Entry) → Accepts answers end lost entries end' → has_gone end' ≡ true
-  lost_goes end end' entries h = ap (λ (k : EndState). is_gone k.view.phase) h.turn.2.1 ∙ gone_after end.known.view.phase
+  pub lost_finishes : (end end' : EndOf D) (entries : List Entry) → Accepts answers end lost entries end' → has_gone end' ≡ true
+  lost_finishes end end' entries h = ap (λ (k : EndState). is_gone k.view.phase) h.turn.2.1 ∙ gone_after end.known.view.phase
 
   pub left_itself : (fault : ServeFault) (end : EndOf D) → IsLeft (Err fault) end end
   left_itself serve.Link end = refl
@@ -107,7 +107,7 @@ module _ {D : Type 0} (answers : D → ℕ → Content → Answered) where
   left_itself serve.Memory end = tt
 
 module _ {D : Type 0} (answers : D → ℕ → Content → Answered) (pause : Option ℕ) where
-  pub end_ok : (served : ServedScript) (limit : ℕ) (new end : EndOf D) (script script' : List Step) (log log' : SinkState) (link link' : Told) (n m : ℕ)
+  pub end_ok : (served : ServedScript) (limit : ℕ) (new end : EndOf D) (script script' : List Step) (log log' : SinkState) (link link' : LinkState) (n m : ℕ)
       → Ran answers pause (Ok tt) limit new end script script' log log' link link' n m → has_gone end ≡ true → served.counts.entries ≡ n → served.counts.refused ≡ m → served.left ≡ length script'
       → ServesEnd answers pause new end script limit (Ok served) log log' link link'
   end_ok served limit new end script script' log log' link link' n m r gone entries refused steps = record {
@@ -122,7 +122,7 @@ module _ {D : Type 0} (answers : D → ℕ → Content → Answered) (pause : Op
     parted = r.puts.parted;
     rest_is_last = r.ends;
     log_holds = r.puts.logged;
-    hears = r.puts.hears;
+    processes_input = r.puts.processes_input;
     failed = false;
     took = r.puts.sent.0;
     failures = r.puts.sent.1;
@@ -132,7 +132,7 @@ module _ {D : Type 0} (answers : D → ℕ → Content → Answered) (pause : Op
     steps_left = omega (arith, steps, r.steps refl);
   }
 
-  pub end_turns : (limit : ℕ) (new end : EndOf D) (script script' : List Step) (log log' : SinkState) (link link' : Told) (n m : ℕ)
+  pub end_turns : (limit : ℕ) (new end : EndOf D) (script script' : List Step) (log log' : SinkState) (link link' : LinkState) (n m : ℕ)
       → Ran answers pause (Ok tt) limit new end script script' log log' link link' n m → has_gone end ≡ false
       → ServesEnd answers pause new end script limit (Err serve.Turns) log log' link link'
   end_turns limit new end script script' log log' link link' n m r up =
@@ -149,7 +149,7 @@ module _ {D : Type 0} (answers : D → ℕ → Content → Answered) (pause : Op
         parted = r.puts.parted;
         rest_is_last = r.ends;
         log_holds = r.puts.logged;
-        hears = r.puts.hears;
+        processes_input = r.puts.processes_input;
         failed = false;
         took = r.puts.sent.0;
         failures = r.puts.sent.1;
@@ -167,13 +167,13 @@ module _ {D : Type 0} (answers : D → ℕ → Content → Answered) (pause : Op
     longer = Started now entries turns cut loss;
     is_story = (is.0, is.1, is.2, is.3, is.4, is.5, is.6, let P : EndOf D → Type 0 = λ e. IsLost answers e loss end in subst P is.7 h);
     entries = simp (append_assoc, append-nil);
-    heard = refl;
+    reception = refl;
     begun = refl;
     last = refl;
     started = tt;
   }
 
-  ended_link : (fault : ServeFault) (limit : ℕ) (new end end_new : EndOf D) (script script' : List Step) (log mid log' : SinkState) (link link' : Told) (n m : ℕ)
+  ended_link : (fault : ServeFault) (limit : ℕ) (new end end_new : EndOf D) (script script' : List Step) (log mid log' : SinkState) (link link' : LinkState) (n m : ℕ)
       → Ran answers pause (Err Link) limit new end script script' log mid link link' n m → ClosedLink answers fault end end_new mid log'
       → ServesEnd answers pause new end_new script limit (Err fault) log log' link link'
   ended_link fault limit new end end_new script script' log mid log' link link' n m r h =
@@ -188,7 +188,7 @@ module _ {D : Type 0} (answers : D → ℕ → Content → Answered) (pause : Op
       let part : GrowsByPart link.taken link'.taken (sent_octets a ++ sent_octets late.whole) =
       part_of_first link.taken link'.taken (sent_octets a) (sent_octets late.whole) (subst T whole r.puts.sent.0) in
       let S : List ℕ → Type 0 = λ l. GrowsByPart link.taken link'.taken l in
-      let H : Heard → Type 0 = λ l. Hears link link' l in
+      let H : LinkInput → Type 0 = λ l. ProcessesInput link link' l in
       let R : List Entry → Type 0 = λ l. All IsEntry l in
       let E : List Entry → Type 0 = λ l. IsEnding late.rest l in
       let G : List ℕ → Type 0 = λ l. HoldsLines (Err fault) log log' l late.rest in
@@ -204,7 +204,7 @@ module _ {D : Type 0} (answers : D → ℕ → Content → Answered) (pause : Op
         parted = sym x.entries ∙ ap (λ l. a ++ l) late.parted ∙ sym (append_assoc a late.whole late.rest);
         rest_is_last = subst E (sym x.last) late.ends;
         log_holds = subst G (sym (lines-append a late.whole)) (holds_then (Err fault) log mid log' (log_lines a) (log_lines late.whole) late.rest logged late.holds);
-        hears = subst H x.heard r.puts.hears;
+        processes_input = subst H x.reception r.puts.processes_input;
         failed = true;
         took = subst S (sym (sent-append a late.whole)) part;
         failures = r.puts.sent.1;
@@ -214,7 +214,7 @@ module _ {D : Type 0} (answers : D → ℕ → Content → Answered) (pause : Op
         steps_left = tt;
       }
 
-  pub ended : (stop : Stop) (fault : ServeFault) (limit : ℕ) (new end end_new : EndOf D) (script script' : List Step) (log mid log' : SinkState) (link link' : Told) (n m : ℕ)
+  pub ended : (stop : Stop) (fault : ServeFault) (limit : ℕ) (new end end_new : EndOf D) (script script' : List Step) (log mid log' : SinkState) (link link' : LinkState) (n m : ℕ)
       → Ran answers pause (Err stop) limit new end script script' log mid link link' n m → StoppedAs answers stop fault end end_new mid log'
       → ServesEnd answers pause new end_new script limit (Err fault) log log' link link'
   ended Link fault limit new end end_new script script' log mid log' link link' n m r h = ended_link fault limit new end end_new script script' log mid log' link link' n m r h
@@ -233,7 +233,7 @@ module _ {D : Type 0} (answers : D → ℕ → Content → Answered) (pause : Op
         parted = r.puts.parted;
         rest_is_last = r.ends;
         log_holds = r.puts.logged;
-        hears = r.puts.hears;
+        processes_input = r.puts.processes_input;
         failed = false;
         took = r.puts.sent.0;
         failures = r.puts.sent.1;
@@ -258,7 +258,7 @@ module _ {D : Type 0} (answers : D → ℕ → Content → Answered) (pause : Op
           parted = r.puts.parted;
           rest_is_last = r.ends;
           log_holds = r.puts.logged;
-          hears = r.puts.hears;
+          processes_input = r.puts.processes_input;
           failed = false;
           took = all.0;
           failures = all.1;
@@ -279,7 +279,7 @@ module _ {D : Type 0} (answers : D → ℕ → Content → Answered) (pause : Op
           parted = r.puts.parted;
           rest_is_last = r.ends;
           log_holds = r.puts.logged;
-          hears = r.puts.hears;
+          processes_input = r.puts.processes_input;
           failed = true;
           took = part.0;
           failures = part.1;

@@ -5,7 +5,7 @@ use Rattle.std.proofs.lemmas.Bool.{cases_lt}
 use Rattle.std.proofs.lemmas.List.{get_or-append-add}
 use Rattle.std.proofs.lemmas.List.Elements.{All-from_get_or}
 use Rattle.secs_text.specs.Content.{Content}
-use Rattle.hsms_frame.specs.Device.{SinkState}
+use Rattle.hsms_frame.specs.Io.{SinkState}
 use Rattle.hsms_machine.specs.declared.entry.Entry.{Entry}
 use Rattle.hsms_machine.specs.declared.entry.Event.{Event}
 use Rattle.hsms_machine.specs.declared.entry.Event.TheVariants.{Up, Sent, Taken, Discarded, T3, Cut, Down}
@@ -20,15 +20,15 @@ use Rattle.hsms_machine.specs.Run.{IsRun}
 use Rattle.hsms_machine.specs.View.{HasView}
 use Rattle.hsms_machine.proofs.First.{none_head}
 use Rattle.hsms_machine.proofs.Runs.{empty_run}
-use Rattle.hsms_entity.specs.Answer.{Answered}
-use Rattle.hsms_entity.specs.EndState.{EndOf, untold_since}
-use Rattle.hsms_entity.specs.Turn.{Told as Input}
-use Rattle.hsms_entity.specs.End.{Accepts}
-use Rattle.hsms_ends.specs.PutOut.{FitsLengthField, AllFitLengthField}
+use Rattle.hsms_endpoint.specs.Answer.{Answered}
+use Rattle.hsms_endpoint.specs.EndState.{EndOf, initial_since}
+use Rattle.hsms_endpoint.specs.Turn.{InputEvent as Input}
+use Rattle.hsms_endpoint.specs.End.{Accepts}
+use Rattle.hsms_ends.specs.Output.{FitsLengthField, AllFitLengthField}
 use Rattle.hsms_ends.specs.declared.step.Step.{Step}
-use Rattle.hsms_ends.specs.Link.{Told, Heard}
-use Rattle.hsms_ends.specs.Outcome.{IsReady, Handed, TurnTaken}
-use Rattle.hsms_ends.proofs.Along.{along_turn}
+use Rattle.hsms_ends.specs.Link.{LinkState, LinkInput}
+use Rattle.hsms_ends.specs.ServeSteps.{IsReady, Handed, TurnTaken}
+use Rattle.hsms_ends.proofs.TurnPrefixes.{along_turn}
 
 -- ---- the rules of a run
 
@@ -108,14 +108,14 @@ module _ {D : Type 0} (answers : D → ℕ → Content → Answered) where
       record { within = subst IsWithinLimits same ready.within; log = ready.log ++ entries; seen = subst P same seen }
 
   -- it is ready after an input that nothing cut short
-  pub ready_handed : (end new : EndOf D) (input : Input) (log log' : SinkState) (link link' : Told) (heard : Heard) (n n' : ℕ) → IsReady end
-      → Handed answers (Ok tt) end input new log log' link link' heard n n' → IsReady new
-  ready_handed end new input log log' link link' heard n n' ready h =
+  pub ready_handed : (end new : EndOf D) (input : Input) (log log' : SinkState) (link link' : LinkState) (reception : LinkInput) (n n' : ℕ) → IsReady end
+      → Handed answers (Ok tt) end input new log log' link link' reception n n' → IsReady new
+  ready_handed end new input log log' link link' reception n n' ready h =
       let P : EndOf D → Type 0 = λ e. IsReady e in
       subst P (sym h.leads) (ready_after end h.end' input h.entries ready h.takes)
 
   -- and after a whole turn
-  pub ready_turned : (pause : Option ℕ) (end new : EndOf D) (script script' : List Step) (log log' : SinkState) (link link' : Told) (n n' refused refused' : ℕ) → IsReady end
+  pub ready_turned : (pause : Option ℕ) (end new : EndOf D) (script script' : List Step) (log log' : SinkState) (link link' : LinkState) (n n' refused refused' : ℕ) → IsReady end
       → TurnTaken answers pause (Ok tt) end new script script' log log' link link' n n' refused refused' → IsReady new
   ready_turned pause end new script script' log log' link link' n n' refused refused' ready t =
       let P : EndOf D → Type 0 = λ e. IsReady e in
@@ -123,5 +123,5 @@ module _ {D : Type 0} (answers : D → ℕ → Content → Answered) where
       subst P (sym t.leads) (along_turn answers pause Q (λ before e input entries e' p h. ready_after e e' input entries p h) false [] end script t.turn t.end' script' ready t.is_turn)
 
 -- a new end is ready
-pub ready_new : {D : Type 0} (desk : D) (s : Parameters) (first_system since : ℕ) → IsWithinLimits s → IsReady (record { desk = desk; known = untold_since s first_system since })
+pub ready_new : {D : Type 0} (desk : D) (s : Parameters) (first_system since : ℕ) → IsWithinLimits s → IsReady (record { desk = desk; known = initial_since s first_system since })
 ready_new desk s first_system since limits = record { within = limits; log = []; seen = record { run = empty_run s; seen = refl } }

@@ -3,21 +3,21 @@ use Rattle.std.proofs.Common.{◌≡◌, ◌+◌, ◌++◌, ◌^◌, ◌-◌, mi
 use Rattle.std.specs.Prelude.{Bool, Option, Result}
 use Rattle.std.proofs.lemmas.List.{append-nil}
 use Rattle.secs_text.specs.Content.{Content}
-use Rattle.hsms_frame.specs.Device.{SinkState}
+use Rattle.hsms_frame.specs.Io.{SinkState}
 use Rattle.hsms_machine.specs.declared.entry.Entry.{Entry}
-use Rattle.hsms_entity.specs.Answer.{Answered}
-use Rattle.hsms_entity.specs.EndState.{EndOf}
-use Rattle.hsms_entity.specs.Turn.{start}
-use Rattle.hsms_entity.specs.End.{Accepts}
+use Rattle.hsms_endpoint.specs.Answer.{Answered}
+use Rattle.hsms_endpoint.specs.EndState.{EndOf}
+use Rattle.hsms_endpoint.specs.Turn.{start}
+use Rattle.hsms_endpoint.specs.End.{Accepts}
 use Rattle.hsms_ends.specs.declared.step.Step.{Step}
 use Rattle.hsms_ends.specs.declared.output.Stop.{Stop}
 use Rattle.hsms_ends.specs.declared.output.Stop.TheVariants.{Link, Log, Memory}
-use Rattle.hsms_ends.specs.Link.{Told, both, moment_heard}
-use Rattle.hsms_ends.specs.Turning.{Rest, Nothing, Stepped, Declined, Tested, Quiet, Octets, Closed, Turn, Untaken, Ticks, Continues, IsTurn, AreTurns, entries_turns, last_turns, heard_turns, steps_rest, steps_turn, steps_turns}
-use Rattle.hsms_ends.specs.Serving.{count_after, entries_cut, last_cut, last_call, heard_cut, Unstarted, Started, IsCutTurn, entries_of, heard_of, refused_of, steps_cut}
-use Rattle.hsms_ends.specs.PutOut.{IsEnding}
-use Rattle.hsms_ends.specs.Outcome.{is_cut, Counts, Handed, IsCut, TurnsTaken, StartedBy, Ran}
-use Rattle.hsms_ends.proofs.Yielding.{ending_none, counts_none, yields_then, yields_along, yields_last, yields_left}
+use Rattle.hsms_ends.specs.Link.{LinkState, both, processed_time}
+use Rattle.hsms_ends.specs.Turns.{Rest, Nothing, Stepped, Declined, Tested, Quiet, Octets, Closed, Turn, Untaken, Ticks, Continues, IsTurn, AreTurns, entries_turns, last_turns, processed_turns, steps_rest, steps_turn, steps_turns}
+use Rattle.hsms_ends.specs.Serving.{count_after, entries_cut, last_cut, last_call, processed_cut, Unstarted, Started, IsCutTurn, entries_of, reception_of, refused_of, steps_cut}
+use Rattle.hsms_ends.specs.Output.{IsEnding}
+use Rattle.hsms_ends.specs.ServeSteps.{is_cut, Counts, Handed, IsCut, TurnsTaken, StartedBy, Ran}
+use Rattle.hsms_ends.proofs.TurnResults.{ending_none, counts_none, yields_then, yields_along, yields_last, yields_left}
 
 started_by : (r : Result (Unit {0}) Stop) (now : ℕ) (entries : List Entry) (turns : List Turn) (cut : Option Turn) → StartedBy r (Started now entries turns cut None)
 started_by (Ok _) now entries turns cut = tt
@@ -73,9 +73,9 @@ module _ {D : Type 0} (answers : D → ℕ → Content → Answered) (pause : Op
   cut_is_none r end late script script' None h whole = refl
   cut_is_none r end late script script' (Some turn) h whole = absurd (let e : true ≡ false = sym h.0 ∙ whole in cc)
 
-  pub ran_turns : (r : Result (Unit {0}) Stop) (now limit : ℕ) (new begun end : EndOf D) (script : List Step) (i j : ℕ) (log between log' : SinkState) (link midway link' : Told) (n m n' refused refused' : ℕ)
+  pub ran_turns : (r : Result (Unit {0}) Stop) (now limit : ℕ) (new begun end : EndOf D) (script : List Step) (i j : ℕ) (log between log' : SinkState) (link midway link' : LinkState) (n m n' refused refused' : ℕ)
       → i ≡ 0 → n ≡ 0 → refused ≡ 0
-      → Handed answers (Ok tt) new (start now) begun log between link midway (moment_heard now) n m
+      → Handed answers (Ok tt) new (start now) begun log between link midway (processed_time now) n m
       → TurnsTaken answers pause r limit begun end (drop i script) (drop j script) between log' midway link' m n' refused refused'
       → Ran answers pause r limit new end script (drop j script) log log' link link' n' refused'
   ran_turns r now limit new begun end script i j log between log' link midway link' n m n' refused refused' at_first none none_refused h t =
@@ -83,10 +83,10 @@ module _ {D : Type 0} (answers : D → ℕ → Content → Answered) (pause : Op
       let P : EndOf D → Type 0 = λ e. AreTurns answers pause e (drop i script) t.turns t.mid t.left in
       let Q : List Step → Type 0 = λ l. AreTurns answers pause h.end' l t.turns t.mid t.left in
       let story = Started now h.entries t.turns t.cut None in
-      let all = yields_then r log between log' link midway link' n m n' h.entries (entries_turns t.turns ++ entries_cut t.cut) h.entries (last_cut t.cut []) (moment_heard now) (both (heard_turns t.turns) (heard_cut t.cut)) h.yields t.yields in
+      let all = yields_then r log between log' link midway link' n m n' h.entries (entries_turns t.turns ++ entries_cut t.cut) h.entries (last_cut t.cut []) (processed_time now) (both (processed_turns t.turns) (processed_cut t.cut)) h.yields t.yields in
       let same : h.entries ++ (entries_turns t.turns ++ entries_cut t.cut) ≡ entries_of story = ap (λ l. h.entries ++ (entries_turns t.turns ++ l)) (sym (append-nil (entries_cut t.cut))) in
-      let told = yields_last r log log' link link' n n' (entries_of story) (last_cut t.cut []) (last_call story) (heard_of story) (ending_cut t.cut (last_turns t.turns h.entries))
-      (yields_along r log log' link link' n n' (h.entries ++ (entries_turns t.turns ++ entries_cut t.cut)) (entries_of story) (last_cut t.cut []) (heard_of story) same all) in
+      let link_state = yields_last r log log' link link' n n' (entries_of story) (last_cut t.cut []) (last_call story) (reception_of story) (ending_cut t.cut (last_turns t.turns h.entries))
+      (yields_along r log log' link link' n n' (h.entries ++ (entries_turns t.turns ++ entries_cut t.cut)) (entries_of story) (last_cut t.cut []) (reception_of story) same all) in
       record {
         story = story;
         end' = t.end';
@@ -101,20 +101,20 @@ module _ {D : Type 0} (answers : D → ℕ → Content → Answered) (pause : Op
             omega (arith, none.0, none.1, turned, ap length front);
         started = started_by r now h.entries t.turns t.cut;
         leads = t.leads;
-        puts = told.puts;
-        ends = told.ends;
-        in_range = told.in_range;
-        counted = stored n n' (length (entries_of story)) none told.counted;
+        puts = link_state.puts;
+        ends = link_state.ends;
+        in_range = link_state.in_range;
+        counted = stored n n' (length (entries_of story)) none link_state.counted;
         refusals = stored refused refused' (refused_of story) none_refused t.refusals;
       }
 
-  ran_started : (stop : Stop) (now limit : ℕ) (new begun : EndOf D) (script script' : List Step) (log log' : SinkState) (link link' : Told) (n n' refused : ℕ)
-      → n ≡ 0 → refused ≡ 0 → (h : Handed answers (Err stop) new (start now) begun log log' link link' (moment_heard now) n n') → Accepts answers new (start now) h.entries h.end'
+  ran_started : (stop : Stop) (now limit : ℕ) (new begun : EndOf D) (script script' : List Step) (log log' : SinkState) (link link' : LinkState) (n n' refused : ℕ)
+      → n ≡ 0 → refused ≡ 0 → (h : Handed answers (Err stop) new (start now) begun log log' link link' (processed_time now) n n') → Accepts answers new (start now) h.entries h.end'
       → Ran answers pause (Err stop) limit new begun script script' log log' link link' n' refused
   ran_started stop now limit new begun script script' log log' link link' n n' refused none none_refused h turns =
       let story = Started now h.entries [] None None in
       let same : h.entries ≡ entries_of story = sym (append-nil h.entries) in
-      let told = yields_along (Err stop) log log' link link' n n' h.entries (entries_of story) h.entries (heard_of story) same h.yields in
+      let link_state = yields_along (Err stop) log log' link link' n n' h.entries (entries_of story) h.entries (reception_of story) same h.yields in
       record {
         story = story;
         end' = h.end';
@@ -126,15 +126,15 @@ module _ {D : Type 0} (answers : D → ℕ → Content → Answered) (pause : Op
         steps = λ uncut. absurd (cc);
         started = started_by (Err stop) now h.entries [] None;
         leads = h.leads;
-        puts = told.puts;
-        ends = told.ends;
-        in_range = told.in_range;
-        counted = stored n n' (length (entries_of story)) none told.counted;
+        puts = link_state.puts;
+        ends = link_state.ends;
+        in_range = link_state.in_range;
+        counted = stored n n' (length (entries_of story)) none link_state.counted;
         refusals = stored refused refused 0 none_refused (counts_none refused);
       }
 
-  pub ran_cut : (stop : Stop) (now limit : ℕ) (new begun : EndOf D) (script script' : List Step) (log log' : SinkState) (link link' : Told) (n n' refused : ℕ)
-      → n ≡ 0 → refused ≡ 0 → Handed answers (Err stop) new (start now) begun log log' link link' (moment_heard now) n n'
+  pub ran_cut : (stop : Stop) (now limit : ℕ) (new begun : EndOf D) (script script' : List Step) (log log' : SinkState) (link link' : LinkState) (n n' refused : ℕ)
+      → n ≡ 0 → refused ≡ 0 → Handed answers (Err stop) new (start now) begun log log' link link' (processed_time now) n n'
       → Ran answers pause (Err stop) limit new begun script script' log log' link link' n' refused
   ran_cut Link now limit new begun script script' log log' link link' n n' refused none none_refused h = ran_started Link now limit new begun script script' log log' link link' n n' refused none none_refused h h.takes
   ran_cut Log now limit new begun script script' log log' link link' n n' refused none none_refused h = ran_started Log now limit new begun script script' log log' link link' n n' refused none none_refused h h.takes
@@ -142,7 +142,7 @@ module _ {D : Type 0} (answers : D → ℕ → Content → Answered) (pause : Op
       elim h.takes [
         | inl turns ↦ ran_started Memory now limit new begun script script' log log' link link' n n' refused none none_refused h turns
         | inr left ↦
-            let told = yields_left log log' link link' n n' h.entries (moment_heard now) left.0 h.yields in
+            let link_state = yields_left log log' link link' n n' h.entries (processed_time now) left.0 h.yields in
             record {
               story = Unstarted now;
               end' = new;
@@ -154,10 +154,10 @@ module _ {D : Type 0} (answers : D → ℕ → Content → Answered) (pause : Op
               steps = λ uncut. absurd (cc);
               started = tt;
               leads = tt;
-              puts = told.puts;
-              ends = told.ends;
-              in_range = told.in_range;
-              counted = stored n n' 0 none told.counted;
+              puts = link_state.puts;
+              ends = link_state.ends;
+              in_range = link_state.in_range;
+              counted = stored n n' 0 none link_state.counted;
               refusals = stored refused refused 0 none_refused (counts_none refused);
             }
       ]

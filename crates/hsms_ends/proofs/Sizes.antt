@@ -10,15 +10,15 @@ use Rattle.hsms_machine.specs.declared.entry.Event.{Event}
 use Rattle.hsms_machine.specs.declared.entry.Event.TheVariants.{Up, Sent, Taken, Discarded, T3, Cut, Down}
 use Rattle.hsms_machine.specs.declared.rule.Rule.{Rule}
 use Rattle.hsms_machine.specs.Settings.{Parameters}
-use Rattle.hsms_machine.specs.Step.{is_selected}
-use Rattle.hsms_entity.specs.Answer.{Answered}
-use Rattle.hsms_entity.specs.EndState.{EndState}
-use Rattle.hsms_entity.specs.Act.{Act, logs, asks, Acts, entry_now, with_event, with_number}
-use Rattle.hsms_entity.specs.Drive.{octets_in}
-use Rattle.hsms_entity.specs.Frame.{linktest_req, separate_req, message_frame}
-use Rattle.hsms_entity.specs.Reaction.{reaction}
-use Rattle.hsms_entity.specs.Turn.{is_pending, opening_of, cut_by, expiries, received_as, with_asked, Handles, warns_too_long, Rests, is_down, waits, too_short, too_long, Receives, with_octets, Told, start, tick, bytes, send, linktest, separate, lost, Turn}
-use Rattle.hsms_entity.proofs.Kept.{receipts, reaction_none, opening_none, expiries_none, too_long_none}
+use Rattle.hsms_machine.specs.ViewRules.{is_selected}
+use Rattle.hsms_endpoint.specs.Answer.{Answered}
+use Rattle.hsms_endpoint.specs.EndState.{EndState}
+use Rattle.hsms_endpoint.specs.Action.{Act, logs, asks, Acts, entry_now, with_event, with_number}
+use Rattle.hsms_endpoint.specs.Drive.{octets_in}
+use Rattle.hsms_endpoint.specs.Frame.{linktest_req, separate_req, message_frame}
+use Rattle.hsms_endpoint.specs.Reaction.{reaction}
+use Rattle.hsms_endpoint.specs.Turn.{is_pending, opening_of, cut_by, expiries, received_as, with_asked, Handles, warns_too_long, Rests, is_down, waits, too_short, too_long, Receives, with_octets, InputEvent, start, tick, bytes, send, linktest, separate, lost, Turn}
+use Rattle.hsms_endpoint.proofs.KeptRequests.{receipts, reaction_none, opening_none, expiries_none, too_long_none}
 
 -- header and text of a discarded message are within the limit
 abbrev pub IsDiscardSized : ℕ → Event → Type 0
@@ -115,7 +115,7 @@ from_kept end from entries end' same h =
     let R : Parameters → Type 0 = λ s. All (λ (e : Entry). IsDiscardSized s.max e.event) entries in
     record { settings = h.settings ∙ same; sized = subst R same h.sized }
 
-pub turn_kept : (desk : ℕ → Content → Answered) (end : EndState) (input : Told) (entries : List Entry) (end' : EndState) → Turn desk end input entries end' → Keeps end entries end'
+pub turn_kept : (desk : ℕ → Content → Answered) (end : EndState) (input : InputEvent) (entries : List Entry) (end' : EndState) → Turn desk end input entries end' → Keeps end entries end'
 turn_kept desk end (start now) entries end' h =
     let from : EndState = record end { moment = max end.moment now } in
     from_kept end from entries end' refl (acts_kept (opening_of end.settings.link) from entries end' (opening_none end.settings.link) h)

@@ -3,13 +3,13 @@ use Rattle.std.proofs.Common.{◌≡◌, ◌+◌, ◌++◌, ℕ, List, [], ◌�
 use Rattle.std.specs.Prelude.{Bool, Option}
 use Rattle.std.proofs.lemmas.List.{append-nil}
 use Rattle.secs_text.specs.Content.{Content}
-use Rattle.hsms_entity.specs.Answer.{Answered}
-use Rattle.hsms_entity.specs.EndState.{EndOf}
+use Rattle.hsms_endpoint.specs.Answer.{Answered}
+use Rattle.hsms_endpoint.specs.EndState.{EndOf}
 use Rattle.hsms_ends.specs.declared.step.Step.{Step}
 use Rattle.hsms_ends.specs.declared.step.Step.TheVariants.{Separate}
-use Rattle.hsms_ends.specs.Link.{Heard, later, both, nothing_heard}
-use Rattle.hsms_ends.specs.Turning.{is_idle, is_step_due, Turn, IsTurn, AreTurns, entries_turn, entries_turns, heard_turn, heard_turns, refused_turn, refused_turns}
-use Rattle.hsms_ends.proofs.Hearing.{both_nothing}
+use Rattle.hsms_ends.specs.Link.{LinkInput, later, both, processed_nothing}
+use Rattle.hsms_ends.specs.Turns.{is_idle, is_step_due, Turn, IsTurn, AreTurns, entries_turn, entries_turns, processed_turn, processed_turns, refused_turn, refused_turns}
+use Rattle.hsms_ends.proofs.ReceivedBytes.{both_nothing}
 
 later_assoc : (a b c : Option Bool) → later (later a b) c ≡ later a (later b c)
 later_assoc a b None = refl
@@ -19,9 +19,9 @@ none_later : (a : Option Bool) → later None a ≡ a
 none_later None = refl
 none_later (Some closed) = refl
 
-pub both_assoc : (a b c : Heard) → both (both a b) c ≡ both a (both b c)
+pub both_assoc : (a b c : LinkInput) → both (both a b) c ≡ both a (both b c)
 both_assoc a b c =
-    let m : List ℕ → List ℕ → ℕ → ℕ → Option Bool → Heard = λ x y w n d. record { moments = x; given = y; waits = w; closes = n; closed = d } in
+    let m : List ℕ → List ℕ → ℕ → ℕ → Option Bool → LinkInput = λ x y w n d. record { moments = x; given = y; waits = w; closes = n; closed = d } in
     let moments = a.moments ++ (b.moments ++ c.moments) in
     let given = a.given ++ (b.given ++ c.given) in
     let waits = (a.waits + b.waits) + c.waits in
@@ -33,16 +33,16 @@ both_assoc a b c =
     ∙ ap (λ n. m moments given (a.waits + (b.waits + c.waits)) n closed) (add_assoc a.closes b.closes c.closes)
     ∙ ap (λ d. m moments given (a.waits + (b.waits + c.waits)) (a.closes + (b.closes + c.closes)) d) (later_assoc a.closed b.closed c.closed)
 
-pub nothing_both : (a : Heard) → both nothing_heard a ≡ a
+pub nothing_both : (a : LinkInput) → both processed_nothing a ≡ a
 nothing_both a =
-    let m : ℕ → ℕ → Option Bool → Heard = λ w n d. record { moments = a.moments; given = a.given; waits = w; closes = n; closed = d } in
+    let m : ℕ → ℕ → Option Bool → LinkInput = λ w n d. record { moments = a.moments; given = a.given; waits = w; closes = n; closed = d } in
     ap (λ w. m w (0 + a.closes) (later None a.closed)) (zero-add a.waits)
     ∙ ap (λ n. m a.waits n (later None a.closed)) (zero-add a.closes)
     ∙ ap (λ d. m a.waits a.closes d) (none_later a.closed)
 
-pub heard_snoc : (turns : List Turn) (turn : Turn) → heard_turns (turns ++ turn ∷ []) ≡ both (heard_turns turns) (heard_turn turn)
-heard_snoc [] turn = both_nothing (heard_turn turn) ∙ sym (nothing_both (heard_turn turn))
-heard_snoc (x ∷ turns) turn = ap (λ h. both (heard_turn x) h) (heard_snoc turns turn) ∙ sym (both_assoc (heard_turn x) (heard_turns turns) (heard_turn turn))
+pub processed_snoc : (turns : List Turn) (turn : Turn) → processed_turns (turns ++ turn ∷ []) ≡ both (processed_turns turns) (processed_turn turn)
+processed_snoc [] turn = both_nothing (processed_turn turn) ∙ sym (nothing_both (processed_turn turn))
+processed_snoc (x ∷ turns) turn = ap (λ h. both (processed_turn x) h) (processed_snoc turns turn) ∙ sym (both_assoc (processed_turn x) (processed_turns turns) (processed_turn turn))
 
 pub entries_snoc : (turns : List Turn) (turn : Turn) → entries_turns (turns ++ turn ∷ []) ≡ entries_turns turns ++ entries_turn turn
 entries_snoc [] turn = append-nil (entries_turn turn)

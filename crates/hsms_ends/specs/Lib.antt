@@ -1,10 +1,10 @@
 pub mod Link
-pub mod PutOut
-pub mod Script
-pub mod Turning
+pub mod Output
+pub mod ScriptedLink
+pub mod Turns
 pub mod Serving
-pub mod Outcome
+pub mod ServeSteps
 pub mod Laws
-pub mod Again
-pub mod Onward
-pub mod Scripted
+pub mod Reconnect
+pub mod ReconnectSteps
+pub mod ScriptedDesk

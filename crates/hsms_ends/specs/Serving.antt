@@ -1,26 +1,26 @@
 -- How a connection is served (this project's own): what `serve` has told the end, put out and answered.
 use Rattle.std.specs.Prelude.{◌≡◌, ◌≤◌, ◌+◌, ◌-◌, ◌^◌, ◌++◌, ◌==◌, ◌&&◌, min, ℕ, Bool, true, false, List, [], ◌∷◌, length, Option, Some, None, Result, Ok, Err}
 use Rattle.secs_text.specs.Content.{Content}
-use Rattle.hsms_frame.specs.Count.{next_count}
-use Rattle.hsms_frame.specs.Device.{SinkState, Grows}
+use Rattle.hsms_frame.specs.CallCounts.{next_count}
+use Rattle.hsms_frame.specs.Io.{SinkState, Grows}
 use Rattle.hsms_machine.specs.declared.entry.Entry.{Entry}
 use Rattle.hsms_machine.specs.Entry.{entry_at, is_down}
 use Rattle.hsms_machine.specs.Run.{IsRun}
 use Rattle.hsms_machine.specs.Settings.{Parameters}
-use Rattle.hsms_log.specs.Spelling.{settings_line}
+use Rattle.hsms_log.specs.LineFormat.{settings_line}
 use Rattle.hsms_log.specs.Log.{LogText, written_log}
-use Rattle.hsms_entity.specs.Answer.{Answered}
-use Rattle.hsms_entity.specs.EndState.{EndOf}
-use Rattle.hsms_entity.specs.Turn.{start, lost}
-use Rattle.hsms_entity.specs.End.{Accepts}
+use Rattle.hsms_endpoint.specs.Answer.{Answered}
+use Rattle.hsms_endpoint.specs.EndState.{EndOf}
+use Rattle.hsms_endpoint.specs.Turn.{start, lost}
+use Rattle.hsms_endpoint.specs.End.{Accepts}
 use Rattle.hsms_ends.specs.declared.step.Step.{Step}
 use Rattle.hsms_ends.specs.declared.serving.Served.{Served}
 use Rattle.hsms_ends.specs.declared.serving.ServedScript.{ServedScript}
 use Rattle.hsms_ends.specs.declared.fault.ServeFault.{ServeFault}
 use Rattle.hsms_ends.specs.declared.fault.ServeFault.TheVariants as serve
-use Rattle.hsms_ends.specs.Link.{Told, Heard, both, Hears, nothing_heard, moment_heard}
-use Rattle.hsms_ends.specs.PutOut.{GrowsByPart, LogGrows, LogFails, LogStops, IsEnding, sent_octets}
-use Rattle.hsms_ends.specs.Turning.{Turn, HasNotGone, IsTurn, AreTurns, entries_turn, entries_turns, last_turn, last_turns, heard_turn, heard_turns, refused_turn, refused_turns, steps_turn, steps_turns}
+use Rattle.hsms_ends.specs.Link.{LinkState, LinkInput, both, ProcessesInput, processed_nothing, processed_time}
+use Rattle.hsms_ends.specs.Output.{GrowsByPart, LogGrows, LogFails, LogStops, IsEnding, sent_octets}
+use Rattle.hsms_ends.specs.Turns.{Turn, HasNotGone, IsTurn, AreTurns, entries_turn, entries_turns, last_turn, last_turns, processed_turn, processed_turns, refused_turn, refused_turns, steps_turn, steps_turns}
 
 -- What became of a connection: the settings line was refused; or `start` was, at this moment, for want of memory; or the
 -- end was started at a moment, which gave these entries, whole turns followed, then maybe one that a fault cut short,
@@ -80,15 +80,15 @@ last_call Unopened = []
 last_call (Unstarted now) = []
 last_call (Started now started turns cut loss) = last_lost loss (last_cut cut (last_turns turns started))
 
-abbrev pub heard_cut : Option Turn → Heard
-heard_cut None = nothing_heard
-heard_cut (Some turn) = heard_turn turn
+abbrev pub processed_cut : Option Turn → LinkInput
+processed_cut None = processed_nothing
+processed_cut (Some turn) = processed_turn turn
 
 -- all that was heard of the link
-abbrev pub heard_of : Story → Heard
-heard_of Unopened = nothing_heard
-heard_of (Unstarted now) = moment_heard now
-heard_of (Started now started turns cut loss) = both (moment_heard now) (both (heard_turns turns) (heard_cut cut))
+abbrev pub reception_of : Story → LinkInput
+reception_of Unopened = processed_nothing
+reception_of (Unstarted now) = processed_time now
+reception_of (Started now started turns cut loss) = both (processed_time now) (both (processed_turns turns) (processed_cut cut))
 
 abbrev pub refused_cut : Option Turn → ℕ
 refused_cut None = 0
@@ -204,7 +204,7 @@ is_log_fault (Err serve.Log) = true
 is_log_fault (Err serve.Memory) = false
 
 -- what the link took of the octets of sent messages: all, or where it failed a part from their front
-abbrev pub LinkTook : Bool → Told → Told → List ℕ → Type 0
+abbrev pub LinkTook : Bool → LinkState → LinkState → List ℕ → Type 0
 LinkTook true old new octets = GrowsByPart old.taken new.taken octets
 LinkTook false old new octets = Grows old.taken new.taken octets
 
@@ -214,7 +214,7 @@ failures_after false n = n
 
 -- What `serve_testing` did, of a new end and a script, in at most so many turns, with tests of the link after so long a
 -- pause.
-pub record ServesTesting {D : Type 0} (answers : D → ℕ → Content → Answered) (pause : Option ℕ) (new : EndOf D) (script : List Step) (limit : ℕ) (result : Result ServedScript ServeFault) (log log' : SinkState) (link link' : Told) : Type 0 where
+pub record ServesTesting {D : Type 0} (answers : D → ℕ → Content → Answered) (pause : Option ℕ) (new : EndOf D) (script : List Step) (limit : ℕ) (result : Result ServedScript ServeFault) (log log' : SinkState) (link link' : LinkState) : Type 0 where
   -- the start, the turns and what the end gave for its inputs
   pub story : Story
   pub last : EndOf D
@@ -233,7 +233,7 @@ pub record ServesTesting {D : Type 0} (answers : D → ℕ → Content → Answe
   pub answer : Answers limit result story
   pub steps_left : LeavesSteps script result story
   -- the moments, the octets and the answers of `wait` in the story are those that the link gave
-  pub hears : Hears link link' (heard_of story)
+  pub processes_input : ProcessesInput link link' (reception_of story)
   -- of the messages that these lines say were sent the link took the octets, in order, and nothing else: a part from
   -- their front alone where it failed
   pub failed : Bool
@@ -249,6 +249,6 @@ with_left left (Ok served) = Ok (record { counts = served; left = left })
 with_left left (Err fault) = Err fault
 
 -- What `serve` did: the same, without tests of the link. It doesn't answer how many steps are left.
-abbrev pub Serves : {D : Type 0} → (D → ℕ → Content → Answered) → EndOf D → List Step → ℕ → Result Served ServeFault → SinkState → SinkState → Told → Told → Type 0
+abbrev pub Serves : {D : Type 0} → (D → ℕ → Content → Answered) → EndOf D → List Step → ℕ → Result Served ServeFault → SinkState → SinkState → LinkState → LinkState → Type 0
 Serves answers new script limit result log log' link link' =
     (left : ℕ) × ServesTesting answers None new script limit (with_left left result) log log' link link'

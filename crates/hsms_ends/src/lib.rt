@@ -1,7 +1,7 @@
 //! The two ends of an HSMS session (SEMI E37, E37.1): what an end logs, sends and answers, and what serves one
 //! connection.
 //!
-//! What one end is and does stands in `hsms_entity`, all of which this crate exports too. [`serve`] serves a
+//! What one end is and does stands in `hsms_endpoint`, all of which this crate exports too. [`serve`] serves a
 //! connection over a [`Link`] to the peer: a socket, or a [`Scripted`] one in memory.
 //!
 //! ```
@@ -13,13 +13,13 @@
 //! ```
 #![tactic(auto)]
 
-mod again;
-mod call;
+mod endpoint_call;
 mod fault;
 pub mod laws;
 mod link;
 mod output;
 mod peer;
+mod reconnect;
 mod scripted;
 mod scripted_desk;
 mod sending;
@@ -27,12 +27,12 @@ mod serving;
 mod step;
 mod turns;
 
-pub use again::{Lent, ServedAgain, serve_again};
 pub use fault::{LinkFault, ServeFault};
-pub use hsms_entity::{
+pub use hsms_endpoint::{
     Answer, Desk, Driven, End, EndFault, EquipmentDesk, HostDesk, Input, TurnDesk, drive,
 };
 pub use link::{Again, Got, Link};
+pub use reconnect::{Lent, ServedAgain, serve_again};
 pub use scripted::Scripted;
 pub use scripted_desk::ScriptedDesk;
 pub use serving::{Served, ServedScript, serve, serve_testing};

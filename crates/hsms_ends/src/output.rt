@@ -1,9 +1,9 @@
 //! Entries to the log and to the link.
 
 ghost use Rattle.std.specs.Prelude.{All};
-ghost use Rattle.hsms_log.specs.Spelling.{IsEntry};
-ghost use Rattle.hsms_ends.specs.Link.{nothing_heard};
-ghost use Rattle.hsms_ends.specs.PutOut.{FitsLengthField, AllFitLengthField, SendsAll, PutsOut, RestLogged, sent_of};
+ghost use Rattle.hsms_log.specs.LineFormat.{IsEntry};
+ghost use Rattle.hsms_ends.specs.Link.{processed_nothing};
+ghost use Rattle.hsms_ends.specs.Output.{FitsLengthField, AllFitLengthField, SendsAll, PutsOut, RestLogged, sent_of};
 
 use crate::fault::LinkFault;
 use crate::link::Link;
@@ -28,8 +28,8 @@ pub enum Stop {
 /// that is sent, its octets go to the link. Where the link fails, nothing more is sent and the rest is logged.
 pub fn put_out<L: Link, W: Sink>(link: &mut L, log: &mut W, entries: &[Entry]) -> Result<(), Stop>
     requires { AllFitLengthField entries.now }
-    ensures { PutsOut result (W.state log.old) (W.state log.new) (L.told link.old) (L.told link.new)
-        entries.now nothing_heard }
+    ensures { PutsOut result (W.state log.old) (W.state log.new) (L.link_state link.old) (L.link_state link.new)
+        entries.now processed_nothing }
 {
     let mut place = 0;
     while place < entries.len() {
@@ -48,7 +48,7 @@ pub fn put_out<L: Link, W: Sink>(link: &mut L, log: &mut W, entries: &[Entry]) -
 /// Sends the message of an event that says one was sent, and of other events nothing.
 fn send_event<L: Link>(link: &mut L, event: &Event) -> Result<(), LinkFault>
     requires { FitsLengthField event.now }
-    ensures { SendsAll (L.told link.old) (L.told link.new) (sent_of event.now) result }
+    ensures { SendsAll (L.link_state link.old) (L.link_state link.new) (sent_of event.now) result }
 {
     match event {
         Event::Sent(frame) => send_frame(link, frame),

@@ -1,7 +1,7 @@
 //! What the peer of a link in memory says.
 
 ghost use Rattle.std.specs.Prelude.{◌≡◌, ◌≢◌, ◌<◌, ◌≤◌, None, length, get_or, true, false};
-ghost use Rattle.hsms_ends.specs.Script.{given_of, left_of, pass_over, wait_octets};
+ghost use Rattle.hsms_ends.specs.ScriptedLink.{given_of, left_of, pass_over, wait_octets};
 
 use crate::link::Got;
 use hsms_frame::copy_front;
@@ -21,7 +21,7 @@ pub struct Peer {
 
 impl Model for Peer {
     ghost use Rattle.std.specs.Prelude.{◌≤◌, length, get_or, vec_len, None};
-    ghost use Rattle.hsms_ends.specs.Script.{PeerState, given_of, left_of, wait_octets};
+    ghost use Rattle.hsms_ends.specs.ScriptedLink.{PeerState, given_of, left_of, wait_octets};
 
     ghost Value = { PeerState };
 
@@ -39,7 +39,7 @@ impl Model for Peer {
 impl Peer {
     ghost use Rattle.std.specs.Prelude.{◌≡◌, ◌<◌, ◌++◌, [], length, map, option_map, false};
     ghost use Rattle.hsms_ends.specs.Link.{IsGot};
-    ghost use Rattle.hsms_ends.specs.Script.{Answers, pass_over, got_octets, closes_after, is_closed as answers_closed};
+    ghost use Rattle.hsms_ends.specs.ScriptedLink.{Answers, pass_over, got_octets, closes_after, is_closed as answers_closed};
 
     /// A peer that has said nothing yet.
     pub fn new(waits: Vec<Option<Vec<u8>>>) -> Peer

@@ -1,7 +1,7 @@
 //! A link in memory that fails on purpose, for tests.
 
 ghost use Rattle.std.specs.Prelude.{◌≡◌};
-ghost use Rattle.hsms_ends.specs.Script.{moment_at};
+ghost use Rattle.hsms_ends.specs.ScriptedLink.{moment_at};
 
 use crate::fault::LinkFault;
 use crate::link::{Again, Got, Link};
@@ -30,7 +30,7 @@ pub struct Scripted {
 
 impl Model for Scripted {
     ghost use Rattle.std.specs.Prelude.{◌≡◌, ◌<◌, ◌≤◌, ◌^◌, ◌-◌};
-    ghost use Rattle.hsms_ends.specs.Script.{ScriptState};
+    ghost use Rattle.hsms_ends.specs.ScriptedLink.{ScriptState};
 
     ghost Value = { ScriptState };
 
@@ -115,14 +115,14 @@ impl Scripted {
 
 impl Link for Scripted {
     ghost use Rattle.std.specs.Prelude.{◌≡◌, ◌<◌, ◌≤◌, ◌⊎◌, ◌↔◌, length, min, drop, IsErr, IfOk, OnErr};
-    ghost use Rattle.hsms_frame.specs.Count.{next_count};
+    ghost use Rattle.hsms_frame.specs.CallCounts.{next_count};
     ghost use Rattle.hsms_ends.specs.Link.{Asks, Waits, Sends};
-    ghost use Rattle.hsms_ends.specs.Script.{told_of, moment_at, pass_over, Answers};
+    ghost use Rattle.hsms_ends.specs.ScriptedLink.{recorded_of, moment_at, pass_over, Answers};
 
-    ghost told = { told_of };
+    ghost link_state = { recorded_of };
 
     fn now(&mut self) -> u64
-        ensures asks { Asks (told_of self.old) (told_of self.new) result }
+        ensures asks { Asks (recorded_of self.old) (recorded_of self.new) result }
         // Beyond what each link ensures: which moment it is.
         ensures moment { result ≡ moment_at self.old.moments self.old.asked }
         ensures same { self.new ≡ record self.old { asked = next_count self.old.asked } }
@@ -134,7 +134,7 @@ impl Link for Scripted {
 
     fn wait(&mut self, until: Option<u64>, into: &mut [u8]) -> Result<Got, LinkFault>
         requires { 0 < length into.old }
-        ensures waits { Waits (told_of self.old) (told_of self.new) into.new result }
+        ensures waits { Waits (recorded_of self.old) (recorded_of self.new) into.new result }
         // Beyond what each link ensures: when it fails, and what it answers.
         ensures fails { IsErr result ↔ (self.old.fuse ≤ self.old.calls) }
         ensures answers { IfOk result
@@ -159,7 +159,7 @@ impl Link for Scripted {
     fn send(&mut self, octets: &[u8]) -> Result<usize, LinkFault>
         ensures bound { IfOk result (λ n. n ≤ length octets.now) }
         ensures some { IfOk result (λ n. 0 < length octets.now → 0 < n) }
-        ensures sent { Sends (told_of self.old) (told_of self.new) octets.now result }
+        ensures sent { Sends (recorded_of self.old) (recorded_of self.new) octets.now result }
         // Beyond what each link ensures: when it fails, that it takes as much as it may, and which room is left.
         ensures fails { IsErr result ↔ ((self.old.fuse ≤ self.old.calls) ⊎ (length self.old.room ≡ 0)) }
         ensures count { IfOk result (λ n. n ≡ min (min (length octets.now) (length self.old.room)) self.old.piece) }

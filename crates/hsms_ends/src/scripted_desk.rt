@@ -1,6 +1,6 @@
 //! A desk with replies from a script.
 
-use hsms_entity::{Answer, Desk, TurnDesk};
+use hsms_endpoint::{Answer, Desk, TurnDesk};
 use secs_text::Message;
 use std::alloc::{AllocError, Global};
 
@@ -19,7 +19,7 @@ pub struct ScriptedDesk<D: Desk + Drop> {
 }
 
 impl<D: Desk + Drop> TurnDesk for ScriptedDesk<D> {
-    ghost use Rattle.hsms_ends.specs.Scripted.{scripted_answer};
+    ghost use Rattle.hsms_ends.specs.ScriptedDesk.{scripted_answer};
 
     ghost answers_after = { λ desk. scripted_answer desk.replies.items (D.answers desk.own) };
 
@@ -40,8 +40,8 @@ impl<D: Desk + Drop> TurnDesk for ScriptedDesk<D> {
 ghost use Rattle.std.specs.Prelude.{◌≡◌, IfOk, filter, option_map};
 ghost use Rattle.std.specs.List.{list_any};
 ghost use Rattle.secs_text.specs.View.{content};
-ghost use Rattle.hsms_entity.specs.Answer.{answered, replies as replies_by};
-ghost use Rattle.hsms_ends.specs.Scripted.{in_turn, is_abort_of, is_reply_to};
+ghost use Rattle.hsms_endpoint.specs.Answer.{answered, replies as replies_by};
+ghost use Rattle.hsms_ends.specs.ScriptedDesk.{in_turn, is_abort_of, is_reply_to};
 
 // Of the replies to a primary, the one whose turn it is behind so many primaries of its stream and function.
 fn reply_to<'a>(replies: &'a [Message], primary: &Message, before: u64) -> Option<&'a Message>

@@ -2,7 +2,7 @@
 
 ghost use Rattle.std.specs.Prelude.{◌≡◌, ◌<◌, ◌≤◌, ◌+◌, ◌^◌, ◌++◌, length, take};
 ghost use Rattle.hsms_frame.specs.Frame.{frame_octets};
-ghost use Rattle.hsms_ends.specs.PutOut.{SendsAll};
+ghost use Rattle.hsms_ends.specs.Output.{SendsAll};
 
 use crate::fault::LinkFault;
 use crate::link::Link;
@@ -18,7 +18,7 @@ const BLOCK: usize = 1500;
 /// one slice; of a longer one the rest of its text is another.
 pub fn send_frame<L: Link>(link: &mut L, frame: &Frame) -> Result<(), LinkFault>
     requires { 10 + length frame.now.text < 2 ^ 32 }
-    ensures { SendsAll (L.told link.old) (L.told link.new) (frame_octets frame.now) result }
+    ensures { SendsAll (L.link_state link.old) (L.link_state link.new) (frame_octets frame.now) result }
 {
     let front = front_octets(frame.length() as u32, frame.header);
     let text = frame.text.as_slice();
@@ -32,18 +32,18 @@ pub fn send_frame<L: Link>(link: &mut L, frame: &Frame) -> Result<(), LinkFault>
 /// Sends two slices as one.
 fn send_joined<L: Link>(link: &mut L, first: &[u8], second: &[u8]) -> Result<(), LinkFault>
     requires { length first.now + length second.now ≤ 1500 }
-    ensures { SendsAll (L.told link.old) (L.told link.new) (first.now ++ second.now) result }
+    ensures { SendsAll (L.link_state link.old) (L.link_state link.new) (first.now ++ second.now) result }
 {
     let mut block = [0u8; BLOCK];
-    let place = lay(&mut block, 0, first);
-    let end = lay(&mut block, place, second);
+    let place = append_chunk(&mut block, 0, first);
+    let end = append_chunk(&mut block, place, second);
     send_all(link, &block[..end])
 }
 
 /// Lays octets into a block at a place, and says where they end.
-fn lay(block: &mut [u8], place: usize, octets: &[u8]) -> usize
+fn append_chunk(block: &mut [u8], place: usize, octets: &[u8]) -> usize
     requires { place + length octets.now ≤ length block.old }
-    ensures laid { take result block.new ≡ take place block.old ++ octets.now }
+    ensures appended_text { take result block.new ≡ take place block.old ++ octets.now }
     ensures end { result ≡ place + length octets.now }
     ensures len { length block.new ≡ length block.old }
 {
@@ -54,7 +54,7 @@ fn lay(block: &mut [u8], place: usize, octets: &[u8]) -> usize
 
 /// Sends all octets, or some from their front and fails.
 fn send_all<L: Link>(link: &mut L, octets: &[u8]) -> Result<(), LinkFault>
-    ensures { SendsAll (L.told link.old) (L.told link.new) octets.now result }
+    ensures { SendsAll (L.link_state link.old) (L.link_state link.new) octets.now result }
 {
     let mut sent = 0;
     while sent < octets.len() {

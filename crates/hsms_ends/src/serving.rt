@@ -1,16 +1,16 @@
 //! A connection, served.
 
 ghost use Rattle.std.specs.Prelude.{◌≡◌, drop, length};
-ghost use Rattle.hsms_entity.specs.EndState.{untold};
+ghost use Rattle.hsms_endpoint.specs.EndState.{initial_state};
 ghost use Rattle.hsms_ends.specs.Serving.{Serves, ServesTesting};
-ghost use Rattle.hsms_ends.specs.Outcome.{IsReady, ServesEnd, RestClosed, StoppedAs};
+ghost use Rattle.hsms_ends.specs.ServeSteps.{IsReady, ServesEnd, RestClosed, StoppedAs};
 
 use crate::fault::ServeFault;
 use crate::link::Link;
 use crate::output::{Stop, entries_are_in_range, log_rest};
 use crate::step::Step;
 use crate::turns::{Progress, has_gone, run};
-use hsms_entity::{End, TurnDesk};
+use hsms_endpoint::{End, TurnDesk};
 use hsms_frame::Sink;
 use hsms_log::write_settings;
 use hsms_machine::{Entry, Settings};
@@ -62,7 +62,7 @@ impl ServedScript {
 ///
 /// - *the log*: what was written since the call, of a sink that tells it; after the answer `Log` whole lines and a part
 ///   of the next one, whose entry the end gave in its last call.
-/// - *of a run*: the entries that the end gave for its inputs (`Accepts` of `hsms_entity`), in the order of the turns
+/// - *of a run*: the entries that the end gave for its inputs (`Accepts` of `hsms_endpoint`), in the order of the turns
 ///   (`IsStory`); moments, octets and the answers of waits are those of the link.
 /// - The link took the octets of the sent messages whose lines are whole in the log, in order: all, or where it failed a
 ///   part from their front. As this holds wherever the log fails, the link is at no moment ahead of the log.
@@ -81,8 +81,8 @@ pub fn serve<L: Link, W: Sink, D: TurnDesk + Drop>(
     script: &[Step],
     turns: u64,
 ) -> Result<Served, ServeFault>
-    ensures { Serves D.answers_after (record { desk = desk; known = untold settings first_system }) script.now turns result
-        (W.state log.old) (W.state log.new) (L.told link.old) (L.told link.new) }
+    ensures { Serves D.answers_after (record { desk = desk; known = initial_state settings first_system }) script.now turns result
+        (W.state log.old) (W.state log.new) (L.link_state link.old) (L.link_state link.new) }
 {
     let answer = serve_testing(
         alloc,
@@ -103,7 +103,7 @@ pub fn serve<L: Link, W: Sink, D: TurnDesk + Drop>(
 
 /// Serves one connection as [`serve`] does, and tests the link: where no step is due and nothing came and nothing was
 /// logged for a pause of so many milliseconds, the end sends Linktest.req (SEMI E37, section 7, linktest procedure). It
-/// does so while the session is selected, none is open, and fewer than 64 own transactions are (`test_due` of `hsms_entity`);
+/// does so while the session is selected, none is open, and fewer than 64 own transactions are (`test_due` of `hsms_endpoint`);
 /// T6 runs from there. Without a pause it is `serve`.
 ///
 /// It ensures what `serve` does, and how many steps of the script are left. Each test of the link is one of the turns of
@@ -119,8 +119,8 @@ pub fn serve_testing<L: Link, W: Sink, D: TurnDesk + Drop>(
     pause: Option<u64>,
     turns: u64,
 ) -> Result<ServedScript, ServeFault>
-    ensures { ServesTesting D.answers_after pause (record { desk = desk; known = untold settings first_system }) script.now turns
-        result (W.state log.old) (W.state log.new) (L.told link.old) (L.told link.new) }
+    ensures { ServesTesting D.answers_after pause (record { desk = desk; known = initial_state settings first_system }) script.now turns
+        result (W.state log.old) (W.state log.new) (L.link_state link.old) (L.link_state link.new) }
 {
     match write_settings(log, &settings) {
         Ok(()) => {
@@ -142,7 +142,7 @@ pub fn serve_end<L: Link, W: Sink, D: TurnDesk>(
 ) -> Result<ServedScript, ServeFault>
     requires { IsReady end.old }
     ensures { ServesEnd D.answers_after pause end.old end.new script.now turns result (W.state log.old) (W.state log.new)
-        (L.told link.old) (L.told link.new) }
+        (L.link_state link.old) (L.link_state link.new) }
 {
     let mut progress = Progress {
         place: 0,

@@ -1,18 +1,18 @@
 //! The turns of a served connection.
 
 ghost use Rattle.std.specs.Prelude.{◌≡◌, ◌<◌, ℕ, List, Option, drop, length, true, MatchResult};
-ghost use Rattle.hsms_entity.specs.Turn.{tick as ticks};
-ghost use Rattle.hsms_entity.specs.End.{Accepts, Refuses};
-ghost use Rattle.hsms_ends.specs.Link.{Asks, moment_heard, nothing_heard};
-ghost use Rattle.hsms_ends.specs.PutOut.{AllFitLengthField};
-ghost use Rattle.hsms_ends.specs.Turning.{HasNotGone, MustWait, has_gone as is_down, is_idle as is_free, is_step_due as step_due, input_of, is_test_due as test_due, test_moment as moment_of_test};
-ghost use Rattle.hsms_ends.specs.Outcome.{called, IsReady, Yields, Handed, Followed, Continued, TurnTaken, Ran};
+ghost use Rattle.hsms_endpoint.specs.Turn.{tick as ticks};
+ghost use Rattle.hsms_endpoint.specs.End.{Accepts, Refuses};
+ghost use Rattle.hsms_ends.specs.Link.{Asks, processed_time, processed_nothing};
+ghost use Rattle.hsms_ends.specs.Output.{AllFitLengthField};
+ghost use Rattle.hsms_ends.specs.Turns.{HasNotGone, MustWait, has_gone as is_down, is_idle as is_free, is_step_due as step_due, input_of, is_test_due as test_due, test_moment as moment_of_test};
+ghost use Rattle.hsms_ends.specs.ServeSteps.{called, IsReady, Yields, Handed, Followed, Continued, TurnTaken, Ran};
 
-use crate::call::Call;
+use crate::endpoint_call::Call;
 use crate::link::{Got, Link};
 use crate::output::{Stop, entries_are_in_range, put_out};
 use crate::step::Step;
-use hsms_entity::{End, EndFault, TurnDesk};
+use hsms_endpoint::{End, EndFault, TurnDesk};
 use hsms_frame::Sink;
 use hsms_machine::{Entry, Phase, earlier};
 
@@ -49,8 +49,8 @@ fn deliver<L: Link, W: Sink>(
     count: &mut u64,
 ) -> Result<(), Stop>
     requires { AllFitLengthField entries.now }
-    ensures { Yields result (W.state log.old) (W.state log.new) (L.told link.old) (L.told link.new)
-        count.old count.new entries.now entries.now nothing_heard }
+    ensures { Yields result (W.state log.old) (W.state log.new) (L.link_state link.old) (L.link_state link.new)
+        count.old count.new entries.now entries.now processed_nothing }
 {
     entries_are_in_range(entries);
     *count = count.saturating_add(entries.len() as u64);
@@ -82,7 +82,7 @@ fn hand<L: Link, W: Sink, D: TurnDesk>(
 ) -> Result<(), Stop>
     requires { IsReady end.old }
     ensures { Handed D.answers_after result end.old (called call.entry) end.new (W.state log.old) (W.state log.new)
-        (L.told link.old) (L.told link.new) nothing_heard count.old count.new }
+        (L.link_state link.old) (L.link_state link.new) processed_nothing count.old count.new }
 {
     let answer = make(end, call);
     match answer {
@@ -93,7 +93,7 @@ fn hand<L: Link, W: Sink, D: TurnDesk>(
 
 /// Asks the clock: the link's moment.
 fn now<L: Link>(link: &mut L) -> u64
-    ensures { Asks (L.told link.old) (L.told link.new) result }
+    ensures { Asks (L.link_state link.old) (L.link_state link.new) result }
 {
     link.now()
 }
@@ -107,14 +107,14 @@ fn tick<L: Link, W: Sink, D: TurnDesk>(
 ) -> Result<(), Stop>
     requires { IsReady end.old }
     ensures { (now : ℕ) × Handed D.answers_after result end.old (ticks now) end.new (W.state log.old) (W.state log.new)
-        (L.told link.old) (L.told link.new) (moment_heard now) count.old count.new }
+        (L.link_state link.old) (L.link_state link.new) (processed_time now) count.old count.new }
 {
     let now = now(link);
     hand(link, log, end, Call::Tick(now), count)
 }
 
 /// Tells the end a step.
-fn tell<D: TurnDesk>(end: &mut End<D>, step: &Step) -> Result<Vec<Entry>, EndFault>
+fn submit<D: TurnDesk>(end: &mut End<D>, step: &Step) -> Result<Vec<Entry>, EndFault>
     ensures { MatchResult result
         (λ entries. Accepts D.answers_after end.old (input_of step.now) entries.items end.new)
         (λ fault. Refuses end.old (input_of step.now) fault end.new) }
@@ -140,11 +140,11 @@ fn take_step<L: Link, W: Sink, D: TurnDesk>(
     requires within { progress.old.place < length script.now }
     ensures { (pause : Option ℕ) → Continued D.answers_after pause result end.old end.new
         (drop progress.old.place script.now) (drop progress.new.place script.now)
-        (W.state log.old) (W.state log.new) (L.told link.old) (L.told link.new)
+        (W.state log.old) (W.state log.new) (L.link_state link.old) (L.link_state link.new)
         progress.old.entries progress.new.entries progress.old.refused progress.new.refused }
 {
     let place = progress.place;
-    let answer = tell(end, &script[place]);
+    let answer = submit(end, &script[place]);
     match answer {
         Ok(entries) => {
             progress.place += 1;
@@ -163,7 +163,7 @@ fn take_step<L: Link, W: Sink, D: TurnDesk>(
 }
 
 /// Tells the end the moment, and then, unless that ended the connection, what a wait answered.
-fn hear<L: Link, W: Sink, D: TurnDesk>(
+fn process_input<L: Link, W: Sink, D: TurnDesk>(
     link: &mut L,
     log: &mut W,
     end: &mut End<D>,
@@ -172,7 +172,7 @@ fn hear<L: Link, W: Sink, D: TurnDesk>(
 ) -> Result<(), Stop>
     requires { IsReady end.old }
     ensures { Followed D.answers_after result end.old (called call.entry) end.new (W.state log.old) (W.state log.new)
-        (L.told link.old) (L.told link.new) count.old count.new }
+        (L.link_state link.old) (L.link_state link.new) count.old count.new }
 {
     match tick(link, log, end, count) {
         Ok(()) => {
@@ -199,7 +199,7 @@ fn wait_once<L: Link, W: Sink, D: TurnDesk>(
     requires room { 0 < length into.old }
     ensures continued { (script : List Step) (refused : ℕ) → MustWait pause end.old script script
         → Continued D.answers_after pause result end.old end.new script script (W.state log.old) (W.state log.new)
-        (L.told link.old) (L.told link.new) count.old count.new refused refused }
+        (L.link_state link.old) (L.link_state link.new) count.old count.new refused refused }
     ensures len { length into.new ≡ length into.old }
 {
     // Past the moment at which the next timer is due, since only then it has run out.
@@ -208,8 +208,14 @@ fn wait_once<L: Link, W: Sink, D: TurnDesk>(
     match link.wait(until, into) {
         Ok(got) => match got {
             Got::Quiet => Ok(()),
-            Got::Octets(length) => hear(link, log, end, Call::Bytes(&into[..length]), count),
-            Got::Closed => hear(link, log, end, Call::Lost, count),
+            Got::Octets(length) => process_input(
+                link,
+                log,
+                end,
+                Call::Bytes(&into[..length]),
+                count,
+            ),
+            Got::Closed => process_input(link, log, end, Call::Lost, count),
         },
         Err(_) => Err(Stop::Link),
     }
@@ -231,7 +237,7 @@ fn turn<L: Link, W: Sink, D: TurnDesk>(
     requires room { 0 < length into.old }
     ensures taken { TurnTaken D.answers_after pause result end.old end.new
         (drop progress.old.place script.now) (drop progress.new.place script.now)
-        (W.state log.old) (W.state log.new) (L.told link.old) (L.told link.new)
+        (W.state log.old) (W.state log.new) (L.link_state link.old) (L.link_state link.new)
         progress.old.entries progress.new.entries progress.old.refused progress.new.refused }
     ensures len { length into.new ≡ length into.old }
 {
@@ -289,7 +295,7 @@ pub fn run<L: Link, W: Sink, D: TurnDesk>(
     requires none { progress.old ≡ record { place = 0; entries = 0; refused = 0 } }
     requires room { 0 < length into.old }
     ensures { Ran D.answers_after pause result turns end.old end.new script.now (drop progress.new.place script.now)
-        (W.state log.old) (W.state log.new) (L.told link.old) (L.told link.new)
+        (W.state log.old) (W.state log.new) (L.link_state link.old) (L.link_state link.new)
         progress.new.entries progress.new.refused }
 {
     let start = now(link);

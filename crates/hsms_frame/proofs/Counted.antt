@@ -3,12 +3,12 @@ use Rattle.std.proofs.Common.{◌≡◌, ◌≤◌, ◌<◌, ℕ, Some, None, Ok
 use Rattle.std.specs.Prelude.{Option, Result}
 use Rattle.std.specs.Result.{IsErrAnd}
 use Rattle.std.proofs.lemmas.Bool.Decides.{nat_tests}
-use Rattle.hsms_frame.specs.declared.device.Failed.{Failed}
+use Rattle.hsms_frame.specs.declared.io.Failed.{Failed}
 use Rattle.hsms_frame.specs.declared.header.Header.{Header}
 use Rattle.hsms_frame.specs.declared.fault.ReadFault.{ReadFault}
 use Rattle.hsms_frame.specs.declared.fault.ReadFault.TheVariants.{TooShort, TooLong, Memory, CutOff, Read}
-use Rattle.hsms_frame.specs.Count.{next_count}
-use Rattle.hsms_frame.specs.Device.{SourceState, CountsFill, ends_after_fill}
+use Rattle.hsms_frame.specs.CallCounts.{next_count}
+use Rattle.hsms_frame.specs.Io.{SourceState, CountsFill, ends_after_fill}
 use Rattle.hsms_frame.specs.Reading.{CountsPart, CountsWhole, ends_after_part, failures_after}
 
 -- a fill that isn't full finds the end, and a full one doesn't

@@ -6,7 +6,7 @@ use Rattle.std.proofs.Math.Seq.{take-add}
 use borrow.Rule.Slice.PartMut.{put_mid, post_of}
 use Rattle.std.specs.Prelude.{◌<◌}
 use Rattle.std.proofs.lemmas.Bool.Decides.{nat_tests}
-use Rattle.hsms_frame.specs.Device.{Takes, TakesFewer, Stays, Grows, IsAtEnd, ends_after, ends_after_fill}
+use Rattle.hsms_frame.specs.Io.{Takes, TakesFewer, Stays, Grows, IsAtEnd, ends_after, ends_after_fill}
 
 -- what a buffer has at its front once a part behind the front was written
 pub take-put_mid_add : (n k m : ℕ) (buffer part : List ℕ) → n ≤ length buffer → k ≤ length part
@@ -20,10 +20,10 @@ take-put_mid_add n k m buffer part within fits =
     ∙ ap (λ x. take n buffer ++ x) (take-append-le k part post fits)
 
 -- what stands behind the octets that were written to a room from a place on
-pub behind_written : (place n size : ℕ) (old part given after : List ℕ) → place ≤ length old → size ≡ length old → length given ≡ n
+pub after_written : (place n size : ℕ) (old part given after : List ℕ) → place ≤ length old → size ≡ length old → length given ≡ n
     → n ≤ length old - place → part ≡ given ++ drop n (take (length old - place) (drop place old))
     → drop (place + n) (take size (put_mid place (length old - place) old part ++ after)) ≡ drop n (drop place old)
-behind_written place n size old part given after within whole count fits is =
+after_written place n size old part given after within whole count fits is =
     let rest : List ℕ = drop place old in
     let left : length rest ≡ length old - place = length-drop place old in
     let tail : List ℕ = given ++ drop n rest in
@@ -41,8 +41,8 @@ behind_written place n size old part given after within whole count fits is =
 -- a pull into the part of a buffer behind what was filled
 pub takes_more : (old mid new : Option (List ℕ)) (n k m : ℕ) (buffer part : List ℕ) → n ≤ length buffer → k ≤ length part
     → Takes old mid n buffer → Takes mid new k part → Takes old new (n + k) (put_mid n m buffer part)
-takes_more old mid new n k m buffer part within fits first next octets told =
-    let a = first octets told in
+takes_more old mid new n k m buffer part within fits first next octets known_input =
+    let a = first octets known_input in
     let b = next (drop n octets) a.2 in
     let left : length (drop n octets) ≡ length octets - n = length-drop n octets in
     let n_fits : n ≤ length octets = a.0 in
@@ -55,8 +55,8 @@ takes_more old mid new n k m buffer part within fits first next octets told =
 -- a pull that failed takes none, and leaves what was filled
 takes_none : (old mid new : Option (List ℕ)) (n m : ℕ) (buffer part : List ℕ) → n ≤ length buffer
     → Takes old mid n buffer → Stays mid new → Takes old new n (put_mid n m buffer part)
-takes_none old mid new n m buffer part within first stays octets told =
-    let a = first octets told in
+takes_none old mid new n m buffer part within first stays octets known_input =
+    let a = first octets known_input in
     let front : length (take n buffer) ≡ n = length-take-le n buffer within in (
       a.0,
       take_at (take n buffer) (part ++ post_of n m buffer) n front ∙ a.1,
@@ -72,15 +72,15 @@ stops_short (Err e) old mid new n m buffer part within less first stays = (n, le
 -- a give of what was left of a slice
 pub grows_more : (old mid new : Option (List ℕ)) (n k : ℕ) (octets : List ℕ)
     → Grows old mid (take n octets) → Grows mid new (take k (drop n octets)) → Grows old new (take (n + k) octets)
-grows_more old mid new n k octets first next before told =
-    next (before ++ take n octets) (first before told)
+grows_more old mid new n k octets first next before known_input =
+    next (before ++ take n octets) (first before known_input)
     ∙ ap Some (append_assoc before (take n octets) (take k (drop n octets)) ∙ ap (λ x. before ++ x) (sym (take-add n k octets)))
 
 -- a pull that found the end: what was taken before is all that there was
 pub ends_at : (old mid : Option (List ℕ)) (n : ℕ) (buffer : List ℕ) → Takes old mid n buffer → IsAtEnd mid
     → (octets : List ℕ) → old ≡ Some octets → length octets ≡ n
-ends_at old mid n buffer takes end octets told =
-    let t = takes octets told in
+ends_at old mid n buffer takes end octets known_input =
+    let t = takes octets known_input in
     let within : n ≤ length octets = t.0 in
     let none : length (drop n octets) ≡ 0 = ap length (end (drop n octets) t.2) in
     omega (arith, length-drop n octets, none, within)

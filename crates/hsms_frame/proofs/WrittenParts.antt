@@ -4,18 +4,18 @@ use Rattle.std.specs.Prelude.{Option}
 use Rattle.std.proofs.lemmas.List.{length-append, take-append-le, append_assoc}
 use Rattle.std.proofs.Math.Seq.{take-append-add}
 use Rattle.std.specs.Int.{w32, to_be_bytes}
-use Rattle.hsms_frame.specs.Device.{Grows, GrowsByFront}
+use Rattle.hsms_frame.specs.Io.{Grows, GrowsByFront}
 use Rattle.hsms_frame.specs.Header.{header_octets}
 use Rattle.hsms_frame.specs.Frame.{Frame, frame_octets}
 
 -- both parts were written
 grows_by_both : (old mid new : Option (List ℕ)) (first last : List ℕ) → Grows old mid first → Grows mid new last → Grows old new (first ++ last)
-grows_by_both old mid new first last a b before told = b (before ++ first) (a before told) ∙ ap Some (append_assoc before first last)
+grows_by_both old mid new first last a b before known_input = b (before ++ first) (a before known_input) ∙ ap Some (append_assoc before first last)
 
 -- not all of the first part was written
 stops_in_first : (old new : Option (List ℕ)) (first last : List ℕ) → GrowsByFront old new first → GrowsByFront old new (first ++ last)
-stops_in_first old new first last a before told =
-    let g = a before told in
+stops_in_first old new first last a before known_input =
+    let g = a before known_input in
     let n : ℕ = g.0 in
     let less : n < length first = g.1 in
     (n, omega (arith, length-append first last), g.2 ∙ ap (λ xs. Some (before ++ xs)) (sym (take-append-le n first last (omega arith))))
@@ -23,8 +23,8 @@ stops_in_first old new first last a before told =
 -- the first part was written, and not all of the last
 stops_in_last : (old mid new : Option (List ℕ)) (first last : List ℕ) → Grows old mid first → GrowsByFront mid new last
     → GrowsByFront old new (first ++ last)
-stops_in_last old mid new first last a b before told =
-    let g = b (before ++ first) (a before told) in
+stops_in_last old mid new first last a b before known_input =
+    let g = b (before ++ first) (a before known_input) in
     let n : ℕ = g.0 in
     let less : n < length last = g.1 in (
       length first + n,

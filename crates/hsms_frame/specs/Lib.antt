@@ -1,13 +1,13 @@
-pub mod Ahead
+pub mod ReadAhead
 pub mod Build
 pub mod Calls
-pub mod Count
-pub mod Device
+pub mod CallCounts
+pub mod Io
 pub mod Fault
 pub mod Frame
 pub mod Framing
 pub mod Header
 pub mod Laws
-pub mod Memory
+pub mod TestIo
 pub mod Reading
 pub mod Writing

@@ -5,8 +5,8 @@ use Rattle.hsms_frame.specs.declared.fault.FrameFault.{FrameFault}
 use Rattle.hsms_frame.specs.declared.fault.FrameFault.TheVariants as frame
 use Rattle.hsms_frame.specs.declared.fault.WriteFault.{WriteFault}
 use Rattle.hsms_frame.specs.declared.fault.WriteFault.TheVariants as write
-use Rattle.hsms_frame.specs.Count.{next_count}
-use Rattle.hsms_frame.specs.Device.{Stays, Grows, GrowsByFront}
+use Rattle.hsms_frame.specs.CallCounts.{next_count}
+use Rattle.hsms_frame.specs.Io.{Stays, Grows, GrowsByFront}
 use Rattle.hsms_frame.specs.Frame.{Frame, frame_octets}
 
 -- header and text are n octets, more than a length field counts

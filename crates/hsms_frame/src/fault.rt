@@ -7,8 +7,8 @@ ghost use Rattle.hsms_frame.specs.declared.fault.FrameFault.TheVariants as frame
 ghost use Rattle.hsms_frame.specs.declared.fault.ReadFault.TheVariants.{Memory, Read};
 ghost use Rattle.hsms_frame.specs.declared.fault.WriteFault.TheVariants.{Write};
 
-use crate::device::Failed;
 use crate::header::Header;
+use crate::io::Failed;
 use std::alloc::AllocError;
 use std::error::Error;
 use std::fmt;

@@ -6,7 +6,7 @@ ghost use Rattle.hsms_frame.specs.Framing.{FramesAs, FrontAs, IsPushed, size_of}
 use crate::fault::FrameFault;
 use crate::frame::Frame;
 use crate::header::{HEADER_LENGTH, Header};
-use crate::leading::drop_front;
+use crate::prefix::drop_front;
 use std::alloc::Global;
 use std::marker::Model;
 
@@ -131,7 +131,7 @@ fn front_frame(alloc: Global, octets: &[u8], max: u32) -> Result<Option<Frame>, 
 pub fn front(octets: &[u8], max: u32) -> Result<Option<(Header, usize)>, FrameFault>
     ensures { FrontAs max octets.now result }
 {
-    let Some((field, behind)) = octets.split_first_chunk::<4>() else {
+    let Some((field, subsequent)) = octets.split_first_chunk::<4>() else {
         return Ok(None);
     };
     let length = u32::from_be_bytes(*field);
@@ -140,7 +140,7 @@ pub fn front(octets: &[u8], max: u32) -> Result<Option<(Header, usize)>, FrameFa
             length: u64::from(length),
         });
     }
-    let Some((header, text)) = behind.split_first_chunk::<HEADER_LENGTH>() else {
+    let Some((header, text)) = subsequent.split_first_chunk::<HEADER_LENGTH>() else {
         return Ok(None);
     };
     let header = Header::of(*header);

@@ -30,7 +30,7 @@ impl Header {
     /// The header that ten octets spell. Any ten octets spell one.
     pub fn of(octets: [u8; HEADER_LENGTH]) -> Header
         ensures fits { IsHeader result }
-        ensures spelled { header_octets result ≡ octets }
+        ensures encoded_bytes { header_octets result ≡ octets }
         ensures only { (header : Header) → IsHeader header → header_octets header ≡ octets → result ≡ header }
     {
         let [s0, s1, byte2, byte3, ptype, stype, n0, n1, n2, n3] = octets;

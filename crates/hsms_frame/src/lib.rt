@@ -23,38 +23,38 @@
 //! ```
 #![tactic(auto)]
 
-mod ahead;
 mod build;
+mod call_counts;
 mod classify;
-mod device;
 mod fault;
 mod frame;
 mod framer;
 mod header;
+mod io;
+mod io_loops;
 mod kinds;
 pub mod laws;
-mod leading;
-mod memory;
+mod prefix;
 mod read;
-mod standard;
-mod tally;
-mod transfer;
+mod read_ahead;
+mod std_io;
+mod test_io;
 mod write;
 
-pub use ahead::Ahead;
 pub use build::{
     data_header, linktest_req, linktest_rsp, reject_of, select_req, select_rsp, separate,
 };
 pub use classify::kind;
-pub use device::{Failed, Sink, Source};
 pub use fault::{AheadFault, FrameFault, ReadFault, WriteFault};
 pub use frame::Frame;
 pub use framer::{Framer, front};
 pub use header::{CONTROL_SESSION, HEADER_LENGTH, Header};
+pub use io::{Failed, Sink, Source};
+pub use io_loops::{fill, give_all};
 pub use kinds::Kind;
-pub use leading::{copy_front, drop_front};
-pub use memory::{Feed, Store};
+pub use prefix::{copy_front, drop_front};
 pub use read::read_frame;
-pub use standard::{Reader, Writer};
-pub use transfer::{fill, give_all};
+pub use read_ahead::Ahead;
+pub use std_io::{Reader, Writer};
+pub use test_io::{Feed, Store};
 pub use write::{encode_frame, front_octets, write_frame};

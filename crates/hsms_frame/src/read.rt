@@ -1,14 +1,14 @@
 //! One message from a source.
 
 ghost use Rattle.std.specs.Prelude.{◌≡◌, ◌⊎◌, Option, Result, Err, length};
-ghost use Rattle.hsms_frame.specs.Device.{WhereTold};
+ghost use Rattle.hsms_frame.specs.Io.{IfRecorded};
 ghost use Rattle.hsms_frame.specs.Reading.{CountsPart, CountsWhole, ReadsAs, IsRefusal, TakesFront, TakesLength};
 
-use crate::device::Source;
 use crate::fault::ReadFault;
 use crate::frame::Frame;
 use crate::header::{HEADER_LENGTH, Header};
-use crate::transfer::fill;
+use crate::io::Source;
+use crate::io_loops::fill;
 use std::alloc::Global;
 
 /// Reads one message, and none of the octets behind it: four octets, then ten, then the text (SEMI E37, section 8.1).
@@ -31,9 +31,9 @@ pub fn read_frame<R: Source>(
     max: u32,
 ) -> Result<Option<Frame>, ReadFault>
     // The answer is one to the octets that the source had left.
-    ensures answer { WhereTold (R.state source.old).left (λ input. ReadsAs max input result (R.state source.new).left) }
+    ensures answer { IfRecorded (R.state source.old).left (λ input. ReadsAs max input result (R.state source.new).left) }
     // No other answer is.
-    ensures only { WhereTold (R.state source.old).left (λ input. (answer : _) (left : _) → ReadsAs max input answer left
+    ensures only { IfRecorded (R.state source.old).left (λ input. (answer : _) (left : _) → ReadsAs max input answer left
         → IsRefusal answer ⊎ IsRefusal result ⊎ (result ≡ answer)) }
     ensures counts { CountsWhole result (R.state source.old) (R.state source.new) }
 {
@@ -45,8 +45,8 @@ fn read_message<R: Source>(
     source: &mut R,
     max: u32,
 ) -> Result<Option<Frame>, ReadFault>
-    ensures answer { WhereTold (R.state source.old).left (λ input. ReadsAs max input result (R.state source.new).left) }
-    ensures only { WhereTold (R.state source.old).left (λ input. (answer : _) (left : _) → ReadsAs max input answer left
+    ensures answer { IfRecorded (R.state source.old).left (λ input. ReadsAs max input result (R.state source.new).left) }
+    ensures only { IfRecorded (R.state source.old).left (λ input. (answer : _) (left : _) → ReadsAs max input answer left
         → IsRefusal answer ⊎ IsRefusal result ⊎ (result ≡ answer)) }
     ensures counts { CountsWhole result (R.state source.old) (R.state source.new) }
 {
@@ -73,7 +73,7 @@ fn read_message<R: Source>(
 
 // The length field of the next message, if there is one.
 fn read_length<R: Source>(source: &mut R) -> Result<Option<u32>, ReadFault>
-    ensures answer { WhereTold (R.state source.old).left (λ input. TakesLength input result (R.state source.new).left) }
+    ensures answer { IfRecorded (R.state source.old).left (λ input. TakesLength input result (R.state source.new).left) }
     ensures counts { CountsWhole result (R.state source.old) (R.state source.new) }
 {
     let mut field = [0u8; 4];
@@ -89,7 +89,7 @@ fn read_length<R: Source>(source: &mut R) -> Result<Option<u32>, ReadFault>
 
 // Fills a slice.
 fn read_all<R: Source>(source: &mut R, into: &mut [u8]) -> Result<(), ReadFault>
-    ensures answer { WhereTold (R.state source.old).left
+    ensures answer { IfRecorded (R.state source.old).left
         (λ input. TakesFront (λ _. into.new) (length into.old) input result (R.state source.new).left) }
     ensures len { length into.new ≡ length into.old }
     ensures memory { result ≡ Err ReadFault.Memory → ⊥ }
@@ -104,7 +104,7 @@ fn read_all<R: Source>(source: &mut R, into: &mut [u8]) -> Result<(), ReadFault>
 
 // The text of a message.
 fn read_text<R: Source>(alloc: Global, source: &mut R, size: usize) -> Result<Vec<u8>, ReadFault>
-    ensures answer { WhereTold (R.state source.old).left
+    ensures answer { IfRecorded (R.state source.old).left
         (λ input. TakesFront (λ text. text.items) size input result (R.state source.new).left) }
     ensures counts { CountsPart result (R.state source.old) (R.state source.new) }
 {

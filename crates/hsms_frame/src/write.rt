@@ -6,11 +6,11 @@ ghost use Rattle.hsms_frame.specs.Frame.{frame_octets};
 ghost use Rattle.hsms_frame.specs.Header.{header_octets};
 ghost use Rattle.hsms_frame.specs.Writing.{IsNotEncoded, WritesAs, failures_after_write};
 
-use crate::device::Sink;
 use crate::fault::{FrameFault, WriteFault};
 use crate::frame::Frame;
 use crate::header::Header;
-use crate::transfer::give_all;
+use crate::io::Sink;
+use crate::io_loops::give_all;
 use std::alloc::Global;
 
 /// The octets of a message.

@@ -9,7 +9,7 @@ use lib.Lanes.{Each1, chunk, digits_l, mask_l, number_l, sel_l, top, zip2}
 use Rattle.hex.specs.Hex.{decode_pairs, hex_digit_value, is_hex_digit, pair_value}
 use Rattle.hex.proofs.Pairs.{prepend, decode_start, decode_step, decode_done}
 use Rattle.hex.proofs.HexLemmas.{decode_of-ok, decode_of-even}
-use Rattle.hsms_log.specs.Spelling.{IsHexOf}
+use Rattle.hsms_log.specs.LineFormat.{IsHexOf}
 use Rattle.hsms_log.specs.Digits.{value_or_none, IsPair, IsValueOf, AreSmall, AreRead}
 
 -- ---- from octets to the definition
@@ -43,9 +43,9 @@ decoded digits octets size read =
 
 -- one is none
 pub undecoded : (digits : List ℕ) (k : ℕ) → k < length digits → is_hex_digit (get_or digits k 0) ≡ false
-    → (spelled : List ℕ) → IsHexOf digits spelled → ⊥
-undecoded digits k fits other spelled hex =
-    let parts = decode_of-ok digits spelled hex in
+    → (encoded_bytes : List ℕ) → IsHexOf digits encoded_bytes → ⊥
+undecoded digits k fits other encoded_bytes hex =
+    let parts = decode_of-ok digits encoded_bytes hex in
     let digit = All-get_or (λ c. is_hex_digit c ≡ true) digits k 0 fits parts.1 in
     let no = sym digit ∙ other in cc no
 
@@ -55,7 +55,7 @@ pub read_on : (digits values old new : List ℕ) (place passed : ℕ) → place 
     → ((k : ℕ) → k < place → get_or new k 0 ≡ get_or old k 0)
     → ((k : ℕ) → k < 8 → get_or new (place + k) 0 ≡ get_or values (2 * k) 0 * 16 + get_or values (2 * k + 1) 0)
     → AreRead digits new (place + 8)
-read_on digits values old new place passed within read told small before joined k less =
+read_on digits values old new place passed within read found_fact small before joined k less =
     elim (cases_lt k place) [
       | inl early ↦
           subst (λ v. IsPair (get_or digits (2 * k) 0) (get_or digits (2 * k + 1) 0) v) (sym (before k early)) (read k (omega arith))
@@ -65,9 +65,9 @@ read_on digits values old new place passed within read told small before joined 
           let first : 2 * place + 2 * j ≡ 2 * k = omega arith in
           let second : 2 * place + (2 * j + 1) ≡ 2 * k + 1 = omega arith in
           let high : get_or values (2 * j) 0 ≡ value_or_none (get_or digits (2 * k) 0) =
-          (told (2 * j) (omega arith)).0 (small (2 * j) (omega arith)) ∙ ap (λ n. value_or_none (get_or digits n 0)) first in
+          (found_fact (2 * j) (omega arith)).0 (small (2 * j) (omega arith)) ∙ ap (λ n. value_or_none (get_or digits n 0)) first in
           let low : get_or values (2 * j + 1) 0 ≡ value_or_none (get_or digits (2 * k + 1) 0) =
-          (told (2 * j + 1) (omega arith)).0 (small (2 * j + 1) (omega arith)) ∙ ap (λ n. value_or_none (get_or digits n 0)) second in
+          (found_fact (2 * j + 1) (omega arith)).0 (small (2 * j + 1) (omega arith)) ∙ ap (λ n. value_or_none (get_or digits n 0)) second in
           let octet : get_or new k 0 ≡ get_or values (2 * j) 0 * 16 + get_or values (2 * j + 1) 0 =
           ap (λ n. get_or new n 0) (sym here) ∙ joined j (omega arith) in (
             subst (λ n. n < 16) high (small (2 * j) (omega arith)),
@@ -111,26 +111,26 @@ pub lanes_as_many : (f : ℕ → ℕ) (v : List ℕ) {values : List ℕ} {n : �
 lanes_as_many f v is long = ap length is ∙ length-map v f ∙ long
 
 -- whether a number stands for an octet
-abbrev pub stands_for : ℕ → ℕ → Bool
-stands_for c v = cond (leb 16 v) (not (is_hex_digit c)) (eqb v (value_or_none c))
+abbrev pub is_value_for : ℕ → ℕ → Bool
+is_value_for c v = cond (leb 16 v) (not (is_hex_digit c)) (eqb v (value_or_none c))
 
-stands : (c v : ℕ) → stands_for c v ≡ true → IsValueOf c v
-stands c v e = go (leb 16 v) refl e
+consistent : (c v : ℕ) → is_value_for c v ≡ true → IsValueOf c v
+consistent c v e = go (leb 16 v) refl e
   where
     go : (t : Bool) → leb 16 v ≡ t → cond t (not (is_hex_digit c)) (eqb v (value_or_none c)) ≡ true → IsValueOf c v
     go true p q = (let large = leb-true 16 v p in λ small. absurd (omega (arith, large, small)), λ _. not-true _ q)
     go false p q = (λ _. eqb-true v (value_or_none c) q, let small = leb-false 16 v p in λ large. absurd (omega (arith, large, small)))
 
 -- what is computed of sixteen octets stands for them, where it does for each octet that there is
-pub values_told : (f : ℕ → ℕ) (digits values : List ℕ) (place : ℕ) → place + 16 ≤ length digits → ((k : ℕ) → Fits w8 (get_or digits k 0))
-    → values ≡ map f (chunk place 16 digits) → agree_below (λ c. stands_for c (f c)) (λ _. true) 256 ≡ true
+pub values_decoded : (f : ℕ → ℕ) (digits values : List ℕ) (place : ℕ) → place + 16 ≤ length digits → ((k : ℕ) → Fits w8 (get_or digits k 0))
+    → values ≡ map f (chunk place 16 digits) → agree_below (λ c. is_value_for c (f c)) (λ _. true) 256 ≡ true
     → (k : ℕ) → k < 16 → IsValueOf (get_or digits (place + k) 0) (get_or values k 0)
-values_told f digits values place room fits is all k less =
+values_decoded f digits values place room fits is all k less =
     let v = chunk place 16 digits in
     let long = length-chunk place 16 digits room in
     let c = get_or digits (place + k) 0 in
     let same = ap (λ l. get_or l k 0) is ∙ get_or-map f v k 0 0 (omega (arith, long)) ∙ ap f (get_or-chunk place 16 digits k 0 less) in
-    subst (λ n. IsValueOf c n) (sym same) (stands c (f c) (agree_below_at (λ c. stands_for c (f c)) (λ _. true) 256 c all (fits (place + k)).fits))
+    subst (λ n. IsValueOf c n) (sym same) (consistent c (f c) (agree_below_at (λ c. is_value_for c (f c)) (λ _. true) 256 c all (fits (place + k)).fits))
 
 -- ---- the greater of lanes
 

@@ -10,7 +10,7 @@ use Rattle.hex.specs.Hex.{decode_of}
 use Rattle.hex.proofs.HexLemmas.{decode_of-ok}
 use Rattle.hsms_frame.specs.Frame.{Frame}
 use Rattle.hsms_frame.proofs.Octets.{IsOctets-take}
-use Rattle.hsms_frame.proofs.Spelled.{header_of, header_octets-header_of, IsHeader-header_of}
+use Rattle.hsms_frame.proofs.FramedMessages.{header_of, header_octets-header_of, IsHeader-header_of}
 use Rattle.hsms_machine.specs.declared.entry.Entry.{Entry}
 use Rattle.hsms_machine.specs.declared.entry.Event.{Event}
 use Rattle.hsms_machine.specs.declared.entry.Event.TheVariants.{Up, Sent, Taken, Discarded, T3, Cut, Down}
@@ -19,19 +19,19 @@ use Rattle.hsms_machine.specs.declared.entry.Cause.TheVariants.{T6, T7, T8, Leng
 use Rattle.hsms_machine.specs.declared.rule.Rule.{Rule}
 use Rattle.hsms_machine.specs.Settings.{Parameters, IsTimeLimit, IsWithinLimits}
 use Rattle.hsms_machine.specs.Run.{Broken as IsFirstBroken, IsRun}
-use Rattle.hsms_machine.specs.Laws.{LawfulEntryExtendsRun, EachEntryHasAnAnswer, EmptyLogIsRun, HasOctets}
+use Rattle.hsms_machine.specs.Laws.{ValidEntryExtendsRun, EachEntryHasAnAnswer, EmptyLogIsRun, HasOctets}
 use Rattle.hsms_log.specs.declared.verdict.Why.TheVariants.{Unreadable, Broken}
 use Rattle.hsms_log.specs.declared.verdict.Verdict.{Verdict}
 use Rattle.hsms_log.specs.declared.verdict.Verdict.TheVariants.{Pass, Fail}
-use Rattle.hsms_log.specs.Spelling.{SpellsSettings, SpellsEntry, SpellsEvent, SpellsOctets, IsEvent, IsMessage, IsHexOf, message_octets, system_octets, cause_word, Carries, line_limit}
+use Rattle.hsms_log.specs.LineFormat.{EncodesSettings, EncodesEntry, EncodesEvent, EncodesOctets, IsEvent, IsMessage, IsHexOf, message_octets, system_octets, cause_word, Carries, line_limit}
 use Rattle.hsms_log.specs.Reading.{settings_at, number_at}
-use Rattle.hsms_log.specs.Log.{SpellLog}
-use Rattle.hsms_log.specs.Verdict.{LinesJudged, summary_of}
-use Rattle.hsms_log.proofs.Binds.{some_inj}
-use Rattle.hsms_log.proofs.SettingsLaws.{spelled_is_read, read_is_spelled, settings_unread}
+use Rattle.hsms_log.specs.Log.{EncodesLog}
+use Rattle.hsms_log.specs.Verdict.{LinesAudited, summary_of}
+use Rattle.hsms_log.proofs.LineBindings.{some_inj}
+use Rattle.hsms_log.proofs.SettingsLaws.{encoded_is_read, read_is_encoded, settings_unread}
 use Rattle.hsms_log.proofs.HexLaws.{message_found, message_none, message_short}
 use Rattle.hsms_log.proofs.EntryLaws.{entry_unread, event_unread, entry_found, line_unread}
-use Rattle.hsms_log.proofs.JudgeLaws.{spell_more}
+use Rattle.hsms_log.proofs.RuleCheckLaws.{encode_more}
 
 -- ---- what can be decided
 
@@ -60,18 +60,18 @@ within_decided s =
       | inr fails ↦ inr (λ w. fails ((w.least_version, w.greatest_version), (w.device, (w.t3, (w.t6, (w.t7, (w.t8, (w.least_max, (w.greatest_max, (w.least_depth, (w.greatest_depth)))))))))))
     ]
 
-settings_go : (line : List ℕ) (o : Option Parameters) → settings_at line ≡ o → Decided ((s : Parameters) × SpellsSettings line s)
+settings_go : (line : List ℕ) (o : Option Parameters) → settings_at line ≡ o → Decided ((s : Parameters) × EncodesSettings line s)
 settings_go line None is = inr (λ h. settings_unread line is h.0 h.1)
 settings_go line (Some s) is =
     elim (within_decided s) [
-      | inl w ↦ inl (s, read_is_spelled line s is w)
+      | inl w ↦ inl (s, read_is_encoded line s is w)
       | inr fails ↦ inr (λ h.
-          let same = some_inj h.0 s (sym (spelled_is_read line h.0 h.1) ∙ is) in
+          let same = some_inj h.0 s (sym (encoded_is_read line h.0 h.1) ∙ is) in
           let P : Parameters → Type 0 = λ p. IsWithinLimits p in
           fails (subst P same h.1.within))
     ]
 
-settings_decided : (line : List ℕ) → Decided ((s : Parameters) × SpellsSettings line s)
+settings_decided : (line : List ℕ) → Decided ((s : Parameters) × EncodesSettings line s)
 settings_decided line = settings_go line (settings_at line) refl
 
 -- ---- events
@@ -144,7 +144,7 @@ system_decided digits = system_go digits (decode_of digits) refl
 
 -- a mark, a space and a message
 abbrev Marked : List ℕ → List ℕ → Type 0
-Marked mark text = (f : Frame) × IsMessage f × SpellsOctets text mark (message_octets f)
+Marked mark text = (f : Frame) × IsMessage f × EncodesOctets text mark (message_octets f)
 
 marked_decided : (m : ℕ) (text : List ℕ) → Decided (Marked (m ∷ []) text)
 marked_decided m text =
@@ -161,7 +161,7 @@ marked_decided m text =
     ]
 
 abbrev Expired : List ℕ → Type 0
-Expired text = (n : ℕ) × (n < 2 ^ 32) × SpellsOctets text (codes "t3") (system_octets n)
+Expired text = (n : ℕ) × (n < 2 ^ 32) × EncodesOctets text (codes "t3") (system_octets n)
 
 expired_decided : (text : List ℕ) → Decided (Expired text)
 expired_decided text =
@@ -203,7 +203,7 @@ cut_decided text =
     ]
 
 no_event : (text : List ℕ) → (text ≡ codes "up" → ⊥) → (text ≡ codes "down" → ⊥) → (((cause : Cause) × IsCut text cause) → ⊥) → (Expired text → ⊥)
-    → (Marked (codes ">") text → ⊥) → (Marked (codes "<") text → ⊥) → (Marked (codes "!") text → ⊥) → (event : Event) → IsEvent event → SpellsEvent text event → ⊥
+    → (Marked (codes ">") text → ⊥) → (Marked (codes "<") text → ⊥) → (Marked (codes "!") text → ⊥) → (event : Event) → IsEvent event → EncodesEvent text event → ⊥
 no_event text up down cut expired sent taken discarded Up fits h = up h
 no_event text up down cut expired sent taken discarded (Sent frame) fits h = sent (frame, fits, h)
 no_event text up down cut expired sent taken discarded (Taken frame) fits h = taken (frame, fits, h)
@@ -212,7 +212,7 @@ no_event text up down cut expired sent taken discarded (T3 system) fits h = expi
 no_event text up down cut expired sent taken discarded (Cut cause) fits h = cut (cause, h)
 no_event text up down cut expired sent taken discarded Down fits h = down h
 
-event_decided : (text : List ℕ) → Decided ((event : Event) × IsEvent event × SpellsEvent text event)
+event_decided : (text : List ℕ) → Decided ((event : Event) × IsEvent event × EncodesEvent text event)
 event_decided text =
     elim (word_decided (codes "up") text) [
       | inl h ↦ inl (Up, tt, h)
@@ -246,15 +246,15 @@ event_decided text =
 
 -- ---- lines
 
-entry_go : (line : List ℕ) (o : Option (ℕ × List ℕ)) → number_at line ≡ o → Decided ((entry : Entry) × SpellsEntry line entry)
+entry_go : (line : List ℕ) (o : Option (ℕ × List ℕ)) → number_at line ≡ o → Decided ((entry : Entry) × EncodesEntry line entry)
 entry_go line None is = inr (λ h. entry_unread line is h.0 h.1)
 entry_go line (Some (time, text)) is =
     elim (event_decided text) [
       | inl e ↦ inl (record { time = time; event = e.0 }, entry_found line text time e.0 is e.1 e.2)
-      | inr fails ↦ inr (λ h. event_unread line text time is (λ event fits spelled. fails (event, fits, spelled)) h.0 h.1)
+      | inr fails ↦ inr (λ h. event_unread line text time is (λ event fits encoded_bytes. fails (event, fits, encoded_bytes)) h.0 h.1)
     ]
 
-entry_decided : (line : List ℕ) → Decided ((entry : Entry) × SpellsEntry line entry)
+entry_decided : (line : List ℕ) → Decided ((entry : Entry) × EncodesEntry line entry)
 entry_decided line = entry_go line (number_at line) refl
 
 line_go : (max : ℕ) (line : List ℕ) → length line ≤ line_limit max → Decided ((carried : Option Entry) × Carries max line carried)
@@ -265,7 +265,7 @@ line_go max (octet ∷ line) fits =
       | inr other ↦
           elim (entry_decided (octet ∷ line)) [
             | inl entry ↦ inl (Some entry.0, (fits, entry.1))
-            | inr fails ↦ inr (λ h. line_unread max (octet ∷ line) other (λ entry spelled. fails (entry, spelled)) h.0 h.1)
+            | inr fails ↦ inr (λ h. line_unread max (octet ∷ line) other (λ entry encoded_bytes. fails (entry, encoded_bytes)) h.0 h.1)
           ]
     ]
 
@@ -293,52 +293,52 @@ has_octets Down fits = tt
 
 -- the verdict on the lines, whatever the lines before the last ones are
 abbrev HasVerdict : List ℕ → List (List ℕ) → Type 0
-HasVerdict first others = (v : Verdict) × LinesJudged (first ∷ others) v
+HasVerdict first others = (v : Verdict) × LinesAudited (first ∷ others) v
 
 abbrev Onwards : Parameters → List ℕ → List (List ℕ) → Type 0
-Onwards s first others = (done : List (List ℕ)) (log : List Entry) → SpellLog (first ∷ done) s log → IsRun s log → HasVerdict first (done ++ others)
+Onwards s first others = (done : List (List ℕ)) (log : List Entry) → EncodesLog (first ∷ done) s log → IsRun s log → HasVerdict first (done ++ others)
 
-answered : (extends : LawfulEntryExtendsRun) (s : Parameters) (first : List ℕ) (done : List (List ℕ)) (line : List ℕ) (others : List (List ℕ)) (log : List Entry) (entry : Entry)
-    → SpellLog (first ∷ done) s log → IsRun s log → Carries s.max line (Some entry) → Onwards s first others
+answered : (extends : ValidEntryExtendsRun) (s : Parameters) (first : List ℕ) (done : List (List ℕ)) (line : List ℕ) (others : List (List ℕ)) (log : List Entry) (entry : Entry)
+    → EncodesLog (first ∷ done) s log → IsRun s log → Carries s.max line (Some entry) → Onwards s first others
     → (answer : Option Rule) → IsFirstBroken s log entry answer → HasVerdict first (done ++ line ∷ others)
-answered extends s first done line others log entry spelled run carries onwards (Some rule) broken =
-    (Fail (length (first ∷ done) + 1) (Broken rule), inl (first ∷ done, line, others, refl, refl, (s, log, record { spelled = spelled; run = run }, (entry, carries, broken))))
-answered extends s first done line others log entry spelled run carries onwards None lawful =
-    let more = spell_more (first ∷ done) s log line (Some entry) spelled carries in
-    let v = onwards (done ++ line ∷ []) (log ++ entry ∷ []) more (extends s log entry run lawful) in
-    let P : List (List ℕ) → Type 0 = λ l. LinesJudged (first ∷ l) v.0 in
+answered extends s first done line others log entry encoded_bytes run carries onwards (Some rule) broken =
+    (Fail (length (first ∷ done) + 1) (Broken rule), inl (first ∷ done, line, others, refl, refl, (s, log, record { encoded_bytes = encoded_bytes; run = run }, (entry, carries, broken))))
+answered extends s first done line others log entry encoded_bytes run carries onwards None is_valid =
+    let more = encode_more (first ∷ done) s log line (Some entry) encoded_bytes carries in
+    let v = onwards (done ++ line ∷ []) (log ++ entry ∷ []) more (extends s log entry run is_valid) in
+    let P : List (List ℕ) → Type 0 = λ l. LinesAudited (first ∷ l) v.0 in
     (v.0, subst P (append_assoc done (line ∷ []) others) v.1)
 
-carried_judged : (extends : LawfulEntryExtendsRun) (some_answer : EachEntryHasAnAnswer) (s : Parameters) (first : List ℕ) (done : List (List ℕ)) (line : List ℕ) (others : List (List ℕ))
-    (log : List Entry) → SpellLog (first ∷ done) s log → IsRun s log → Onwards s first others
+carried_audited : (extends : ValidEntryExtendsRun) (some_answer : EachEntryHasAnAnswer) (s : Parameters) (first : List ℕ) (done : List (List ℕ)) (line : List ℕ) (others : List (List ℕ))
+    (log : List Entry) → EncodesLog (first ∷ done) s log → IsRun s log → Onwards s first others
     → (carried : Option Entry) → Carries s.max line carried → HasVerdict first (done ++ line ∷ others)
-carried_judged extends some_answer s first done line others log spelled run onwards None carries =
-    let Q : List Entry → Type 0 = λ l. SpellLog (first ∷ (done ++ line ∷ [])) s l in
-    let more = subst Q (append-nil log) (spell_more (first ∷ done) s log line None spelled carries) in
+carried_audited extends some_answer s first done line others log encoded_bytes run onwards None carries =
+    let Q : List Entry → Type 0 = λ l. EncodesLog (first ∷ (done ++ line ∷ [])) s l in
+    let more = subst Q (append-nil log) (encode_more (first ∷ done) s log line None encoded_bytes carries) in
     let v = onwards (done ++ line ∷ []) log more run in
-    let P : List (List ℕ) → Type 0 = λ l. LinesJudged (first ∷ l) v.0 in
+    let P : List (List ℕ) → Type 0 = λ l. LinesAudited (first ∷ l) v.0 in
     (v.0, subst P (append_assoc done (line ∷ []) others) v.1)
-carried_judged extends some_answer s first done line others log spelled run onwards (Some entry) carries =
+carried_audited extends some_answer s first done line others log encoded_bytes run onwards (Some entry) carries =
     let answer = some_answer s log entry run (has_octets entry.event carries.1.fits.event) in
-    answered extends s first done line others log entry spelled run carries onwards answer.0 answer.1
+    answered extends s first done line others log entry encoded_bytes run carries onwards answer.0 answer.1
 
-judged_onwards : (extends : LawfulEntryExtendsRun) (some_answer : EachEntryHasAnAnswer) (s : Parameters) (first : List ℕ) (others : List (List ℕ)) → Onwards s first others
-judged_onwards extends some_answer s first [] done log spelled run =
-    let P : List (List ℕ) → Type 0 = λ l. LinesJudged (first ∷ l) (Pass (summary_of log)) in
-    (Pass (summary_of log), subst P (sym (append-nil done)) (s, log, record { spelled = spelled; run = run }, refl))
-judged_onwards extends some_answer s first (line ∷ others) done log spelled run =
+audited_onwards : (extends : ValidEntryExtendsRun) (some_answer : EachEntryHasAnAnswer) (s : Parameters) (first : List ℕ) (others : List (List ℕ)) → Onwards s first others
+audited_onwards extends some_answer s first [] done log encoded_bytes run =
+    let P : List (List ℕ) → Type 0 = λ l. LinesAudited (first ∷ l) (Pass (summary_of log)) in
+    (Pass (summary_of log), subst P (sym (append-nil done)) (s, log, record { encoded_bytes = encoded_bytes; run = run }, refl))
+audited_onwards extends some_answer s first (line ∷ others) done log encoded_bytes run =
     elim (line_decided s.max line) [
-      | inl found ↦ carried_judged extends some_answer s first done line others log spelled run (judged_onwards extends some_answer s first others) found.0 found.1
+      | inl found ↦ carried_audited extends some_answer s first done line others log encoded_bytes run (audited_onwards extends some_answer s first others) found.0 found.1
       | inr fails ↦ (
         Fail (length (first ∷ done) + 1) Unreadable,
-        inl (first ∷ done, line, others, refl, refl, (s, log, record { spelled = spelled; run = run }, λ carried h. fails (carried, h))),
+        inl (first ∷ done, line, others, refl, refl, (s, log, record { encoded_bytes = encoded_bytes; run = run }, λ carried h. fails (carried, h))),
       )
     ]
 
-pub lines_judged : (extends : LawfulEntryExtendsRun) (some_answer : EachEntryHasAnAnswer) (empty : EmptyLogIsRun) (lines : List (List ℕ)) → (v : Verdict) × LinesJudged lines v
-lines_judged extends some_answer empty [] = (Fail 1 Unreadable, inr (refl, refl, refl))
-lines_judged extends some_answer empty (first ∷ others) =
+pub lines_audited : (extends : ValidEntryExtendsRun) (some_answer : EachEntryHasAnAnswer) (empty : EmptyLogIsRun) (lines : List (List ℕ)) → (v : Verdict) × LinesAudited lines v
+lines_audited extends some_answer empty [] = (Fail 1 Unreadable, inr (refl, refl, refl))
+lines_audited extends some_answer empty (first ∷ others) =
     elim (settings_decided first) [
-      | inl found ↦ judged_onwards extends some_answer found.0 first others [] [] (found.1, refl) (empty found.0)
+      | inl found ↦ audited_onwards extends some_answer found.0 first others [] [] (found.1, refl) (empty found.0)
       | inr fails ↦ (Fail 1 Unreadable, inl ([], first, others, refl, refl, ((λ s h. fails (s, h)), refl)))
     ]

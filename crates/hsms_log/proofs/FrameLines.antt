@@ -12,27 +12,27 @@ use Rattle.hsms_machine.specs.declared.entry.Event.{Event}
 use Rattle.hsms_machine.specs.declared.entry.Event.TheVariants as event
 use Rattle.hsms_machine.specs.Entry.{frame_entry}
 use Rattle.hex.proofs.HexLemmas.{decode_of-ok}
-use Rattle.hsms_log.specs.Spelling.{SpellsEntry, SpellsEvent, IsHexOf, message_octets}
-use Rattle.hsms_log.specs.Carried.{HasFrame, SpellsFramesAlone, SpellsNoFrame}
+use Rattle.hsms_log.specs.LineFormat.{EncodesEntry, EncodesEvent, IsHexOf, message_octets}
+use Rattle.hsms_log.specs.LineContent.{HasFrame, EncodesFramesOnly, EncodesNoFrame}
 use Rattle.hsms_log.specs.Reading.{number_at}
-use Rattle.hsms_log.specs.FrameLine.{IsSpelled, mark_word}
+use Rattle.hsms_log.specs.FrameLine.{IsEncoded, mark_word}
 use Rattle.hsms_log.proofs.EntryLaws.{entry_found, event_after}
 use Rattle.hsms_log.proofs.Uniqueness.{marked_after}
 
 pub frame_found : (line text digits : List ℕ) (time : ℕ) (mark : Mark) (header : Header) (octets : List ℕ) → number_at line ≡ Some (time, text)
-    → text ≡ mark_word mark ++ 32 ∷ digits → IsSpelled digits header octets → SpellsEntry line (frame_entry time mark header octets)
-frame_found line text digits time Sent header octets at text_is spelled =
-    entry_found line text time (event.Sent (record { header = header; text = octets })) at spelled.0 (digits, spelled.1, text_is)
-frame_found line text digits time Taken header octets at text_is spelled =
-    entry_found line text time (event.Taken (record { header = header; text = octets })) at spelled.0 (digits, spelled.1, text_is)
-frame_found line text digits time Discarded header octets at text_is spelled =
-    entry_found line text time (event.Discarded (record { header = header; text = octets })) at spelled.0 (digits, spelled.1, text_is)
+    → text ≡ mark_word mark ++ 32 ∷ digits → IsEncoded digits header octets → EncodesEntry line (frame_entry time mark header octets)
+frame_found line text digits time Sent header octets at text_is encoded_bytes =
+    entry_found line text time (event.Sent (record { header = header; text = octets })) at encoded_bytes.0 (digits, encoded_bytes.1, text_is)
+frame_found line text digits time Taken header octets at text_is encoded_bytes =
+    entry_found line text time (event.Taken (record { header = header; text = octets })) at encoded_bytes.0 (digits, encoded_bytes.1, text_is)
+frame_found line text digits time Discarded header octets at text_is encoded_bytes =
+    entry_found line text time (event.Discarded (record { header = header; text = octets })) at encoded_bytes.0 (digits, encoded_bytes.1, text_is)
 
 -- digits of a message are even in number, and at least twenty
 pub message_size : (digits : List ℕ) (frame : Frame) → IsHexOf digits (message_octets frame) → (length digits % 2 ≡ 0) × (20 ≤ length digits)
 unfolding message_octets
-message_size digits frame spelled =
-    let parts = decode_of-ok digits (header_octets frame.header ++ frame.text) spelled in
+message_size digits frame encoded_bytes =
+    let parts = decode_of-ok digits (header_octets frame.header ++ frame.text) encoded_bytes in
     let size : length (header_octets frame.header ++ frame.text) ≡ length (header_octets frame.header) + length frame.text =
     length-append (header_octets frame.header) frame.text in
     let ten : length (header_octets frame.header) ≡ 10 = refl in
@@ -48,12 +48,12 @@ written_all octets items n one two =
 -- ---- which events a line spells
 
 -- a frame has a mark, and digits behind it
-event_frame : (text : List ℕ) (e : Event) → SpellsEvent text e → HasFrame e
+event_frame : (text : List ℕ) (e : Event) → EncodesEvent text e → HasFrame e
     → (mark : Mark) × (digits : List ℕ) × (frame : Frame) × IsHexOf digits (message_octets frame) × (text ≡ mark_word mark ++ 32 ∷ digits)
-event_frame text (event.Sent frame) spelled framed = (Sent, spelled.0, frame, spelled.1, spelled.2)
-event_frame text (event.Taken frame) spelled framed = (Taken, spelled.0, frame, spelled.1, spelled.2)
-event_frame text (event.Discarded frame) spelled framed = (Discarded, spelled.0, frame, spelled.1, spelled.2)
-event_frame text e spelled framed = absurd framed
+event_frame text (event.Sent frame) encoded_bytes framed = (Sent, encoded_bytes.0, frame, encoded_bytes.1, encoded_bytes.2)
+event_frame text (event.Taken frame) encoded_bytes framed = (Taken, encoded_bytes.0, frame, encoded_bytes.1, encoded_bytes.2)
+event_frame text (event.Discarded frame) encoded_bytes framed = (Discarded, encoded_bytes.0, frame, encoded_bytes.1, encoded_bytes.2)
+event_frame text e encoded_bytes framed = absurd framed
 
 mark_size : (mark : Mark) → length (mark_word mark) ≡ 1
 mark_size Sent = refl
@@ -66,43 +66,43 @@ after_mark Taken digits = refl
 after_mark Discarded digits = refl
 
 -- a line of so few octets spells no frame
-pub frame_short : (line : List ℕ) → length line < 24 → SpellsNoFrame line
-frame_short line short entry spelled framed =
-    let text = spelled.spelled.0 in
-    let parts = event_frame text entry.event spelled.spelled.1 framed in
+pub frame_short : (line : List ℕ) → length line < 24 → EncodesNoFrame line
+frame_short line short entry encoded_bytes framed =
+    let text = encoded_bytes.encoded_bytes.0 in
+    let parts = event_frame text entry.event encoded_bytes.encoded_bytes.1 framed in
     let digits = parts.1 in
     let size = (message_size digits parts.2 parts.3).1 in
-    let some : 0 < length (decimal entry.time) = decimal_nonempty entry.time spelled.fits.time in
+    let some : 0 < length (decimal entry.time) = decimal_nonempty entry.time encoded_bytes.fits.time in
     let long : length line ≡ length (decimal entry.time) + length (32 ∷ text) =
-    ap length spelled.spelled.2 ∙ length-append (decimal entry.time) (32 ∷ text) in
+    ap length encoded_bytes.encoded_bytes.2 ∙ length-append (decimal entry.time) (32 ∷ text) in
     let marked : length text ≡ length (mark_word parts.0) + length (32 ∷ digits) =
     ap length parts.4 ∙ length-append (mark_word parts.0) (32 ∷ digits) in
     omega (arith, short, size, some, long, marked, mark_size parts.0)
 
 -- nor does one whose event begins with no mark
 pub frame_unmarked : (line text : List ℕ) (time : ℕ) → number_at line ≡ Some (time, text)
-    → ((mark : Mark) (digits : List ℕ) → text ≡ mark_word mark ++ 32 ∷ digits → ⊥) → SpellsNoFrame line
-frame_unmarked line text time at none entry spelled framed =
-    let parts = event_frame text entry.event (event_after line text time at entry spelled).1 framed in
+    → ((mark : Mark) (digits : List ℕ) → text ≡ mark_word mark ++ 32 ∷ digits → ⊥) → EncodesNoFrame line
+frame_unmarked line text time at none entry encoded_bytes framed =
+    let parts = event_frame text entry.event (event_after line text time at entry encoded_bytes).1 framed in
     none parts.0 parts.1 parts.4
 
 -- nor does one whose digits spell no message
 pub frame_unread : (line text digits : List ℕ) (time : ℕ) (mark : Mark) → number_at line ≡ Some (time, text) → text ≡ mark_word mark ++ 32 ∷ digits
-    → ((frame : Frame) → IsHexOf digits (message_octets frame) → ⊥) → SpellsNoFrame line
-frame_unread line text digits time mark at text_is none entry spelled framed =
-    let parts = event_frame text entry.event (event_after line text time at entry spelled).1 framed in
+    → ((frame : Frame) → IsHexOf digits (message_octets frame) → ⊥) → EncodesNoFrame line
+frame_unread line text digits time mark at text_is none entry encoded_bytes framed =
+    let parts = event_frame text entry.event (event_after line text time at entry encoded_bytes).1 framed in
     let same : parts.1 ≡ digits =
     sym (after_mark parts.0 parts.1) ∙ ap (drop 2) (sym parts.4 ∙ text_is) ∙ after_mark mark digits in
     let P : List ℕ → Type 0 = λ l. IsHexOf l (message_octets parts.2) in
     none parts.2 (subst P same parts.3)
 
 -- behind a mark stands no event but a frame
-frame_behind : (text digits : List ℕ) (mark : Mark) (e : Event) → text ≡ mark_word mark ++ 32 ∷ digits → SpellsEvent text e → HasFrame e
-frame_behind text digits Sent e is h = marked_after text digits 62 e is (omega arith) h
-frame_behind text digits Taken e is h = marked_after text digits 60 e is (omega arith) h
-frame_behind text digits Discarded e is h = marked_after text digits 33 e is (omega arith) h
+frame_after : (text digits : List ℕ) (mark : Mark) (e : Event) → text ≡ mark_word mark ++ 32 ∷ digits → EncodesEvent text e → HasFrame e
+frame_after text digits Sent e is h = marked_after text digits 62 e is (omega arith) h
+frame_after text digits Taken e is h = marked_after text digits 60 e is (omega arith) h
+frame_after text digits Discarded e is h = marked_after text digits 33 e is (omega arith) h
 
 pub frame_marked : (line text digits : List ℕ) (time : ℕ) (mark : Mark) → number_at line ≡ Some (time, text) → text ≡ mark_word mark ++ 32 ∷ digits
-    → SpellsFramesAlone line
-frame_marked line text digits time mark at text_is entry spelled =
-    frame_behind text digits mark entry.event text_is (event_after line text time at entry spelled).1
+    → EncodesFramesOnly line
+frame_marked line text digits time mark at text_is entry encoded_bytes =
+    frame_after text digits mark entry.event text_is (event_after line text time at entry encoded_bytes).1

@@ -9,7 +9,7 @@ use Rattle.hsms_machine.specs.declared.entry.Entry.{Entry}
 use Rattle.hsms_log.specs.declared.verdict.Why.{Why}
 use Rattle.hsms_log.specs.declared.verdict.Why.TheVariants.{Unreadable}
 use Rattle.hsms_log.specs.Lines.{HasNone, IsOverlong, ended_lines, open_line, lines_of, last_lines}
-use Rattle.hsms_log.specs.Spelling.{Carries, settings_limit, line_limit}
+use Rattle.hsms_log.specs.LineFormat.{Carries, settings_limit, line_limit}
 use Rattle.hsms_log.specs.Verdict.{FailsAfter, LineFails, OverlongAfter, FailsSoFar, FailsOnward}
 use Rattle.hsms_log.proofs.LineLemmas.{ended_lines-first, ended_lines-none, open_line-first, open_line-none}
 
@@ -150,7 +150,7 @@ overlong_some limit part (inr long) = omega (arith, long.0)
 
 after_some : (before : List (List ℕ)) (part : List ℕ) → OverlongAfter before part → 0 < length part
 after_some [] part long = overlong_some settings_limit part long
-after_some (first ∷ others) part (s, log, spelled, long) = overlong_some (line_limit s.max) part long
+after_some (first ∷ others) part (s, log, encoded_bytes, long) = overlong_some (line_limit s.max) part long
 
 -- ---- failures of a text that goes on
 
@@ -165,9 +165,9 @@ long_carries max line (Some entry) over h = let fits = h.0 in omega (arith, fits
 -- a line that is too long fails after a run
 long_fails : (before : List (List ℕ)) (part line : List ℕ) → OverlongAfter before part
     → ((limit : ℕ) → IsOverlong limit part → limit < length line) → FailsAfter before line Unreadable
-long_fails [] part line long is = (λ s spelled. let fits = spelled.fits in let over = is 256 long in omega (arith, fits, over), refl)
-long_fails (first ∷ others) part line (s, log, spelled, long) is =
-    (s, log, spelled, λ carried. long_carries s.max line carried (is (2 * s.max + 64) long))
+long_fails [] part line long is = (λ s encoded_bytes. let fits = encoded_bytes.fits in let over = is 256 long in omega (arith, fits, over), refl)
+long_fails (first ∷ others) part line (s, log, encoded_bytes, long) is =
+    (s, log, encoded_bytes, λ carried. long_carries s.max line carried (is (2 * s.max + 64) long))
 
 pub FailsSoFar-onward : (text : List ℕ) (n : ℕ) (why : Why) → FailsSoFar text n why → FailsOnward text n why
 FailsSoFar-onward text n why (inl fails) more =

@@ -10,8 +10,8 @@ use Rattle.hsms_frame.specs.declared.header.Header.{Header}
 use Rattle.hsms_frame.specs.Frame.{Frame}
 use Rattle.hsms_frame.proofs.Octets.{IsOctets-drop}
 use Rattle.hsms_frame.specs.Header.{header_octets, IsHeader}
-use Rattle.hsms_log.specs.Spelling.{IsHexOf, IsMessage, message_octets, system_octets}
-use Rattle.hsms_log.proofs.Binds.{ok_inj}
+use Rattle.hsms_log.specs.LineFormat.{IsHexOf, IsMessage, message_octets, system_octets}
+use Rattle.hsms_log.proofs.LineBindings.{ok_inj}
 
 -- the answer of a decoder that was given room for four octets
 abbrev pub Sized : List ℕ → Result (Unit {0}) FromHexError → List ℕ → Type 0
@@ -45,10 +45,10 @@ none_go r f octets (Err g) bytes e err h = cc e
 pub system_none : (digits octets : List ℕ) (r : Result (Unit {0}) FromHexError) (f : FromHexError) → Sized digits r octets → r ≡ Err f
     → (n : ℕ) → IsHexOf digits (system_octets n) → ⊥
 unfolding system_octets
-system_none digits octets r f h err n spelled =
-    let parts = decode_of-ok digits (to_be_bytes w32 n) spelled in
+system_none digits octets r f h err n encoded_bytes =
+    let parts = decode_of-ok digits (to_be_bytes w32 n) encoded_bytes in
     let size : length digits ≡ 2 * 4 = parts.2 in
-    none_go r f octets (decode_sized digits 4) (to_be_bytes w32 n) (decode_sized-twice digits 4 size ∙ spelled) err h
+    none_go r f octets (decode_sized digits 4) (to_be_bytes w32 n) (decode_sized-twice digits 4 size ∙ encoded_bytes) err h
 
 octets_drop : (n : ℕ) (xs : List ℕ) → ((i : ℕ) → get_or xs i 0 < 256) → (i : ℕ) → get_or (drop n xs) i 0 < 256
 octets_drop n xs h i = IsOctets-drop n xs h i
@@ -56,18 +56,18 @@ octets_drop n xs h i = IsOctets-drop n xs h i
 pub message_found : (digits octets front text : List ℕ) (h : Header) → decode_of digits ≡ Ok octets → front ≡ take 10 octets → text ≡ drop 10 octets
     → IsHeader h → header_octets h ≡ front → IsMessage (record { header = h; text = text }) × IsHexOf digits (message_octets (record { header = h; text = text }))
 unfolding message_octets
-message_found digits octets front text h decoded front_is text_is fits spelled =
+message_found digits octets front text h decoded front_is text_is fits encoded_bytes =
     let parts = decode_of-ok digits octets decoded in
     let P : List ℕ → Type 0 = λ xs. (i : ℕ) → get_or xs i 0 < 256 in
     let whole : header_octets h ++ text ≡ octets =
-    ap (λ x. x ++ text) (spelled ∙ front_is) ∙ ap (λ x. take 10 octets ++ x) text_is ∙ take-append-drop 10 octets in
+    ap (λ x. x ++ text) (encoded_bytes ∙ front_is) ∙ ap (λ x. take 10 octets ++ x) text_is ∙ take-append-drop 10 octets in
     (record { header = fits; text = subst P (sym text_is) (octets_drop 10 octets parts.3) }, decoded ∙ ap (λ x. Ok x) (sym whole))
 
 -- digits of fewer than ten octets spell no message
 pub message_short : (digits octets : List ℕ) → decode_of digits ≡ Ok octets → length octets < 10 → (frame : Frame) → IsHexOf digits (message_octets frame) → ⊥
 unfolding message_octets
-message_short digits octets decoded short frame spelled =
-    let same : octets ≡ header_octets frame.header ++ frame.text = ok_inj octets (header_octets frame.header ++ frame.text) (sym decoded ∙ spelled) in
+message_short digits octets decoded short frame encoded_bytes =
+    let same : octets ≡ header_octets frame.header ++ frame.text = ok_inj octets (header_octets frame.header ++ frame.text) (sym decoded ∙ encoded_bytes) in
     let size : length octets ≡ length (header_octets frame.header) + length frame.text =
     ap length same ∙ length-append (header_octets frame.header) frame.text in
     let ten : length (header_octets frame.header) ≡ 10 = refl in
@@ -75,4 +75,4 @@ message_short digits octets decoded short frame spelled =
 
 -- digits that don't decode spell no message
 pub message_none : (digits : List ℕ) (e : FromHexError) → decode_of digits ≡ Err e → (frame : Frame) → IsHexOf digits (message_octets frame) → ⊥
-message_none digits e h frame spelled = let no = sym h ∙ spelled in cc no
+message_none digits e h frame encoded_bytes = let no = sym h ∙ encoded_bytes in cc no

@@ -20,7 +20,7 @@ use Rattle.std.proofs.lemmas.List.{length-take, drop_more, get_or-take}
 use Rattle.std.proofs.lemmas.List.Elements.{All-head, All-tail}
 use Rattle.hsms_log.specs.Lines.{HasNone}
 use Rattle.hsms_log.specs.Reading.{number_of, is_decimal, has_leading_zero, word_at, number_at, ◌>>=◌}
-use Rattle.hsms_log.proofs.Binds.{bind_some, some_inj}
+use Rattle.hsms_log.proofs.LineBindings.{bind_some, some_inj}
 
 -- the words of std for digits and their value
 pub own : IsNumeralModel (λ ds. all_ascii_digits ds ≡ true) (digits_value 10)
@@ -170,9 +170,9 @@ word_at-some (octet ∷ text) front rest h =
           past_space octet text front rest a.0 (word_at-some text a.0.0 a.0.1 a.1) a.2
     ]
 
-pub number_at-spelled : (n : ℕ) (rest : List ℕ) → n < 2 ^ 64 → number_at (decimal n ++ 32 ∷ rest) ≡ Some (n, rest)
+pub number_at-encoded_bytes : (n : ℕ) (rest : List ℕ) → n < 2 ^ 64 → number_at (decimal n ++ 32 ∷ rest) ≡ Some (n, rest)
 unfolding number_at
-number_at-spelled n rest lt =
+number_at-encoded_bytes n rest lt =
     rw (word_at-found (decimal n) rest (HasNone-decimal n lt), number_of-decimal n lt) refl
 
 numbered : (text word after : List ℕ) (m n : ℕ) (rest : List ℕ) → word_at text ≡ Some (word, after) → number_of word ≡ Some m

@@ -14,10 +14,10 @@ use Rattle.hsms_log.specs.declared.verdict.Why.TheVariants.{Unreadable, Broken}
 use Rattle.hsms_log.specs.declared.verdict.Summary.{Summary}
 use Rattle.hsms_log.specs.declared.verdict.Verdict.{Verdict}
 use Rattle.hsms_log.specs.declared.verdict.Verdict.TheVariants.{Pass, Fail}
-use Rattle.hsms_log.specs.Spelling.{SpellsSettings, settings_line, role_word, link_word}
-use Rattle.hsms_log.specs.Log.{SpellLog}
-use Rattle.hsms_log.specs.Verdict.{SpellRun, FailsRun, FailsAfter, LinesJudged, summary_of}
-use Rattle.hsms_log.specs.VersionOne.{settings_line_of_one, SpellsSettingsOfOne, SpellLogOfOne, SpellRunOfOne, FailsRunOfOne, FailsAfterOfOne, LinesJudgedOfOne, SpellsNoVersionTwo, summary_of_one}
+use Rattle.hsms_log.specs.LineFormat.{EncodesSettings, settings_line, role_word, link_word}
+use Rattle.hsms_log.specs.Log.{EncodesLog}
+use Rattle.hsms_log.specs.Verdict.{EncodesRun, FailsRun, FailsAfter, LinesAudited, summary_of}
+use Rattle.hsms_log.specs.VersionOne.{settings_line_of_one, EncodesSettingsOfOne, EncodesLogOfOne, EncodesRunOfOne, FailsRunOfOne, FailsAfterOfOne, LinesAuditedOfOne, EncodesNoVersionTwo, summary_of_one}
 
 -- what the laws of the session machine say of version 1
 pub record OneLaws : Type 0 where
@@ -34,13 +34,13 @@ line_of_one s one =
     ∷ decimal s.t3 ∷ decimal s.t6 ∷ decimal s.t7 ∷ decimal s.t8 ∷ decimal s.max ∷ decimal s.depth ∷ []))
     (ap decimal one ∙ decimal_digit 1 (omega arith))
 
-spells_of_one : (line : List ℕ) (s : Parameters) → s.version ≡ 1 → SpellsSettings line s → SpellsSettingsOfOne line s
-spells_of_one line s one h = record { version = one; within = h.within; fits = h.fits; spelled = h.spelled ∙ line_of_one s one }
+encodes_of_one : (line : List ℕ) (s : Parameters) → s.version ≡ 1 → EncodesSettings line s → EncodesSettingsOfOne line s
+encodes_of_one line s one h = record { version = one; within = h.within; fits = h.fits; encoded_bytes = h.encoded_bytes ∙ line_of_one s one }
 
-spells_from_one : (line : List ℕ) (s : Parameters) → SpellsSettingsOfOne line s → SpellsSettings line s
-spells_from_one line s h = record { within = h.within; fits = h.fits; spelled = h.spelled ∙ sym (line_of_one s h.version) }
+encodes_from_one : (line : List ℕ) (s : Parameters) → EncodesSettingsOfOne line s → EncodesSettings line s
+encodes_from_one line s h = record { within = h.within; fits = h.fits; encoded_bytes = h.encoded_bytes ∙ sym (line_of_one s h.version) }
 
-version_is : (line : List ℕ) (s : Parameters) → ((t : Parameters) → SpellsSettings line t → t.version ≢ 2) → SpellsSettings line s → s.version ≡ 1
+version_is : (line : List ℕ) (s : Parameters) → ((t : Parameters) → EncodesSettings line t → t.version ≢ 2) → EncodesSettings line s → s.version ≡ 1
 version_is line s never h =
     let least = h.within.least_version in
     let greatest = h.within.greatest_version in
@@ -49,26 +49,26 @@ version_is line s never h =
 
 -- ---- runs
 
-log_of_one : (lines : List (List ℕ)) (s : Parameters) (log : List Entry) → SpellsNoVersionTwo lines → SpellLog lines s log
-    → (s.version ≡ 1) × SpellLogOfOne lines s log
+log_of_one : (lines : List (List ℕ)) (s : Parameters) (log : List Entry) → EncodesNoVersionTwo lines → EncodesLog lines s log
+    → (s.version ≡ 1) × EncodesLogOfOne lines s log
 log_of_one [] s log never h = absurd h
 log_of_one (first ∷ others) s log never h =
-    let one = version_is first s never h.0 in (one, (spells_of_one first s one h.0, h.1))
+    let one = version_is first s never h.0 in (one, (encodes_of_one first s one h.0, h.1))
 
-log_from_one : (lines : List (List ℕ)) (s : Parameters) (log : List Entry) → SpellLogOfOne lines s log → (s.version ≡ 1) × SpellLog lines s log
+log_from_one : (lines : List (List ℕ)) (s : Parameters) (log : List Entry) → EncodesLogOfOne lines s log → (s.version ≡ 1) × EncodesLog lines s log
 log_from_one [] s log h = absurd h
-log_from_one (first ∷ others) s log h = (h.0.version, (spells_from_one first s h.0, h.1))
+log_from_one (first ∷ others) s log h = (h.0.version, (encodes_from_one first s h.0, h.1))
 
-run_of_one : (laws : OneLaws) (lines : List (List ℕ)) (s : Parameters) (log : List Entry) → SpellsNoVersionTwo lines → SpellRun lines s log
-    → (s.version ≡ 1) × SpellRunOfOne lines s log
+run_of_one : (laws : OneLaws) (lines : List (List ℕ)) (s : Parameters) (log : List Entry) → EncodesNoVersionTwo lines → EncodesRun lines s log
+    → (s.version ≡ 1) × EncodesRunOfOne lines s log
 run_of_one laws lines s log never h =
-    let spelled = log_of_one lines s log never h.spelled in
-    (spelled.0, record { spelled = spelled.1; run = (laws.runs s log spelled.0).0 h.run })
+    let encoded_bytes = log_of_one lines s log never h.encoded_bytes in
+    (encoded_bytes.0, record { encoded_bytes = encoded_bytes.1; run = (laws.runs s log encoded_bytes.0).0 h.run })
 
-run_from_one : (laws : OneLaws) (lines : List (List ℕ)) (s : Parameters) (log : List Entry) → SpellRunOfOne lines s log → (s.version ≡ 1) × SpellRun lines s log
+run_from_one : (laws : OneLaws) (lines : List (List ℕ)) (s : Parameters) (log : List Entry) → EncodesRunOfOne lines s log → (s.version ≡ 1) × EncodesRun lines s log
 run_from_one laws lines s log h =
-    let spelled = log_from_one lines s log h.spelled in
-    (spelled.0, record { spelled = spelled.1; run = (laws.runs s log spelled.0).1 h.run })
+    let encoded_bytes = log_from_one lines s log h.encoded_bytes in
+    (encoded_bytes.0, record { encoded_bytes = encoded_bytes.1; run = (laws.runs s log encoded_bytes.0).1 h.run })
 
 summary_is : (laws : OneLaws) (s : Parameters) (log : List Entry) → s.version ≡ 1 → IsRun s log → summary_of log ≡ summary_of_one log
 summary_is laws s log one run =
@@ -89,41 +89,41 @@ fails_from_one laws s log line Unreadable one run fails = fails
 fails_from_one laws s log line (Broken rule) one run (entry, carries, breaks) =
     (entry, carries, (laws.answers s log entry (Some rule) one run).1 breaks)
 
-after_of_one : (laws : OneLaws) (before : List (List ℕ)) (line : List ℕ) (after : List (List ℕ)) (why : Why) → SpellsNoVersionTwo (before ++ line ∷ after)
+after_of_one : (laws : OneLaws) (before : List (List ℕ)) (line : List ℕ) (after : List (List ℕ)) (why : Why) → EncodesNoVersionTwo (before ++ line ∷ after)
     → FailsAfter before line why → FailsAfterOfOne before line why
-after_of_one laws [] line after why never fails = (λ s h. fails.0 s (spells_from_one line s h), fails.1)
-after_of_one laws (first ∷ others) line after why never (s, log, spelled, fails) =
-    let run = run_of_one laws (first ∷ others) s log never spelled in
-    (s, log, run.1, fails_of_one laws s log line why run.0 spelled.run fails)
+after_of_one laws [] line after why never fails = (λ s h. fails.0 s (encodes_from_one line s h), fails.1)
+after_of_one laws (first ∷ others) line after why never (s, log, encoded_bytes, fails) =
+    let run = run_of_one laws (first ∷ others) s log never encoded_bytes in
+    (s, log, run.1, fails_of_one laws s log line why run.0 encoded_bytes.run fails)
 
-after_from_one : (laws : OneLaws) (before : List (List ℕ)) (line : List ℕ) (after : List (List ℕ)) (why : Why) → SpellsNoVersionTwo (before ++ line ∷ after)
+after_from_one : (laws : OneLaws) (before : List (List ℕ)) (line : List ℕ) (after : List (List ℕ)) (why : Why) → EncodesNoVersionTwo (before ++ line ∷ after)
     → FailsAfterOfOne before line why → FailsAfter before line why
 after_from_one laws [] line after why never fails =
-    (λ s h. fails.0 s (spells_of_one line s (version_is line s never h) h), fails.1)
-after_from_one laws (first ∷ others) line after why never (s, log, spelled, fails) =
-    let run = run_from_one laws (first ∷ others) s log spelled in
+    (λ s h. fails.0 s (encodes_of_one line s (version_is line s never h) h), fails.1)
+after_from_one laws (first ∷ others) line after why never (s, log, encoded_bytes, fails) =
+    let run = run_from_one laws (first ∷ others) s log encoded_bytes in
     (s, log, run.1, fails_from_one laws s log line why run.0 run.1.run fails)
 
 -- ---- verdicts
 
-judged_of_one : (laws : OneLaws) (lines : List (List ℕ)) (verdict : Verdict) → SpellsNoVersionTwo lines → LinesJudged lines verdict → LinesJudgedOfOne lines verdict
-judged_of_one laws lines (Pass summary) never (s, log, spelled, is) =
-    let run = run_of_one laws lines s log never spelled in
-    (s, log, run.1, is ∙ summary_is laws s log run.0 spelled.run)
-judged_of_one laws lines (Fail n why) never (inl (before, line, after, split, number, fails)) =
-    let P : List (List ℕ) → Type 0 = λ l. SpellsNoVersionTwo l in
+audited_of_one : (laws : OneLaws) (lines : List (List ℕ)) (verdict : Verdict) → EncodesNoVersionTwo lines → LinesAudited lines verdict → LinesAuditedOfOne lines verdict
+audited_of_one laws lines (Pass summary) never (s, log, encoded_bytes, is) =
+    let run = run_of_one laws lines s log never encoded_bytes in
+    (s, log, run.1, is ∙ summary_is laws s log run.0 encoded_bytes.run)
+audited_of_one laws lines (Fail n why) never (inl (before, line, after, split, number, fails)) =
+    let P : List (List ℕ) → Type 0 = λ l. EncodesNoVersionTwo l in
     inl (before, line, after, split, number, after_of_one laws before line after why (subst P split never) fails)
-judged_of_one laws lines (Fail n why) never (inr none) = inr none
+audited_of_one laws lines (Fail n why) never (inr none) = inr none
 
-judged_from_one : (laws : OneLaws) (lines : List (List ℕ)) (verdict : Verdict) → SpellsNoVersionTwo lines → LinesJudgedOfOne lines verdict → LinesJudged lines verdict
-judged_from_one laws lines (Pass summary) never (s, log, spelled, is) =
-    let run = run_from_one laws lines s log spelled in
+audited_from_one : (laws : OneLaws) (lines : List (List ℕ)) (verdict : Verdict) → EncodesNoVersionTwo lines → LinesAuditedOfOne lines verdict → LinesAudited lines verdict
+audited_from_one laws lines (Pass summary) never (s, log, encoded_bytes, is) =
+    let run = run_from_one laws lines s log encoded_bytes in
     (s, log, run.1, is ∙ sym (summary_is laws s log run.0 run.1.run))
-judged_from_one laws lines (Fail n why) never (inl (before, line, after, split, number, fails)) =
-    let P : List (List ℕ) → Type 0 = λ l. SpellsNoVersionTwo l in
+audited_from_one laws lines (Fail n why) never (inl (before, line, after, split, number, fails)) =
+    let P : List (List ℕ) → Type 0 = λ l. EncodesNoVersionTwo l in
     inl (before, line, after, split, number, after_from_one laws before line after why (subst P split never) fails)
-judged_from_one laws lines (Fail n why) never (inr none) = inr none
+audited_from_one laws lines (Fail n why) never (inr none) = inr none
 
 -- the verdict is the same
-pub same_verdicts : (laws : OneLaws) (lines : List (List ℕ)) (verdict : Verdict) → SpellsNoVersionTwo lines → LinesJudged lines verdict ↔ LinesJudgedOfOne lines verdict
-same_verdicts laws lines verdict never = (judged_of_one laws lines verdict never, judged_from_one laws lines verdict never)
+pub same_verdicts : (laws : OneLaws) (lines : List (List ℕ)) (verdict : Verdict) → EncodesNoVersionTwo lines → LinesAudited lines verdict ↔ LinesAuditedOfOne lines verdict
+same_verdicts laws lines verdict never = (audited_of_one laws lines verdict never, audited_from_one laws lines verdict never)

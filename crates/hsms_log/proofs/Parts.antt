@@ -9,29 +9,29 @@ use Rattle.std.proofs.lemmas.Grind.{flat_map-append}
 use Rattle.std.proofs.Math.Seq.{take-append-add, take-suc}
 use Rattle.hsms_frame.specs.Frame.{Frame}
 use Rattle.hsms_frame.specs.Header.{header_octets}
-use Rattle.hsms_log.specs.Spelling.{message_octets}
-use Rattle.hsms_frame.specs.Count.{count_failure, next_count}
-use Rattle.hsms_frame.specs.Device.{Grows, GrowsByFront, SinkState}
+use Rattle.hsms_log.specs.LineFormat.{message_octets}
+use Rattle.hsms_frame.specs.CallCounts.{count_failure, next_count}
+use Rattle.hsms_frame.specs.Io.{Grows, GrowsByFront, SinkState}
 use Rattle.hsms_machine.specs.declared.settings.Role.{Role}
 use Rattle.hsms_machine.specs.declared.settings.Role.TheVariants.{Host, Equipment}
 use Rattle.hsms_machine.specs.declared.settings.Side.{Side}
 use Rattle.hsms_machine.specs.declared.settings.Side.TheVariants.{Active, Passive}
 use Rattle.hsms_machine.specs.Settings.{Parameters}
-use Rattle.hsms_log.specs.Spelling.{settings_line, role_word, link_word}
+use Rattle.hsms_log.specs.LineFormat.{settings_line, role_word, link_word}
 use Rattle.hsms_log.specs.Writing.{HasFailed, HasWritten, Puts, Writes, spaced, version_text, words_of, opening_of, numbers_of}
 
 pub grows_then : (old mid new : Option (List ℕ)) (a b : List ℕ) → Grows old mid a → Grows mid new b → Grows old new (a ++ b)
-grows_then old mid new a b h k octets told = k (octets ++ a) (h octets told) ∙ ap Some (append_assoc octets a b)
+grows_then old mid new a b h k octets found_fact = k (octets ++ a) (h octets found_fact) ∙ ap Some (append_assoc octets a b)
 
 pub front_of_first : (old mid : Option (List ℕ)) (a b : List ℕ) → GrowsByFront old mid a → GrowsByFront old mid (a ++ b)
-front_of_first old mid a b h octets told =
-    let x = h octets told in
+front_of_first old mid a b h octets found_fact =
+    let x = h octets found_fact in
     let below : x.0 < length a = x.1 in
     (x.0, omega (arith, length-append a b), x.2 ∙ ap (λ l. Some (octets ++ l)) (sym (take-append-le x.0 a b (omega arith))))
 
 pub front_of_second : (old mid new : Option (List ℕ)) (a b : List ℕ) → Grows old mid a → GrowsByFront mid new b → GrowsByFront old new (a ++ b)
-front_of_second old mid new a b h k octets told =
-    let x = k (octets ++ a) (h octets told) in
+front_of_second old mid new a b h k octets found_fact =
+    let x = k (octets ++ a) (h octets found_fact) in
     let below : x.0 < length b = x.1 in (
       length a + x.0,
       omega (arith, length-append a b),
@@ -39,7 +39,7 @@ front_of_second old mid new a b h k octets told =
     )
 
 pub written_none : (old : SinkState) → HasWritten old old []
-written_none old = (λ octets told. told ∙ ap Some (sym (append-nil octets)), refl)
+written_none old = (λ octets found_fact. found_fact ∙ ap Some (sym (append-nil octets)), refl)
 
 pub written_then : (old mid new : SinkState) (a b : List ℕ) → HasWritten old mid a → HasWritten mid new b → HasWritten old new (a ++ b)
 written_then old mid new a b h k = (grows_then old.written mid.written new.written a b h.0 k.0, k.1 ∙ h.1)

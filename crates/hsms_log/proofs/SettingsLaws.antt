@@ -12,10 +12,10 @@ use Rattle.hsms_machine.specs.declared.settings.Role.TheVariants.{Host, Equipmen
 use Rattle.hsms_machine.specs.declared.settings.Side.{Side}
 use Rattle.hsms_machine.specs.declared.settings.Side.TheVariants.{Active, Passive}
 use Rattle.hsms_machine.specs.Settings.{Parameters, IsWithinLimits}
-use Rattle.hsms_log.specs.Spelling.{settings_line, role_word, link_word, SpellsSettings}
+use Rattle.hsms_log.specs.LineFormat.{settings_line, role_word, link_word, EncodesSettings}
 use Rattle.hsms_log.specs.Reading.{settings_at, version_at, end_at, times_at, limits_of, u32_at, number_at, number_of, word_at, role_of, link_of, after, below}
-use Rattle.hsms_log.proofs.Binds.{bind_step, some_inj, below_fits, below_some}
-use Rattle.hsms_log.proofs.Numbers.{number_at-spelled, number_at-some, number_of-decimal, number_of-some, word_at-some}
+use Rattle.hsms_log.proofs.LineBindings.{bind_step, some_inj, below_fits, below_some}
+use Rattle.hsms_log.proofs.Numbers.{number_at-encoded_bytes, number_at-some, number_of-decimal, number_of-some, word_at-some}
 
 -- ---- words
 
@@ -68,51 +68,51 @@ after-some prefix text rest h =
 
 -- ---- written, then read
 
-version_at-spelled : (n : ℕ) (rest : List ℕ) → n < 2 ^ 8 → version_at (codes "hsms-log " ++ (decimal n ++ 32 ∷ rest)) ≡ Some (n, rest)
+version_at-encoded_bytes : (n : ℕ) (rest : List ℕ) → n < 2 ^ 8 → version_at (codes "hsms-log " ++ (decimal n ++ 32 ∷ rest)) ≡ Some (n, rest)
 unfolding version_at after
-version_at-spelled n rest h = rw (number_at-spelled n rest (omega arith), below_fits (2 ^ 8) n h) refl
+version_at-encoded_bytes n rest h = rw (number_at-encoded_bytes n rest (omega arith), below_fits (2 ^ 8) n h) refl
 
-u32_at-spelled : (n : ℕ) (rest : List ℕ) → n < 2 ^ 32 → u32_at (decimal n ++ 32 ∷ rest) ≡ Some (n, rest)
+u32_at-encoded_bytes : (n : ℕ) (rest : List ℕ) → n < 2 ^ 32 → u32_at (decimal n ++ 32 ∷ rest) ≡ Some (n, rest)
 unfolding u32_at
-u32_at-spelled n rest h = rw (number_at-spelled n rest (omega arith), below_fits (2 ^ 32) n h) refl
+u32_at-encoded_bytes n rest h = rw (number_at-encoded_bytes n rest (omega arith), below_fits (2 ^ 32) n h) refl
 
-times_at-spelled : (a b c d : ℕ) (rest : List ℕ) → a < 2 ^ 32 → b < 2 ^ 32 → c < 2 ^ 32 → d < 2 ^ 32
+times_at-encoded_bytes : (a b c d : ℕ) (rest : List ℕ) → a < 2 ^ 32 → b < 2 ^ 32 → c < 2 ^ 32 → d < 2 ^ 32
     → times_at (decimal a ++ 32 ∷ (decimal b ++ 32 ∷ (decimal c ++ 32 ∷ (decimal d ++ 32 ∷ rest)))) ≡ Some (a, b, c, d, rest)
 unfolding times_at
-times_at-spelled a b c d rest ha hb hc hd =
+times_at-encoded_bytes a b c d rest ha hb hc hd =
     rw (
-      u32_at-spelled a (decimal b ++ 32 ∷ (decimal c ++ 32 ∷ (decimal d ++ 32 ∷ rest))) ha,
-      u32_at-spelled b (decimal c ++ 32 ∷ (decimal d ++ 32 ∷ rest)) hb,
-      u32_at-spelled c (decimal d ++ 32 ∷ rest) hc,
-      u32_at-spelled d rest hd,
+      u32_at-encoded_bytes a (decimal b ++ 32 ∷ (decimal c ++ 32 ∷ (decimal d ++ 32 ∷ rest))) ha,
+      u32_at-encoded_bytes b (decimal c ++ 32 ∷ (decimal d ++ 32 ∷ rest)) hb,
+      u32_at-encoded_bytes c (decimal d ++ 32 ∷ rest) hc,
+      u32_at-encoded_bytes d rest hd,
     ) refl
 
-end_at-spelled : (r : Role) (l : Side) (n : ℕ) (rest : List ℕ) → n < 2 ^ 16
+end_at-encoded_bytes : (r : Role) (l : Side) (n : ℕ) (rest : List ℕ) → n < 2 ^ 16
     → end_at (role_word r ++ 32 ∷ (link_word l ++ 32 ∷ (decimal n ++ 32 ∷ rest))) ≡ Some (r, l, n, rest)
 unfolding end_at
-end_at-spelled r l n rest h =
+end_at-encoded_bytes r l n rest h =
     rw (
       word_at-role r _,
       role_of-word r,
       word_at-link l _,
       link_of-word l,
-      number_at-spelled n rest (omega arith),
+      number_at-encoded_bytes n rest (omega arith),
       below_fits (2 ^ 16) n h,
     ) refl
 
-limits_of-spelled : (max depth : ℕ) → max < 2 ^ 32 → depth < 2 ^ 8 → limits_of (decimal max ++ 32 ∷ decimal depth) ≡ Some (max, depth)
+limits_of-encoded_bytes : (max depth : ℕ) → max < 2 ^ 32 → depth < 2 ^ 8 → limits_of (decimal max ++ 32 ∷ decimal depth) ≡ Some (max, depth)
 unfolding limits_of
-limits_of-spelled max depth hm hd =
-    rw (u32_at-spelled max (decimal depth) hm, number_of-decimal depth (omega arith), below_fits (2 ^ 8) depth hd) refl
+limits_of-encoded_bytes max depth hm hd =
+    rw (u32_at-encoded_bytes max (decimal depth) hm, number_of-decimal depth (omega arith), below_fits (2 ^ 8) depth hd) refl
 
 settings_at-line : (s : Parameters) → IsWithinLimits s → settings_at (settings_line s) ≡ Some s
 unfolding settings_at settings_line
 settings_at-line s w =
     rw (
-      version_at-spelled s.version _ (omega arith),
-      end_at-spelled s.role s.link s.device _ (omega arith),
-      times_at-spelled s.t3 s.t6 s.t7 s.t8 _ (omega arith) (omega arith) (omega arith) (omega arith),
-      limits_of-spelled s.max s.depth (omega arith) (omega arith),
+      version_at-encoded_bytes s.version _ (omega arith),
+      end_at-encoded_bytes s.role s.link s.device _ (omega arith),
+      times_at-encoded_bytes s.t3 s.t6 s.t7 s.t8 _ (omega arith) (omega arith) (omega arith) (omega arith),
+      limits_of-encoded_bytes s.max s.depth (omega arith) (omega arith),
     ) refl
 
 -- ---- read, so spelled
@@ -269,37 +269,37 @@ none_within p v one never h =
 
 -- ---- what reading the line says
 
-pub spelled_is_read : (line : List ℕ) (s : Parameters) → SpellsSettings line s → settings_at line ≡ Some s
-spelled_is_read line s h = ap settings_at h.spelled ∙ settings_at-line s h.within
+pub encoded_is_read : (line : List ℕ) (s : Parameters) → EncodesSettings line s → settings_at line ≡ Some s
+encoded_is_read line s h = ap settings_at h.encoded_bytes ∙ settings_at-line s h.within
 
-pub read_is_spelled : (line : List ℕ) (s : Parameters) → settings_at line ≡ Some s → IsWithinLimits s → SpellsSettings line s
-read_is_spelled line s h w =
+pub read_is_encoded : (line : List ℕ) (s : Parameters) → settings_at line ≡ Some s → IsWithinLimits s → EncodesSettings line s
+read_is_encoded line s h w =
     let same = settings_at-some line s h in
     let P : List ℕ → Type 0 = λ x. length x ≤ 256 in
-    record { within = w; fits = subst P (sym same) (settings_line-short s w); spelled = same }
+    record { within = w; fits = subst P (sym same) (settings_line-short s w); encoded_bytes = same }
 
 -- a line spells one settings
-pub SpellsSettings-unique : (line : List ℕ) (s t : Parameters) → SpellsSettings line s → SpellsSettings line t → s ≡ t
-SpellsSettings-unique line s t a b = some_inj s t (sym (spelled_is_read line s a) ∙ spelled_is_read line t b)
+pub EncodesSettings-unique : (line : List ℕ) (s t : Parameters) → EncodesSettings line s → EncodesSettings line t → s ≡ t
+EncodesSettings-unique line s t a b = some_inj s t (sym (encoded_is_read line s a) ∙ encoded_is_read line t b)
 
 pub settings_found : (line : List ℕ) (p : Parameters) (r : Option Parameters) → settings_at line ≡ Some p → (IsSome r ↔ IsWithinLimits p)
-    → IfSome r (λ s. s ≡ p) → IfSome r (SpellsSettings line)
+    → IfSome r (λ s. s ≡ p) → IfSome r (EncodesSettings line)
 settings_found line p (Some s) h within same =
-    let P : Parameters → Type 0 = λ x. SpellsSettings line x in
-    subst P (sym same) (read_is_spelled line p h (within.0 refl))
+    let P : Parameters → Type 0 = λ x. EncodesSettings line x in
+    subst P (sym same) (read_is_encoded line p h (within.0 refl))
 settings_found line p None h within same = tt
 
 pub settings_none : (line : List ℕ) (p : Parameters) (r : Option Parameters) → settings_at line ≡ Some p → (IsSome r ↔ IsWithinLimits p)
-    → IfNone r ((s : Parameters) → SpellsSettings line s → ⊥)
+    → IfNone r ((s : Parameters) → EncodesSettings line s → ⊥)
 settings_none line p (Some x) h within = tt
-settings_none line p None h within = λ s spelled.
-    let same = some_inj s p (sym (spelled_is_read line s spelled) ∙ h) in
+settings_none line p None h within = λ s encoded_bytes.
+    let same = some_inj s p (sym (encoded_is_read line s encoded_bytes) ∙ h) in
     let P : Parameters → Type 0 = λ x. IsWithinLimits x in
-    let no : false ≡ true = within.1 (subst P same spelled.within) in
+    let no : false ≡ true = within.1 (subst P same encoded_bytes.within) in
     cc no
 
-pub settings_unread : (line : List ℕ) → settings_at line ≡ None → (s : Parameters) → SpellsSettings line s → ⊥
-settings_unread line h s spelled = let e = sym (spelled_is_read line s spelled) ∙ h in cc e
+pub settings_unread : (line : List ℕ) → settings_at line ≡ None → (s : Parameters) → EncodesSettings line s → ⊥
+settings_unread line h s encoded_bytes = let e = sym (encoded_is_read line s encoded_bytes) ∙ h in cc e
 
 -- ---- by the version and the other words
 

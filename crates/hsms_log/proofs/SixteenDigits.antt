@@ -49,9 +49,9 @@ digits_woven high low highs lows (x ∷ xs) fits =
     ∙ ap (λ r. get_or lower_digits (x / 16) 0 ∷ get_or lower_digits (x % 16) 0 ∷ r) (digits_woven high low highs lows xs (λ k. fits (suc k)))
 
 -- what is computed of octets by a function is what another one gives, where these agree on each octet that there is
-pub map_told : (f g : ℕ → ℕ) (xs ys : List ℕ) → ys ≡ map f xs → agree_below (λ x. eqb (f x) (g x)) (λ _. true) 256 ≡ true
+pub map_agrees : (f g : ℕ → ℕ) (xs ys : List ℕ) → ys ≡ map f xs → agree_below (λ x. eqb (f x) (g x)) (λ _. true) 256 ≡ true
     → Each1 (Fits w8) xs → ys ≡ map g xs
-map_told f g xs ys is same fits = is ∙ go xs fits
+map_agrees f g xs ys is same fits = is ∙ go xs fits
   where
     go : (xs : List ℕ) → Each1 (Fits w8) xs → map f xs ≡ map g xs
     go [] fits = refl

@@ -10,10 +10,10 @@ use Rattle.hsms_machine.specs.declared.entry.Entry.{Entry}
 use Rattle.hsms_machine.specs.declared.entry.Event.{Event}
 use Rattle.hsms_machine.specs.declared.entry.Event.TheVariants.{Up, Sent, Taken, Discarded, T3, Cut, Down}
 use Rattle.hsms_machine.specs.Settings.{Parameters, IsWithinLimits}
-use Rattle.hsms_log.specs.Spelling.{SpellsEntry, SpellsEvent, SpellsSettings, IsEvent, IsEntry, IsMessage, message_octets, system_octets, event_text, entry_line, settings_line}
+use Rattle.hsms_log.specs.LineFormat.{EncodesEntry, EncodesEvent, EncodesSettings, IsEvent, IsEntry, IsMessage, message_octets, system_octets, event_text, entry_line, settings_line}
 use Rattle.std.specs.Prelude.{Option, Some, length}
-use Rattle.hsms_log.specs.Spelling.{Carries, line_limit}
-use Rattle.hsms_log.proofs.SettingsLaws.{settings_line-short, SpellsSettings-unique}
+use Rattle.hsms_log.specs.LineFormat.{Carries, line_limit}
+use Rattle.hsms_log.proofs.SettingsLaws.{settings_line-short, EncodesSettings-unique}
 use Rattle.hsms_log.proofs.Uniqueness.{Carries-unique}
 
 octets_cons : (x : ℕ) (xs : List ℕ) → x < 256 → IsOctets xs → IsOctets (x ∷ xs)
@@ -45,7 +45,7 @@ system_fits system (suc (suc zero)) = omega arith
 system_fits system (suc (suc (suc zero))) = omega arith
 system_fits system (suc (suc (suc (suc i)))) = omega arith
 
-event_written : (event : Event) → IsEvent event → SpellsEvent (event_text event) event
+event_written : (event : Event) → IsEvent event → EncodesEvent (event_text event) event
 event_written Up f = refl
 event_written (Sent frame) f = (encode_lower (message_octets frame), decode_of-encode_lower (message_octets frame) (message_fits frame f), refl)
 event_written (Taken frame) f = (encode_lower (message_octets frame), decode_of-encode_lower (message_octets frame) (message_fits frame f), refl)
@@ -54,12 +54,12 @@ event_written (T3 system) f = (encode_lower (system_octets system), decode_of-en
 event_written (Cut cause) f = refl
 event_written Down f = refl
 
-pub entry_written : (entry : Entry) → IsEntry entry → SpellsEntry (entry_line entry) entry
+pub entry_written : (entry : Entry) → IsEntry entry → EncodesEntry (entry_line entry) entry
 unfolding entry_line
-entry_written entry f = record { fits = f; spelled = (event_text entry.event, event_written entry.event f.event, refl) }
+entry_written entry f = record { fits = f; encoded_bytes = (event_text entry.event, event_written entry.event f.event, refl) }
 
-pub settings_written : (s : Parameters) → IsWithinLimits s → SpellsSettings (settings_line s) s
-settings_written s w = record { within = w; fits = settings_line-short s w; spelled = refl }
+pub settings_written : (s : Parameters) → IsWithinLimits s → EncodesSettings (settings_line s) s
+settings_written s w = record { within = w; fits = settings_line-short s w; encoded_bytes = refl }
 
 pub entry_read_back : (max : ℕ) (entry : Entry) → IsEntry entry → length (entry_line entry) ≤ line_limit max
     → Carries max (entry_line entry) (Some entry) × ((carried : Option Entry) → Carries max (entry_line entry) carried → carried ≡ Some entry)
@@ -67,5 +67,5 @@ entry_read_back max entry fits short =
     let carries : Carries max (entry_line entry) (Some entry) = (short, entry_written entry fits) in
     (carries, λ carried h. Carries-unique max (entry_line entry) carried (Some entry) h carries)
 
-pub settings_read_back : (s t : Parameters) → SpellsSettings (settings_line s) t → IsWithinLimits s → t ≡ s
-settings_read_back s t h within = SpellsSettings-unique (settings_line s) t s h (settings_written s within)
+pub settings_read_back : (s t : Parameters) → EncodesSettings (settings_line s) t → IsWithinLimits s → t ≡ s
+settings_read_back s t h within = EncodesSettings-unique (settings_line s) t s h (settings_written s within)

@@ -20,8 +20,8 @@ use Rattle.hsms_machine.specs.declared.settings.Side.{Side}
 use Rattle.hsms_machine.specs.declared.settings.Side.TheVariants.{Active, Passive}
 use Rattle.hsms_machine.specs.Settings.{Parameters, IsWithinLimits}
 use Rattle.hsms_log.specs.Lines.{HasNone, lines_of, ended_lines, open_line}
-use Rattle.hsms_log.specs.Spelling.{IsBlank, IsComment, IsEntry, IsEvent, entry_line, event_text, settings_line, settings_limit, line_limit, message_octets, system_octets, role_word, link_word}
-use Rattle.hsms_log.specs.Log.{CarryLog, LogText, SpellLog, written_log}
+use Rattle.hsms_log.specs.LineFormat.{IsBlank, IsComment, IsEntry, IsEvent, entry_line, event_text, settings_line, settings_limit, line_limit, message_octets, system_octets, role_word, link_word}
+use Rattle.hsms_log.specs.Log.{CarryLog, LogText, EncodesLog, written_log}
 use Rattle.hsms_log.specs.Writing.{version_text, words_of, opening_of, numbers_of, spaced}
 use Rattle.hsms_log.proofs.Numbers.{own}
 use Rattle.hsms_log.proofs.GrowingTexts.{lines_of-first, strip_kept}
@@ -165,5 +165,5 @@ entries_carried max (entry ∷ log) h =
 pub log_written : (s : Parameters) (log : List Entry) → IsWithinLimits s → All (λ entry. IsEntry entry × (length (entry_line entry) ≤ line_limit s.max)) log
     → LogText (written_log s log) s log
 log_written s log w h =
-    let P : List (List ℕ) → Type 0 = λ l. SpellLog l s log in
+    let P : List (List ℕ) → Type 0 = λ l. EncodesLog l s log in
     subst P (sym (line_first (settings_line s) _ (settings_on_line s w))) (settings_written s w, entries_carried s.max log h)

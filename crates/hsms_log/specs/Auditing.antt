@@ -1,14 +1,14 @@
 -- What an audit answers to an input (this project's own).
 use Rattle.std.specs.Prelude.{◌≡◌, ◌≤◌, ◌+◌, ◌<◌, ◌^◌, ◌++◌, ◌⊎◌, ℕ, List, [], length, Option, Some, Result, Ok, Err}
-use Rattle.hsms_frame.specs.Count.{next_count}
-use Rattle.hsms_frame.specs.Device.{SourceState, WhereTold}
+use Rattle.hsms_frame.specs.CallCounts.{next_count}
+use Rattle.hsms_frame.specs.Io.{SourceState, IfRecorded}
 use Rattle.hsms_log.specs.declared.fault.AuditFault.{AuditFault}
 use Rattle.hsms_log.specs.declared.fault.AuditFault.TheVariants.{Read, Endless, Memory}
 use Rattle.hsms_log.specs.declared.verdict.Why.{Why}
 use Rattle.hsms_log.specs.declared.verdict.Verdict.{Verdict}
 use Rattle.hsms_log.specs.declared.verdict.Verdict.TheVariants.{Pass, Fail}
 use Rattle.hsms_log.specs.Verdict.{Passes, Fails, FailsOnward, FailsSoFar}
-use Rattle.hsms_log.specs.LineReader.{Reading, Stands}
+use Rattle.hsms_log.specs.LineReader.{Reading, StateInvariant}
 
 -- no line of what was read fails: a line that has ended, or one that is already too long
 abbrev pub HoldsNoFailure : List ℕ → Type 0
@@ -74,4 +74,4 @@ pub record CountsAudit (reads : ℕ) (result : Result Verdict AuditFault) (old n
 -- stands
 abbrev pub HasRead : Option (List ℕ) → Reading → Option (List ℕ) → Type 0
 HasRead old reader new =
-    WhereTold old (λ input. (text rest : List ℕ) × (input ≡ text ++ rest) × (new ≡ Some rest) × Stands reader text)
+    IfRecorded old (λ input. (text rest : List ℕ) × (input ≡ text ++ rest) × (new ≡ Some rest) × StateInvariant reader text)

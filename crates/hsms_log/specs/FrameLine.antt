@@ -3,7 +3,7 @@ use Rattle.std.specs.Prelude.{ℕ, List, codes}
 use Rattle.hsms_frame.specs.declared.header.Header.{Header}
 use Rattle.hsms_machine.specs.declared.entry.Mark.{Mark}
 use Rattle.hsms_machine.specs.declared.entry.Mark.TheVariants.{Sent, Taken, Discarded}
-use Rattle.hsms_log.specs.Spelling.{IsMessage, IsHexOf, message_octets}
+use Rattle.hsms_log.specs.LineFormat.{IsMessage, IsHexOf, message_octets}
 
 abbrev pub mark_word : Mark → List ℕ
 mark_word Sent = codes ">"
@@ -11,6 +11,6 @@ mark_word Taken = codes "<"
 mark_word Discarded = codes "!"
 
 -- the digits spell the message of this header and text
-abbrev pub IsSpelled : List ℕ → Header → List ℕ → Type 0
-IsSpelled digits header text =
+abbrev pub IsEncoded : List ℕ → Header → List ℕ → Type 0
+IsEncoded digits header text =
     IsMessage (record { header = header; text = text }) × IsHexOf digits (message_octets (record { header = header; text = text }))

@@ -1,33 +1,33 @@
 -- What is known of a text that is read in pieces.
 use Rattle.std.specs.Prelude.{◌≡◌, ◌+◌, ◌++◌, ℕ, List, [], ◌∷◌, Option, Some, None}
-use Rattle.hsms_log.specs.declared.judging.Judge.{Judge}
+use Rattle.hsms_log.specs.declared.audit_state.LineChecker.{LineChecker}
 use Rattle.hsms_log.specs.declared.verdict.Why.{Why}
 use Rattle.hsms_log.specs.declared.verdict.Verdict.{Verdict}
 use Rattle.hsms_log.specs.declared.verdict.Verdict.TheVariants.{Pass, Fail}
 use Rattle.hsms_log.specs.Lines.{ended_lines, open_line, IsOverlong}
 use Rattle.hsms_log.specs.Verdict.{FailsOnward}
-use Rattle.hsms_log.specs.Judging.{Follows, limit_after}
+use Rattle.hsms_log.specs.AuditState.{Follows, limit_after}
 
 -- the judge of the lines that have ended, and the octets of the line that may go on
 pub record Reading : Type 0 where
-  pub judge : Judge
+  pub line_checker : LineChecker
   pub held : List ℕ
 
 -- the reader stands after this text, of which no line fails so far
-pub record Stands (reader : Reading) (text : List ℕ) : Type 0 where
-  pub lines : Follows reader.judge (ended_lines text)
+pub record StateInvariant (reader : Reading) (text : List ℕ) : Type 0 where
+  pub lines : Follows reader.line_checker (ended_lines text)
   pub held : reader.held ≡ open_line text
-  pub goes_on : IsOverlong (limit_after reader.judge.session) reader.held → ⊥
+  pub can_continue : IsOverlong (limit_after reader.line_checker.session) reader.held → ⊥
 
 -- What judging the line that ends with this part left, by what was answered: that it doesn't fail, and then the reader
 -- stands after it, and it is counted; or why each text that goes on with it fails there, and it isn't.
 abbrev pub EndsLine : (old new : Reading) → List ℕ → Option Why → Type 0
 EndsLine old new part None =
-    (new.judge.tally.lines ≡ old.judge.tally.lines + 1)
-    × ((text : List ℕ) → Stands old text → Stands new (text ++ (part ++ 10 ∷ [])))
+    (new.line_checker.tally.lines ≡ old.line_checker.tally.lines + 1)
+    × ((text : List ℕ) → StateInvariant old text → StateInvariant new (text ++ (part ++ 10 ∷ [])))
 EndsLine old new part (Some why) =
-    (new.judge.tally.lines ≡ old.judge.tally.lines)
-    × ((text : List ℕ) → Stands old text → FailsOnward (text ++ (part ++ 10 ∷ [])) (old.judge.tally.lines + 1) why)
+    (new.line_checker.tally.lines ≡ old.line_checker.tally.lines)
+    × ((text : List ℕ) → StateInvariant old text → FailsOnward (text ++ (part ++ 10 ∷ [])) (old.line_checker.tally.lines + 1) why)
 
 -- the verdict is a failure of each text that begins with this one
 abbrev pub FailsAs : List ℕ → Verdict → Type 0

@@ -4,7 +4,7 @@ use Rattle.std.specs.List.{flat_map}
 use Rattle.hsms_machine.specs.declared.entry.Entry.{Entry}
 use Rattle.hsms_machine.specs.Settings.{Parameters}
 use Rattle.hsms_log.specs.Lines.{lines_of}
-use Rattle.hsms_log.specs.Spelling.{SpellsSettings, Carries, settings_line, entry_line}
+use Rattle.hsms_log.specs.LineFormat.{EncodesSettings, Carries, settings_line, entry_line}
 
 -- each line is readable, and those that carry something carry the log's entries, in order
 abbrev pub CarryLog : ℕ → List (List ℕ) → List Entry → Type 0
@@ -14,13 +14,13 @@ CarryLog max (line ∷ lines) log =
     × (log ≡ option_to_list carried ++ later)
 
 -- the first line spells the settings, and the others carry the log
-abbrev pub SpellLog : List (List ℕ) → Parameters → List Entry → Type 0
-SpellLog [] s log = ⊥
-SpellLog (first ∷ others) s log = SpellsSettings first s × CarryLog s.max others log
+abbrev pub EncodesLog : List (List ℕ) → Parameters → List Entry → Type 0
+EncodesLog [] s log = ⊥
+EncodesLog (first ∷ others) s log = EncodesSettings first s × CarryLog s.max others log
 
 -- the text spells the settings and the log
 abbrev pub LogText : List ℕ → Parameters → List Entry → Type 0
-LogText text s log = SpellLog (lines_of text) s log
+LogText text s log = EncodesLog (lines_of text) s log
 
 -- a log as it is written: each line ends with a line feed
 abbrev pub written_log : Parameters → List Entry → List ℕ

@@ -13,8 +13,8 @@ use Rattle.hsms_log.specs.declared.verdict.Summary.{Summary}
 use Rattle.hsms_log.specs.declared.verdict.Verdict.{Verdict}
 use Rattle.hsms_log.specs.declared.verdict.Verdict.TheVariants.{Pass, Fail}
 use Rattle.hsms_log.specs.Lines.{lines_of, ended_lines, open_line, IsOverlong}
-use Rattle.hsms_log.specs.Spelling.{SpellsSettings, Carries, settings_limit, line_limit}
-use Rattle.hsms_log.specs.Log.{SpellLog}
+use Rattle.hsms_log.specs.LineFormat.{EncodesSettings, Carries, settings_limit, line_limit}
+use Rattle.hsms_log.specs.Log.{EncodesLog}
 
 abbrev pub is_sent : Event → Bool
 is_sent (Sent frame) = true
@@ -45,18 +45,18 @@ summary_of log = record {
 
 -- a count by its name, and what stands before and behind the name
 abbrev pub count_text : List ℕ → List ℕ → List ℕ → ℕ → List ℕ
-count_text before name behind count = before ++ name ++ behind ++ decimal count
+count_text before name subsequent count = before ++ name ++ subsequent ++ decimal count
 
 -- each count of a summary
 abbrev pub counts_text : List ℕ → List ℕ → Summary → List ℕ
-counts_text before behind s =
-    count_text before (codes "entries") behind s.entries ++ (count_text before (codes "sent") behind s.sent
-    ++ (count_text before (codes "taken") behind s.taken ++ (count_text before (codes "discarded") behind s.discarded
-    ++ (count_text before (codes "expired") behind s.expired ++ count_text before (codes "waiting") behind s.waiting))))
+counts_text before subsequent s =
+    count_text before (codes "entries") subsequent s.entries ++ (count_text before (codes "sent") subsequent s.sent
+    ++ (count_text before (codes "taken") subsequent s.taken ++ (count_text before (codes "discarded") subsequent s.discarded
+    ++ (count_text before (codes "expired") subsequent s.expired ++ count_text before (codes "waiting") subsequent s.waiting))))
 
 -- the lines spell the settings and a run
-pub record SpellRun (lines : List (List ℕ)) (s : Parameters) (log : List Entry) : Type 0 where
-  pub spelled : SpellLog lines s log
+pub record EncodesRun (lines : List (List ℕ)) (s : Parameters) (log : List Entry) : Type 0 where
+  pub encoded_bytes : EncodesLog lines s log
   pub run : IsRun s log
 
 -- after a run the line is unreadable, or carries an entry that breaks this rule
@@ -66,9 +66,9 @@ FailsRun s log line (Broken rule) = (entry : Entry) × Carries s.max line (Some 
 
 -- the line fails after these lines, which don't: the first where it spells no settings
 abbrev pub FailsAfter : List (List ℕ) → List ℕ → Why → Type 0
-FailsAfter [] line why = ((s : Parameters) → SpellsSettings line s → ⊥) × (why ≡ Unreadable)
+FailsAfter [] line why = ((s : Parameters) → EncodesSettings line s → ⊥) × (why ≡ Unreadable)
 FailsAfter (first ∷ others) line why =
-    (s : Parameters) × (log : List Entry) × SpellRun (first ∷ others) s log × FailsRun s log line why
+    (s : Parameters) × (log : List Entry) × EncodesRun (first ∷ others) s log × FailsRun s log line why
 
 -- of these lines, the one with number n fails, and those before it don't
 abbrev pub LineFails : List (List ℕ) → ℕ → Why → Type 0
@@ -82,12 +82,12 @@ LinesFail lines n why = LineFails lines n why ⊎ ((lines ≡ []) × (n ≡ 1) �
 
 -- the lines spell a run that has this summary
 abbrev pub LinesPass : List (List ℕ) → Summary → Type 0
-LinesPass lines summary = (s : Parameters) × (log : List Entry) × SpellRun lines s log × (summary ≡ summary_of log)
+LinesPass lines summary = (s : Parameters) × (log : List Entry) × EncodesRun lines s log × (summary ≡ summary_of log)
 
 -- the verdict on lines
-abbrev pub LinesJudged : List (List ℕ) → Verdict → Type 0
-LinesJudged lines (Pass summary) = LinesPass lines summary
-LinesJudged lines (Fail n why) = LinesFail lines n why
+abbrev pub LinesAudited : List (List ℕ) → Verdict → Type 0
+LinesAudited lines (Pass summary) = LinesPass lines summary
+LinesAudited lines (Fail n why) = LinesFail lines n why
 
 -- the text fails at its line n
 abbrev pub Fails : List ℕ → ℕ → Why → Type 0
@@ -98,14 +98,14 @@ abbrev pub Passes : List ℕ → Summary → Type 0
 Passes text summary = LinesPass (lines_of text) summary
 
 -- the verdict on a whole text
-abbrev pub Judges : List ℕ → Verdict → Type 0
-Judges text verdict = LinesJudged (lines_of text) verdict
+abbrev pub HasAuditVerdict : List ℕ → Verdict → Type 0
+HasAuditVerdict text verdict = LinesAudited (lines_of text) verdict
 
 -- after these lines, which don't fail, the next line is already too long
 abbrev pub OverlongAfter : List (List ℕ) → List ℕ → Type 0
 OverlongAfter [] part = IsOverlong settings_limit part
 OverlongAfter (first ∷ others) part =
-    (s : Parameters) × (log : List Entry) × SpellRun (first ∷ others) s log × IsOverlong (line_limit s.max) part
+    (s : Parameters) × (log : List Entry) × EncodesRun (first ∷ others) s log × IsOverlong (line_limit s.max) part
 
 -- what was read of a text fails at line n: a line that has ended fails, or the next one is already too long
 abbrev pub FailsSoFar : List ℕ → ℕ → Why → Type 0

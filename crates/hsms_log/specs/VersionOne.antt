@@ -5,7 +5,7 @@ use Rattle.std.specs.List.{filter_map, join_with_byte}
 use Rattle.hsms_machine.specs.declared.entry.Entry.{Entry}
 use Rattle.hsms_machine.specs.Settings.{Parameters, IsWithinLimits}
 use Rattle.hsms_machine.specs.Transaction.{SentData, opened_as}
-use Rattle.hsms_machine.specs.OneConnection.{BrokenOfOne, IsRunOfOne}
+use Rattle.hsms_machine.specs.SingleConnection.{BrokenOfOne, IsRunOfOne}
 use Rattle.hsms_machine.specs.View.{open_entries}
 use Rattle.hsms_log.specs.declared.verdict.Why.{Why}
 use Rattle.hsms_log.specs.declared.verdict.Why.TheVariants.{Unreadable, Broken}
@@ -13,7 +13,7 @@ use Rattle.hsms_log.specs.declared.verdict.Summary.{Summary}
 use Rattle.hsms_log.specs.declared.verdict.Verdict.{Verdict}
 use Rattle.hsms_log.specs.declared.verdict.Verdict.TheVariants.{Pass, Fail}
 use Rattle.hsms_log.specs.Lines.{lines_of}
-use Rattle.hsms_log.specs.Spelling.{SpellsSettings, Carries, settings_limit, role_word, link_word}
+use Rattle.hsms_log.specs.LineFormat.{EncodesSettings, Carries, settings_limit, role_word, link_word}
 use Rattle.hsms_log.specs.Log.{CarryLog}
 use Rattle.hsms_log.specs.Verdict.{summary_of}
 
@@ -25,20 +25,20 @@ settings_line_of_one s =
     ∷ decimal s.t3 ∷ decimal s.t6 ∷ decimal s.t7 ∷ decimal s.t8 ∷ decimal s.max ∷ decimal s.depth ∷ [])
 
 -- the line spells the settings
-pub record SpellsSettingsOfOne (line : List ℕ) (s : Parameters) : Type 0 where
+pub record EncodesSettingsOfOne (line : List ℕ) (s : Parameters) : Type 0 where
   pub version : s.version ≡ 1
   pub within : IsWithinLimits s
   pub fits : length line ≤ settings_limit
-  pub spelled : line ≡ settings_line_of_one s
+  pub encoded_bytes : line ≡ settings_line_of_one s
 
 -- the first line spells the settings, and the others carry the log
-abbrev pub SpellLogOfOne : List (List ℕ) → Parameters → List Entry → Type 0
-SpellLogOfOne [] s log = ⊥
-SpellLogOfOne (first ∷ others) s log = SpellsSettingsOfOne first s × CarryLog s.max others log
+abbrev pub EncodesLogOfOne : List (List ℕ) → Parameters → List Entry → Type 0
+EncodesLogOfOne [] s log = ⊥
+EncodesLogOfOne (first ∷ others) s log = EncodesSettingsOfOne first s × CarryLog s.max others log
 
 -- the lines spell the settings and a run
-pub record SpellRunOfOne (lines : List (List ℕ)) (s : Parameters) (log : List Entry) : Type 0 where
-  pub spelled : SpellLogOfOne lines s log
+pub record EncodesRunOfOne (lines : List (List ℕ)) (s : Parameters) (log : List Entry) : Type 0 where
+  pub encoded_bytes : EncodesLogOfOne lines s log
   pub run : IsRunOfOne s log
 
 -- how many entries of a log are of which kind, and how many that opened sent data no later entry closes
@@ -52,9 +52,9 @@ FailsRunOfOne s log line (Broken rule) = (entry : Entry) × Carries s.max line (
 
 -- the line fails after these lines, which don't: the first where it spells no settings
 abbrev pub FailsAfterOfOne : List (List ℕ) → List ℕ → Why → Type 0
-FailsAfterOfOne [] line why = ((s : Parameters) → SpellsSettingsOfOne line s → ⊥) × (why ≡ Unreadable)
+FailsAfterOfOne [] line why = ((s : Parameters) → EncodesSettingsOfOne line s → ⊥) × (why ≡ Unreadable)
 FailsAfterOfOne (first ∷ others) line why =
-    (s : Parameters) × (log : List Entry) × SpellRunOfOne (first ∷ others) s log × FailsRunOfOne s log line why
+    (s : Parameters) × (log : List Entry) × EncodesRunOfOne (first ∷ others) s log × FailsRunOfOne s log line why
 
 -- of these lines, the one with number n fails, and those before it don't
 abbrev pub LineFailsOfOne : List (List ℕ) → ℕ → Why → Type 0
@@ -65,18 +65,18 @@ LineFailsOfOne lines n why =
 -- the lines spell a run that has this summary
 abbrev pub LinesPassOfOne : List (List ℕ) → Summary → Type 0
 LinesPassOfOne lines summary =
-    (s : Parameters) × (log : List Entry) × SpellRunOfOne lines s log × (summary ≡ summary_of_one log)
+    (s : Parameters) × (log : List Entry) × EncodesRunOfOne lines s log × (summary ≡ summary_of_one log)
 
 -- the verdict on lines: where there is none, line 1 fails
-abbrev pub LinesJudgedOfOne : List (List ℕ) → Verdict → Type 0
-LinesJudgedOfOne lines (Pass summary) = LinesPassOfOne lines summary
-LinesJudgedOfOne lines (Fail n why) = LineFailsOfOne lines n why ⊎ ((lines ≡ []) × (n ≡ 1) × (why ≡ Unreadable))
+abbrev pub LinesAuditedOfOne : List (List ℕ) → Verdict → Type 0
+LinesAuditedOfOne lines (Pass summary) = LinesPassOfOne lines summary
+LinesAuditedOfOne lines (Fail n why) = LineFailsOfOne lines n why ⊎ ((lines ≡ []) × (n ≡ 1) × (why ≡ Unreadable))
 
 -- the verdict on a whole text
-abbrev pub JudgesOfOne : List ℕ → Verdict → Type 0
-JudgesOfOne text verdict = LinesJudgedOfOne (lines_of text) verdict
+abbrev pub HasAuditVerdictOfOne : List ℕ → Verdict → Type 0
+HasAuditVerdictOfOne text verdict = LinesAuditedOfOne (lines_of text) verdict
 
 -- the first line spells no settings of version 2
-abbrev pub SpellsNoVersionTwo : List (List ℕ) → Type 0
-SpellsNoVersionTwo [] = Unit {0}
-SpellsNoVersionTwo (first ∷ others) = (s : Parameters) → SpellsSettings first s → s.version ≢ 2
+abbrev pub EncodesNoVersionTwo : List (List ℕ) → Type 0
+EncodesNoVersionTwo [] = Unit {0}
+EncodesNoVersionTwo (first ∷ others) = (s : Parameters) → EncodesSettings first s → s.version ≢ 2

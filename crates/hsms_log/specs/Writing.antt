@@ -1,9 +1,9 @@
 -- What a call that writes these octets leaves.
 use Rattle.std.specs.Prelude.{◌≡◌, ◌++◌, ℕ, List, [], ◌∷◌, Option, Result, Ok, Err, codes, decimal}
-use Rattle.hsms_frame.specs.Count.{next_count}
-use Rattle.hsms_frame.specs.Device.{Grows, GrowsByFront, SinkState}
+use Rattle.hsms_frame.specs.CallCounts.{next_count}
+use Rattle.hsms_frame.specs.Io.{Grows, GrowsByFront, SinkState}
 use Rattle.hsms_machine.specs.Settings.{Parameters}
-use Rattle.hsms_log.specs.Spelling.{role_word, link_word}
+use Rattle.hsms_log.specs.LineFormat.{role_word, link_word}
 
 -- all of the octets were written, or a part from their front and the sink failed
 abbrev pub Puts : {F : Type 0} → Result (Unit {0}) F → Option (List ℕ) → Option (List ℕ) → List ℕ → Type 0

@@ -1,6 +1,6 @@
 //! The audit of a log that is read from a source.
 
-ghost use Rattle.hsms_frame.specs.Device.{WhereTold};
+ghost use Rattle.hsms_frame.specs.Io.{IfRecorded};
 ghost use Rattle.hsms_log.specs.Auditing.{AuditsAs, HasEnded, CountsAudit};
 
 use crate::fault::AuditFault;
@@ -25,7 +25,7 @@ const BLOCK: usize = 4096;
 /// What its words stand for:
 /// - *its bytes*: what the source had left. `AuditsAs` is claimed of a source that tells its octets, the counts of any.
 /// - *spell*: `LogText` of `specs/Log.antt`, by the lines of `specs/Lines.antt` and what a line says in
-///   `specs/Spelling.antt`. A text spells at most one log: `laws::text_spells_one_log`.
+///   `specs/LineFormat.antt`. A text spells at most one log: `laws::text_encodes_one_log`.
 /// - *a run of the session machine*: `IsRun` of `hsms_machine`, `specs/Run.antt`: no entry breaks a rule after those
 ///   before it.
 /// - *data flows only while selected*: `laws::data_flows_while_selected` of `hsms_machine`. Data flows where it is sent
@@ -51,7 +51,7 @@ const BLOCK: usize = 4096;
 /// What it does not say: that times and lines are what happened, that a timer fired in time, or that memory is there
 /// (`Memory`, where a growth was refused).
 pub fn audit<R: Source>(alloc: Global, source: &mut R) -> Result<Verdict, AuditFault>
-    ensures answer { WhereTold (R.state source.old).left (λ input. AuditsAs input result (R.state source.new).left
+    ensures answer { IfRecorded (R.state source.old).left (λ input. AuditsAs input result (R.state source.new).left
         (HasEnded (R.state source.old).ends (R.state source.new).ends)) }
     ensures counts { CountsAudit 4294967295 result (R.state source.old) (R.state source.new) }
 {
@@ -66,7 +66,7 @@ pub fn audit_within<R: Source>(
     source: &mut R,
     reads: u32,
 ) -> Result<Verdict, AuditFault>
-    ensures answer { WhereTold (R.state source.old).left (λ input. AuditsAs input result (R.state source.new).left
+    ensures answer { IfRecorded (R.state source.old).left (λ input. AuditsAs input result (R.state source.new).left
         (HasEnded (R.state source.old).ends (R.state source.new).ends)) }
     ensures counts { CountsAudit reads result (R.state source.old) (R.state source.new) }
 {

@@ -1,9 +1,9 @@
 //! An audit that is told its text in pieces.
 
 ghost use Rattle.std.specs.Prelude.{◌≡◌, ◌↔◌, ◌+◌, ◌++◌, [], ◌∷◌, List, ℕ, IfOk, IsTrue, OnOk, length};
-ghost use Rattle.hsms_log.specs.Verdict.{Judges};
-ghost use Rattle.hsms_log.specs.Auditor.{CanHear, HasAtMost, HasHeard, HasRoom, IsBetween};
-ghost use Rattle.hsms_log.specs.Spelling.{IsComment, entry_line};
+ghost use Rattle.hsms_log.specs.Verdict.{HasAuditVerdict};
+ghost use Rattle.hsms_log.specs.Auditor.{CanProcess, HasAtMost, HasProcessed, HasRoom, IsBetween};
+ghost use Rattle.hsms_log.specs.LineFormat.{IsComment, entry_line};
 
 use crate::line_reader::LineReader;
 use crate::verdict::Verdict;
@@ -21,7 +21,7 @@ pub struct Auditor {
 impl Auditor {
     /// The audit of a text of which nothing is told.
     pub fn new(alloc: Global) -> Auditor
-        ensures heard { HasHeard result [] }
+        ensures reception { HasProcessed result [] }
         ensures lines { HasAtMost 0 result }
     {
         Auditor {
@@ -37,7 +37,7 @@ impl Auditor {
     /// Where memory is refused. Of an audit that goes on then nothing is said.
     pub fn take(&mut self, alloc: Global, octets: &[u8]) -> Result<(), AllocError>
         requires room { HasRoom self.old octets.now }
-        ensures heard { OnOk result ((text : List ℕ) → HasHeard self.old text → HasHeard self.new (text ++ octets.now)) }
+        ensures reception { OnOk result ((text : List ℕ) → HasProcessed self.old text → HasProcessed self.new (text ++ octets.now)) }
         ensures lines { OnOk result ((n : ℕ) → HasAtMost n self.old → HasAtMost (n + length octets.now) self.new) }
     {
         if self.found.is_none() {
@@ -53,9 +53,9 @@ impl Auditor {
     /// Where memory is refused. Of an audit that goes on then nothing is said.
     pub fn take_entry(&mut self, entry: &Entry) -> Result<(), AllocError>
         requires room { HasRoom self.old (10 ∷ []) }
-        requires can { CanHear self.old entry.now }
-        ensures heard { OnOk result ((text : List ℕ)
-            → HasHeard self.old text → HasHeard self.new (text ++ (entry_line entry.now ++ 10 ∷ []))) }
+        requires can { CanProcess self.old entry.now }
+        ensures reception { OnOk result ((text : List ℕ)
+            → HasProcessed self.old text → HasProcessed self.new (text ++ (entry_line entry.now ++ 10 ∷ []))) }
         ensures lines { OnOk result ((n : ℕ) → HasAtMost n self.old → HasAtMost (n + 1) self.new) }
     {
         if self.found.is_none() {
@@ -66,8 +66,8 @@ impl Auditor {
 
     /// Whether it can take an entry in by itself: behind the line of the settings, where no other has begun, and where
     /// these allow the entry's message. Once a line has failed, it can.
-    pub fn can_hear(&self, entry: &Entry) -> bool
-        ensures { IsTrue result ↔ CanHear self.now entry.now }
+    pub fn can_process(&self, entry: &Entry) -> bool
+        ensures { IsTrue result ↔ CanProcess self.now entry.now }
     {
         self.found.is_some() || self.reader.allows(entry)
     }
@@ -76,8 +76,8 @@ impl Auditor {
     pub fn take_comment(&mut self)
         requires room { HasRoom self.old (10 ∷ []) }
         requires between { IsBetween self.old }
-        ensures heard { (text comment : List ℕ)
-            → IsComment comment → HasHeard self.old text → HasHeard self.new (text ++ (comment ++ 10 ∷ [])) }
+        ensures reception { (text comment : List ℕ)
+            → IsComment comment → HasProcessed self.old text → HasProcessed self.new (text ++ (comment ++ 10 ∷ [])) }
         ensures lines { (n : ℕ) → HasAtMost n self.old → HasAtMost (n + 1) self.new }
     {
         if self.found.is_none() {
@@ -107,7 +107,7 @@ impl Auditor {
     /// Where memory is refused.
     pub fn finish(self, alloc: Global) -> Result<Verdict, AllocError>
         requires { HasRoom self [] }
-        ensures { IfOk result (λ verdict. (text : List ℕ) → HasHeard self text → Judges text verdict) }
+        ensures { IfOk result (λ verdict. (text : List ℕ) → HasProcessed self text → HasAuditVerdict text verdict) }
     {
         match self.found {
             Some(verdict) => Ok(verdict),

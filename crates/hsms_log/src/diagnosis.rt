@@ -3,10 +3,10 @@
 ghost use Rattle.std.specs.Prelude.{Option};
 ghost use Rattle.hsms_machine.specs.Settings.{Parameters};
 ghost use Rattle.hsms_machine.specs.declared.entry.Entry.{Entry as LogEntry};
-ghost use Rattle.hsms_log.specs.Spelling.{Carries, SpellsSettings};
+ghost use Rattle.hsms_log.specs.LineFormat.{Carries, EncodesSettings};
 ghost use Rattle.hsms_log.specs.Reasons.{IsWithin};
 
-use crate::judging::SETTINGS_LIMIT;
+use crate::audit_state::SETTINGS_LIMIT;
 use crate::number::number;
 use crate::reading::{read_cause, read_system};
 use crate::reasons::{Form, Reason, Unreadable};
@@ -21,7 +21,7 @@ const FEWEST_DIGITS: usize = 20;
 
 /// Returns why a first line that spells no settings cannot be read. It is given without its end.
 pub fn unreadable_settings(line: &[u8]) -> Unreadable
-    requires { (settings : Parameters) → SpellsSettings line.now settings → ⊥ }
+    requires { (settings : Parameters) → EncodesSettings line.now settings → ⊥ }
     ensures { IsWithin line.now result }
 {
     unreadable(line, check_settings(line), Form::Settings)

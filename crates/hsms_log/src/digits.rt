@@ -1,7 +1,7 @@
 //! Hexadecimal digits, read sixteen at once.
 
 ghost use Rattle.std.specs.Prelude.{◌≡◌, ◌+◌, ◌*◌, ◌<◌, ◌≤◌, ℕ, List, length, slice_index, true, false};
-ghost use Rattle.hsms_log.specs.Spelling.{IsHexOf};
+ghost use Rattle.hsms_log.specs.LineFormat.{IsHexOf};
 ghost use Rattle.hsms_log.specs.Digits.{IsValueOf, AreSmall};
 
 use std::simd::prelude::*;
@@ -13,7 +13,7 @@ pub fn decode(digits: &[u8], octets: &mut [u8]) -> bool
     requires size { length digits.now ≡ 2 * length octets.old }
     requires some { 8 ≤ length octets.old }
     ensures digits { result ≡ true → IsHexOf digits.now octets.new }
-    ensures other { result ≡ false → (spelled : List ℕ) → IsHexOf digits.now spelled → ⊥ }
+    ensures other { result ≡ false → (encoded_bytes : List ℕ) → IsHexOf digits.now encoded_bytes → ⊥ }
     ensures len { length octets.new ≡ length octets.old }
 {
     let mut greatest = u8x16::splat(0);

@@ -19,19 +19,19 @@
 //! ```
 #![tactic(auto)]
 
+mod audit_state;
 mod auditing;
 mod auditor;
 mod diagnosis;
 mod digits;
-mod entry_line;
+mod entry_check;
 mod fault;
 mod hexadecimal;
-mod judging;
 pub mod laws;
 mod line;
 mod line_reader;
 mod number;
-mod range;
+mod ranges;
 mod reading;
 mod reasons;
 mod settings_line;
@@ -46,7 +46,7 @@ pub use diagnosis::{unreadable_entry, unreadable_settings};
 pub use fault::{AuditFault, LineFault, LogFault};
 pub use hexadecimal::{digits_of_few, digits_of_sixteen};
 pub use line::{split_at_first, without_carriage_return};
-pub use line_reader::judge;
+pub use line_reader::line_checker;
 pub use reading::{Line, is_blank, read_frame_line, read_line, read_plain_line};
 pub use reasons::{Form, Reason, Unreadable};
 pub use settings_line::read_settings;

@@ -1,11 +1,11 @@
 //! A text that is read in pieces, and judged line by line.
 
 ghost use Rattle.std.specs.Prelude.{IfOk};
-ghost use Rattle.hsms_log.specs.Verdict.{Judges as IsVerdictOn};
+ghost use Rattle.hsms_log.specs.Verdict.{HasAuditVerdict as IsVerdictOn};
 
-use crate::judging::Judge;
+use crate::audit_state::LineChecker;
 use crate::line::{split_at_first, without_carriage_return};
-use crate::range::entry_is_in_range;
+use crate::ranges::entry_is_in_range;
 use crate::verdict::{Verdict, Why};
 use hsms_machine::Entry;
 use std::alloc::{AllocError, Global};
@@ -14,15 +14,15 @@ use std::marker::Model;
 /// Judges a text that comes in pieces. The lines that have ended are judged; of the line that may go on the octets are
 /// held, at most one more than the line's limit.
 pub struct LineReader {
-    judge: Judge,
+    line_checker: LineChecker,
     held: Vec<u8>,
 }
 
 // Written out: a proof over one that is dropped has one step for it, not one for each of its parts.
 impl Drop for LineReader {
     fn drop(self) {
-        let LineReader { judge, held } = self;
-        drop(judge);
+        let LineReader { line_checker, held } = self;
+        drop(line_checker);
         drop(held);
     }
 }
@@ -30,30 +30,30 @@ impl Drop for LineReader {
 impl Model for LineReader {
     ghost use Rattle.std.specs.Prelude.{◌≤◌, ◌+◌, length};
     ghost use Rattle.hsms_log.specs.LineReader.{Reading};
-    ghost use Rattle.hsms_log.specs.Judging.{limit_after};
+    ghost use Rattle.hsms_log.specs.AuditState.{limit_after};
 
     ghost Value = { Reading };
 
-    ghost view = { λ r. record { judge = r.judge; held = r.held.items } };
+    ghost view = { λ r. record { line_checker = r.line_checker; held = r.held.items } };
 
-    ghost invariant = { λ r. length r.held.items ≤ limit_after r.judge.session + 1 };
+    ghost invariant = { λ r. length r.held.items ≤ limit_after r.line_checker.session + 1 };
 }
 
 impl LineReader {
     ghost use Rattle.std.specs.Prelude.{◌≡◌, ◌↔◌, ◌+◌, ◌-◌, ◌<◌, ◌≤◌, ◌^◌, ◌++◌, [], ◌∷◌, List, ℕ, None, Ok, IfOk, IfSome, IsSome, IsTrue, length};
     ghost use Rattle.hsms_log.specs.Lines.{HasNone, IsOverlong};
-    ghost use Rattle.hsms_log.specs.Verdict.{Judges};
-    ghost use Rattle.hsms_log.specs.Judging.{Allows, limit_after};
-    ghost use Rattle.hsms_log.specs.LineReader.{Stands, EndsLine, FailsAs, IsFailure};
-    ghost use Rattle.hsms_log.specs.Spelling.{IsComment, entry_line};
+    ghost use Rattle.hsms_log.specs.Verdict.{HasAuditVerdict};
+    ghost use Rattle.hsms_log.specs.AuditState.{Allows, limit_after};
+    ghost use Rattle.hsms_log.specs.LineReader.{StateInvariant, EndsLine, FailsAs, IsFailure};
+    ghost use Rattle.hsms_log.specs.LineFormat.{IsComment, entry_line};
 
     /// The reader of a text of which nothing was read.
     pub fn new(alloc: Global) -> LineReader
-        ensures stands { Stands result [] }
-        ensures none { result.judge.tally.lines ≡ 0 }
+        ensures consistent { StateInvariant result [] }
+        ensures none { result.line_checker.tally.lines ≡ 0 }
     {
         LineReader {
-            judge: Judge::new(alloc),
+            line_checker: LineChecker::new(alloc),
             held: Vec::new(alloc),
         }
     }
@@ -61,93 +61,95 @@ impl LineReader {
     /// Takes the next octets in. Where a line of them fails, it stops there and gives the failure. A line fails as soon
     /// as it has ended, or is too long however it goes on.
     pub fn take(&mut self, alloc: Global, octets: &[u8]) -> Result<Option<Verdict>, AllocError>
-        requires { self.old.judge.tally.lines + length octets.now < 2 ^ 64 - 1 }
-        ensures stands { result ≡ Ok None → (text : List ℕ) → Stands self.old text → Stands self.new (text ++ octets.now) }
-        ensures room { result ≡ Ok None → self.new.judge.tally.lines ≤ self.old.judge.tally.lines + length octets.now }
+        requires { self.old.line_checker.tally.lines + length octets.now < 2 ^ 64 - 1 }
+        ensures consistent { result ≡ Ok None → (text : List ℕ) → StateInvariant self.old text → StateInvariant self.new (text ++ octets.now) }
+        ensures room { result ≡ Ok None → self.new.line_checker.tally.lines ≤ self.old.line_checker.tally.lines + length octets.now }
         ensures failure { IfOk result (λ answer. IfSome answer IsFailure) }
-        ensures fails { IfOk result (λ answer. IfSome answer (λ verdict. (text : List ℕ) → Stands self.old text → FailsAs (text ++ octets.now) verdict)) }
+        ensures fails { IfOk result (λ answer. IfSome answer (λ verdict. (text : List ℕ) → StateInvariant self.old text → FailsAs (text ++ octets.now) verdict)) }
     {
         let mut rest = octets;
         while let Some((part, more)) = split_at_first(rest, b'\n') {
             if let Some(why) = self.end_line(alloc, part)? {
-                return Ok(Some(self.judge.failure(why)));
+                return Ok(Some(self.line_checker.failure(why)));
             }
             rest = more;
         }
         if let Some(why) = self.hold(rest)? {
-            return Ok(Some(self.judge.failure(why)));
+            return Ok(Some(self.line_checker.failure(why)));
         }
         Ok(None)
     }
 
     /// Judges an entry in place of its line. Where it fails, it gives the failure.
     pub fn entry(&mut self, entry: &Entry) -> Result<Option<Verdict>, AllocError>
-        requires room { self.old.judge.tally.lines < 2 ^ 64 - 1 }
+        requires room { self.old.line_checker.tally.lines < 2 ^ 64 - 1 }
         requires between { self.old.held ≡ [] }
-        requires allowed { Allows self.old.judge.session entry.now }
-        ensures stands { result ≡ Ok None → (text : List ℕ) → Stands self.old text → Stands self.new (text ++ (entry_line entry.now ++ 10 ∷ [])) }
-        ensures number { result ≡ Ok None → self.new.judge.tally.lines ≡ self.old.judge.tally.lines + 1 }
+        requires allowed { Allows self.old.line_checker.session entry.now }
+        ensures consistent { result ≡ Ok None → (text : List ℕ) → StateInvariant self.old text → StateInvariant self.new (text ++ (entry_line entry.now ++ 10 ∷ [])) }
+        ensures number { result ≡ Ok None → self.new.line_checker.tally.lines ≡ self.old.line_checker.tally.lines + 1 }
         ensures failure { IfOk result (λ answer. IfSome answer IsFailure) }
-        ensures fails { IfOk result (λ answer. IfSome answer (λ verdict. (text : List ℕ) → Stands self.old text → FailsAs (text ++ (entry_line entry.now ++ 10 ∷ [])) verdict)) }
+        ensures fails { IfOk result (λ answer. IfSome answer (λ verdict. (text : List ℕ) → StateInvariant self.old text → FailsAs (text ++ (entry_line entry.now ++ 10 ∷ [])) verdict)) }
     {
         entry_is_in_range(entry);
-        if let Some(why) = self.judge.entry(entry)? {
-            return Ok(Some(self.judge.failure(why)));
+        if let Some(why) = self.line_checker.entry(entry)? {
+            return Ok(Some(self.line_checker.failure(why)));
         }
         Ok(None)
     }
 
     /// Whether an entry can be judged in place of its line.
     pub fn allows(&self, entry: &Entry) -> bool
-        ensures { IsTrue result ↔ (self.now.held ≡ []) × Allows self.now.judge.session entry.now }
+        ensures { IsTrue result ↔ (self.now.held ≡ []) × Allows self.now.line_checker.session entry.now }
     {
-        self.held.is_empty() && self.judge.allows(entry)
+        self.held.is_empty() && self.line_checker.allows(entry)
     }
 
     /// Takes the line of a comment.
     pub fn comment(&mut self)
-        requires room { self.old.judge.tally.lines < 2 ^ 64 - 1 }
+        requires room { self.old.line_checker.tally.lines < 2 ^ 64 - 1 }
         requires between { self.old.held ≡ [] }
-        requires settings { IsSome self.old.judge.session }
-        ensures stands { (text comment : List ℕ) → IsComment comment → Stands self.old text → Stands self.new (text ++ (comment ++ 10 ∷ [])) }
-        ensures number { self.new.judge.tally.lines ≡ self.old.judge.tally.lines + 1 }
+        requires settings { IsSome self.old.line_checker.session }
+        ensures consistent { (text comment : List ℕ) → IsComment comment → StateInvariant self.old text → StateInvariant self.new (text ++ (comment ++ 10 ∷ [])) }
+        ensures number { self.new.line_checker.tally.lines ≡ self.old.line_checker.tally.lines + 1 }
     {
-        self.judge.comment();
+        self.line_checker.comment();
     }
 
     /// Whether the settings were read, and no line has begun since the last one ended.
     pub fn is_between(&self) -> bool
-        ensures { IsTrue result ↔ (self.now.held ≡ []) × IsSome self.now.judge.session }
+        ensures { IsTrue result ↔ (self.now.held ≡ []) × IsSome self.now.line_checker.session }
     {
-        self.held.is_empty() && self.judge.session.is_some()
+        self.held.is_empty() && self.line_checker.session.is_some()
     }
 
     /// Judges the line that ends with this part. Where nothing is held, it is judged where it lies.
     fn end_line(&mut self, alloc: Global, part: &[u8]) -> Result<Option<Why>, AllocError>
-        requires room { self.old.judge.tally.lines < 2 ^ 64 - 1 }
+        requires room { self.old.line_checker.tally.lines < 2 ^ 64 - 1 }
         requires part { HasNone 10 part.now }
         ensures { IfOk result (EndsLine self.old self.new part.now) }
     {
         if self.held.is_empty() {
-            return self.judge.line(alloc, without_carriage_return(part));
+            return self.line_checker.line(alloc, without_carriage_return(part));
         }
         if let Some(why) = self.hold(part)? {
             return Ok(Some(why));
         }
-        let answer = self.judge.line(alloc, without_carriage_return(&self.held));
+        let answer = self
+            .line_checker
+            .line(alloc, without_carriage_return(&self.held));
         self.held.clear();
         answer
     }
 
     /// Holds further octets of the line, unless it is then too long, however it goes on.
     fn hold(&mut self, part: &[u8]) -> Result<Option<Why>, AllocError>
-        ensures judge { self.new.judge ≡ self.old.judge }
+        ensures line_checker { self.new.line_checker ≡ self.old.line_checker }
         ensures held { result ≡ Ok None → self.new.held ≡ self.old.held ++ part.now }
-        ensures goes_on { result ≡ Ok None → IsOverlong (limit_after self.old.judge.session) self.new.held → ⊥ }
+        ensures can_continue { result ≡ Ok None → IsOverlong (limit_after self.old.line_checker.session) self.new.held → ⊥ }
         ensures overlong { IfOk result (λ answer. IfSome answer (λ why. (why ≡ Why.Unreadable)
-            × IsOverlong (limit_after self.old.judge.session) (self.old.held ++ part.now))) }
+            × IsOverlong (limit_after self.old.line_checker.session) (self.old.held ++ part.now))) }
     {
-        let limit = self.judge.line_limit();
+        let limit = self.line_checker.line_limit();
         if self.held.len() + part.len() > limit + 1 {
             return Ok(Some(Why::Unreadable));
         }
@@ -160,22 +162,25 @@ impl LineReader {
 
     /// The verdict where the text ends here.
     pub fn finish(self, alloc: Global) -> Result<Verdict, AllocError>
-        requires { self.judge.tally.lines < 2 ^ 64 - 1 }
-        ensures { IfOk result (λ verdict. (text : List ℕ) → Stands self text → Judges text verdict) }
+        requires { self.line_checker.tally.lines < 2 ^ 64 - 1 }
+        ensures { IfOk result (λ verdict. (text : List ℕ) → StateInvariant self text → HasAuditVerdict text verdict) }
     {
-        let LineReader { mut judge, held } = self;
+        let LineReader {
+            mut line_checker,
+            held,
+        } = self;
         if held.is_empty() {
-            return Ok(judge.verdict());
+            return Ok(line_checker.verdict());
         }
-        if let Some(why) = judge.line(alloc, without_carriage_return(&held))? {
-            return Ok(judge.failure(why));
+        if let Some(why) = line_checker.line(alloc, without_carriage_return(&held))? {
+            return Ok(line_checker.failure(why));
         }
-        Ok(judge.verdict())
+        Ok(line_checker.verdict())
     }
 }
 
 /// The verdict on the text of a log, which is held whole.
-pub fn judge(alloc: Global, text: &[u8]) -> Result<Verdict, AllocError>
+pub fn line_checker(alloc: Global, text: &[u8]) -> Result<Verdict, AllocError>
     ensures { IfOk result (IsVerdictOn text.now) }
 {
     let mut reader = LineReader::new(alloc);

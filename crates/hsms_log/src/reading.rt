@@ -4,13 +4,13 @@ ghost use Rattle.std.specs.Prelude.{◌≡◌, ◌≢◌, ◌↔◌, ◌<◌, �
 ghost use Rattle.hsms_frame.specs.Frame.{Frame as Message};
 ghost use Rattle.hsms_machine.specs.declared.entry.Event.{Event as Happening};
 ghost use Rattle.hsms_machine.specs.declared.entry.Entry.{Entry as LogEntry};
-ghost use Rattle.hsms_log.specs.Spelling.{Carries, IsBlank, SpellsEntry, SpellsEvent, IsEvent, IsMessage, IsHexOf, cause_word, message_octets, system_octets};
+ghost use Rattle.hsms_log.specs.LineFormat.{Carries, IsBlank, EncodesEntry, EncodesEvent, IsEvent, IsMessage, IsHexOf, cause_word, message_octets, system_octets};
 ghost use Rattle.hsms_machine.specs.declared.entry.Cause.{Cause as CutCause};
 ghost use Rattle.hsms_machine.specs.Entry.{frame_entry};
 ghost use Rattle.hsms_log.specs.Step.{entry_by, event_of};
-ghost use Rattle.hsms_log.specs.Carried.{carried_by, CarriesFrame, HasFrame, SpellsFramesAlone, SpellsNoFrame};
+ghost use Rattle.hsms_log.specs.LineContent.{carried_by, CarriesFrame, HasFrame, EncodesFramesOnly, EncodesNoFrame};
 ghost use Rattle.hsms_machine.specs.declared.entry.Mark.{Mark as FrameMark};
-ghost use Rattle.hsms_log.specs.FrameLine.{IsSpelled, mark_word};
+ghost use Rattle.hsms_log.specs.FrameLine.{IsEncoded, mark_word};
 
 use crate::digits::decode;
 use crate::fault::LineFault;
@@ -86,10 +86,10 @@ pub fn entry_of(step: Step, text: Vec<u8>) -> Entry
 /// Reads a line that carries a frame. `octets` holds the octets of its header and text then, in place of what it held.
 pub fn read_frame_line(line: &[u8], octets: &mut Vec<u8>) -> Result<Option<Step>, AllocError>
     ensures found { IfOk result (λ answer. IfSome answer (λ step.
-        SpellsEntry line.now (entry_by step (drop 10 octets.new.items)))) }
+        EncodesEntry line.now (entry_by step (drop 10 octets.new.items)))) }
     ensures size { IfOk result (λ answer. IfSome answer (λ step. 10 ≤ length octets.new.items)) }
-    ensures none { result ≡ Ok None → SpellsNoFrame line.now }
-    ensures memory { OnErr result (SpellsFramesAlone line.now) }
+    ensures none { result ≡ Ok None → EncodesNoFrame line.now }
+    ensures memory { OnErr result (EncodesFramesOnly line.now) }
 {
     let Some((frame, length)) = frame_at_front(line, octets)? else {
         return Ok(None);
@@ -118,11 +118,11 @@ pub fn frame_at_front(
     line: &[u8],
     octets: &mut Vec<u8>,
 ) -> Result<Option<(FrameLine, usize)>, AllocError>
-    ensures found { IfOk result (λ answer. IfSome answer (λ x. SpellsEntry line.now
+    ensures found { IfOk result (λ answer. IfSome answer (λ x. EncodesEntry line.now
         (frame_entry x.0.time x.0.mark x.0.header (drop 10 (take x.1 octets.new.items))))) }
     ensures size { IfOk result (λ answer. IfSome answer (λ x. (10 ≤ x.1) × (x.1 ≤ vec_len octets.new))) }
-    ensures none { result ≡ Ok None → SpellsNoFrame line.now }
-    ensures memory { OnErr result (SpellsFramesAlone line.now) }
+    ensures none { result ≡ Ok None → EncodesNoFrame line.now }
+    ensures memory { OnErr result (EncodesFramesOnly line.now) }
 {
     if line.len() < SHORTEST {
         return Ok(None);
@@ -156,7 +156,7 @@ fn mark_at(text: &[u8]) -> Option<(Mark, &[u8])>
 /// they spell no message. `octets` begins with these octets then, in place of what it held.
 #[inline(always)]
 fn read_octets(digits: &[u8], octets: &mut Vec<u8>) -> Result<Option<(Header, usize)>, AllocError>
-    ensures found { IfOk result (λ answer. IfSome answer (λ x. IsSpelled digits.now x.0 (drop 10 (take x.1 octets.new.items)))) }
+    ensures found { IfOk result (λ answer. IfSome answer (λ x. IsEncoded digits.now x.0 (drop 10 (take x.1 octets.new.items)))) }
     ensures size { IfOk result (λ answer. IfSome answer (λ x. (10 ≤ x.1) × (x.1 ≤ vec_len octets.new))) }
     ensures none { result ≡ Ok None → (frame : Message) → IsHexOf digits.now (message_octets frame) → ⊥ }
 {
@@ -184,7 +184,7 @@ fn decode_front(digits: &[u8], octets: &mut [u8]) -> bool
     requires some { 16 ≤ length digits.now }
     requires room { length digits.now / 2 ≤ length octets.old }
     ensures digits { result ≡ true → IsHexOf digits.now (take (length digits.now / 2) octets.new) }
-    ensures other { result ≡ false → (spelled : List ℕ) → IsHexOf digits.now spelled → ⊥ }
+    ensures other { result ≡ false → (encoded_bytes : List ℕ) → IsHexOf digits.now encoded_bytes → ⊥ }
     ensures len { length octets.new ≡ length octets.old }
 {
     decode(digits, &mut octets[..digits.len() / 2])
@@ -203,8 +203,8 @@ fn lengthen(octets: &mut Vec<u8>, length: usize) -> Result<(), AllocError>
 
 /// Reads a line that carries an entry without a frame.
 pub fn read_plain_line(line: &[u8]) -> Option<Step>
-    ensures found { IfSome result (λ step. SpellsEntry line.now (entry_by step [])) }
-    ensures none { IfNone result (SpellsFramesAlone line.now) }
+    ensures found { IfSome result (λ step. EncodesEntry line.now (entry_by step [])) }
+    ensures none { IfNone result (EncodesFramesOnly line.now) }
 {
     let (time, text) = number_at(line)?;
     let what = read_plain_event(text)?;
@@ -213,8 +213,8 @@ pub fn read_plain_line(line: &[u8]) -> Option<Step>
 
 /// Reads an event that is no frame.
 fn read_plain_event(text: &[u8]) -> Option<What>
-    ensures found { IfSome result (λ what. IsEvent (event_of what []) × SpellsEvent text.now (event_of what [])) }
-    ensures none { IfNone result ((event : Happening) → IsEvent event → SpellsEvent text.now event → HasFrame event) }
+    ensures found { IfSome result (λ what. IsEvent (event_of what []) × EncodesEvent text.now (event_of what [])) }
+    ensures none { IfNone result ((event : Happening) → IsEvent event → EncodesEvent text.now event → HasFrame event) }
 {
     match text {
         [b't', b'3', b' ', digits @ ..] => Some(What::T3(read_system(digits)?)),
@@ -226,7 +226,7 @@ fn read_plain_event(text: &[u8]) -> Option<What>
 /// Reads the word of an event that has no other.
 #[inline(always)]
 fn read_word(text: &[u8]) -> Option<What>
-    ensures found { IfSome result (λ what. IsEvent (event_of what []) × SpellsEvent text.now (event_of what [])) }
+    ensures found { IfSome result (λ what. IsEvent (event_of what []) × EncodesEvent text.now (event_of what [])) }
     ensures none { IfNone result ((text.now ≢ codes "up") × (text.now ≢ codes "down")) }
 {
     match text {

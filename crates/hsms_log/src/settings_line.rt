@@ -2,9 +2,9 @@
 
 ghost use Rattle.std.specs.Prelude.{◌≡◌, ◌≤◌, ◌↔◌, ℕ, Option, Some, None, IsSome, IfSome, IfNone, option_map};
 ghost use Rattle.hsms_machine.specs.Settings.{Parameters, IsWithinLimits};
-ghost use Rattle.hsms_log.specs.Spelling.{SpellsSettings};
+ghost use Rattle.hsms_log.specs.LineFormat.{EncodesSettings};
 ghost use Rattle.hsms_log.specs.Reading.{role_of, link_of, version_at as version_and_rest, end_at as end_and_rest, times_at as times_and_rest, limits_of as limits_in, u32_at as u32_and_rest, settings_at};
-ghost use Rattle.hsms_log.specs.Fields.{IsOf};
+ghost use Rattle.hsms_log.specs.SettingsFields.{IsOf};
 
 use crate::number::{after_prefix, number, number_at, word_at};
 use hsms_machine::{Role, Settings, Side};
@@ -12,8 +12,8 @@ use hsms_machine::{Role, Settings, Side};
 /// The settings that the first line of a log spells, or None where it spells none: other words, a version other than 1
 /// and 2, a number out of its limits, or more than 256 octets. The line is given without its end.
 pub fn read_settings(line: &[u8]) -> Option<Settings>
-    ensures found { IfSome result (SpellsSettings line.now) }
-    ensures none { IfNone result ((settings : Parameters) → SpellsSettings line.now settings → ⊥) }
+    ensures found { IfSome result (EncodesSettings line.now) }
+    ensures none { IfNone result ((settings : Parameters) → EncodesSettings line.now settings → ⊥) }
 {
     let (version, settings) = version_and_settings(line)?;
     of_version(version, settings?)

@@ -25,7 +25,7 @@ impl Tally {
     ghost use Rattle.std.specs.Prelude.{◌≡◌, ◌+◌, ◌-◌, ◌<◌, ◌^◌, ℕ, List};
     ghost use Rattle.hsms_frame.specs.declared.header.Header.{Header};
     ghost use Rattle.hsms_machine.specs.Entry.{frame_entry};
-    ghost use Rattle.hsms_log.specs.Judging.{counted};
+    ghost use Rattle.hsms_log.specs.AuditState.{counted};
 
     /// Counts a line that carries nothing that is counted.
     pub fn count_line(&mut self)

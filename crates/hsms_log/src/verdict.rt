@@ -29,28 +29,28 @@ impl Summary {
         &self,
         text: &mut String,
         before: &str,
-        behind: &str,
+        subsequent: &str,
     ) -> Result<(), AllocError>
-        ensures { OnOk result (string_bytes text.new ≡ string_bytes text.old ++ counts_text before.now behind.now self.now) }
+        ensures { OnOk result (string_bytes text.new ≡ string_bytes text.old ++ counts_text before.now subsequent.now self.now) }
     {
-        Self::push_count(text, before, "entries", behind, self.entries)?;
-        Self::push_count(text, before, "sent", behind, self.sent)?;
-        Self::push_count(text, before, "taken", behind, self.taken)?;
-        Self::push_count(text, before, "discarded", behind, self.discarded)?;
-        Self::push_count(text, before, "expired", behind, self.expired)?;
-        Self::push_count(text, before, "waiting", behind, self.waiting)
+        Self::push_count(text, before, "entries", subsequent, self.entries)?;
+        Self::push_count(text, before, "sent", subsequent, self.sent)?;
+        Self::push_count(text, before, "taken", subsequent, self.taken)?;
+        Self::push_count(text, before, "discarded", subsequent, self.discarded)?;
+        Self::push_count(text, before, "expired", subsequent, self.expired)?;
+        Self::push_count(text, before, "waiting", subsequent, self.waiting)
     }
 
     fn push_count(
         text: &mut String,
         before: &str,
         name: &str,
-        behind: &str,
+        subsequent: &str,
         count: u64,
     ) -> Result<(), AllocError>
-        ensures { OnOk result (string_bytes text.new ≡ string_bytes text.old ++ count_text before.now name.now behind.now count) }
+        ensures { OnOk result (string_bytes text.new ≡ string_bytes text.old ++ count_text before.now name.now subsequent.now count) }
     {
-        write!(text, "{before}{name}{behind}{count}")
+        write!(text, "{before}{name}{subsequent}{count}")
     }
 }
 

@@ -3,13 +3,13 @@
 ghost use Rattle.std.specs.Prelude.{◌≡◌, ◌<◌, ◌++◌, [], ◌∷◌, length, decimal};
 ghost use Rattle.std.specs.List.{flat_map};
 ghost use Rattle.hex.specs.Hex.{encode_lower};
-ghost use Rattle.hsms_frame.specs.Count.{count_failure};
+ghost use Rattle.hsms_frame.specs.CallCounts.{count_failure};
 ghost use Rattle.hsms_log.specs.Writing.{Puts, Writes, words_of, opening_of, numbers_of, spaced};
-ghost use Rattle.hsms_log.specs.Spelling.{SpellsSettings, SpellsEntry, entry_line, settings_line, event_text, message_octets, cause_word as cause_word_of};
+ghost use Rattle.hsms_log.specs.LineFormat.{EncodesSettings, EncodesEntry, entry_line, settings_line, event_text, message_octets, cause_word as cause_word_of};
 
 use crate::fault::LogFault;
 use crate::hexadecimal::{digits_of_few, digits_of_sixteen};
-use crate::range::{entry_is_in_range, settings_are_in_range};
+use crate::ranges::{entry_is_in_range, settings_are_in_range};
 use hsms_frame::{Frame, Sink, give_all};
 use hsms_machine::{Cause, Entry, Event, Role, Settings, Side};
 use itoa::Buffer;
@@ -18,7 +18,7 @@ use itoa::Buffer;
 pub fn write_entry<W: Sink>(sink: &mut W, entry: &Entry) -> Result<(), LogFault>
     ensures written { Puts result (W.state sink.old).written (W.state sink.new).written
         (entry_line entry.now ++ 10 ∷ []) }
-    ensures spelled { SpellsEntry (entry_line entry.now) entry.now }
+    ensures encoded_bytes { EncodesEntry (entry_line entry.now) entry.now }
     ensures failures { (W.state sink.new).failures ≡ count_failure result (W.state sink.old).failures }
 {
     entry_is_in_range(entry);
@@ -105,7 +105,7 @@ fn put<W: Sink>(sink: &mut W, octets: &[u8]) -> Result<(), LogFault>
 pub fn write_settings<W: Sink>(sink: &mut W, settings: &Settings) -> Result<(), LogFault>
     ensures written { Puts result (W.state sink.old).written (W.state sink.new).written
         (settings_line settings.now ++ 10 ∷ []) }
-    ensures spelled { SpellsSettings (settings_line settings.now) settings.now }
+    ensures encoded_bytes { EncodesSettings (settings_line settings.now) settings.now }
     ensures failures { (W.state sink.new).failures ≡ count_failure result (W.state sink.old).failures }
 {
     settings_are_in_range(settings);

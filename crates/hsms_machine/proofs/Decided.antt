@@ -2,7 +2,7 @@
 use Rattle.std.proofs.Common.{◌≡◌, ℕ, ◌-◌, ◌<◌, Bool, true, false, ◌&&◌, List, [], ◌∷◌, ◌++◌, length, Option, Some, None, IsTrue, ◌⊎◌, inl, inr, refl, arith, nat_lt, nat_le, ◌==◌}
 use Rattle.std.specs.List.{list_any}
 use Rattle.std.proofs.lemmas.Bool.{cases_lt, cases_order}
-use Rattle.secs_item.specs.Spelling.{IsOctets, IsText}
+use Rattle.secs_item.specs.Encoding.{IsOctets, IsText}
 use Rattle.secs_item.specs.Laws.{SomeTextAnswer, NotBothOfText}
 use Rattle.hsms_frame.specs.Header.{kind_of}
 use Rattle.hsms_frame.specs.Frame.{Frame}
@@ -18,9 +18,9 @@ use Rattle.hsms_machine.specs.declared.phase.Phase.TheVariants.{Before, Selected
 use Rattle.hsms_machine.specs.declared.view.View.{View}
 use Rattle.hsms_machine.specs.declared.rule.Rule.{Rule}
 use Rattle.hsms_machine.specs.declared.rule.Rule.TheVariants.{Backwards, NotUp, Ended, T3Overdue, LinkOverdue, NotDue, TooLong, PType, SType, ControlText, Session, Direction, NotSelected, WBit, Text, SystemInUse, NoTransaction, SelectStatus, NoCause}
-use Rattle.hsms_machine.specs.declared.open.Transaction.{Transaction}
-use Rattle.hsms_machine.specs.declared.flow.Flow.{Flow}
-use Rattle.hsms_machine.specs.declared.flow.Flow.TheVariants.{Outgoing, Incoming}
+use Rattle.hsms_machine.specs.declared.open_transactions.Transaction.{Transaction}
+use Rattle.hsms_machine.specs.declared.direction.Flow.{Flow}
+use Rattle.hsms_machine.specs.declared.direction.Flow.TheVariants.{Outgoing, Incoming}
 use Rattle.hsms_machine.specs.Settings.{Parameters}
 use Rattle.hsms_machine.specs.Entry.{is_up, is_down, is_t3}
 use Rattle.hsms_machine.specs.Message.{is_data, is_control, is_response, is_request, establishes, has_right_session, has_right_direction, has_right_wait}
@@ -29,11 +29,11 @@ use Rattle.hsms_machine.specs.Session.{Facts, facts_before, selects, ends_sessio
 use Rattle.hsms_machine.specs.Timer.{IsTimed, IsT3Overdue, IsT6Overdue, IsT7Overdue, IsCutNotDue, IsNotDue}
 use Rattle.hsms_machine.specs.Rule.{IsNotUp, needs_session, is_expiry, SomeOpenOf, opposite, FrameBreaks, IsNoCause, EventBreaks, Breaks, IsFirst, all_rules, format_rules, transaction_rules}
 use Rattle.hsms_machine.specs.Run.{Broken}
-use Rattle.hsms_machine.specs.Step.{facts_of, is_connected, pool_of}
+use Rattle.hsms_machine.specs.ViewRules.{facts_of, is_connected, pool_of}
 use Rattle.hsms_machine.specs.Laws.{HasOctets, EachEntryHasAnAnswer}
 use Rattle.hsms_machine.proofs.Steps.{no_cause_iff}
 use Rattle.hsms_machine.proofs.ViewsOfRuns.{past_from, past_to}
-use Rattle.hsms_machine.proofs.Lawful.{before_cases, follows_cases, open_cases}
+use Rattle.hsms_machine.proofs.ValidEntries.{before_cases, follows_cases, open_cases}
 
 -- it holds, or it does not
 abbrev pub Decided : Type 0 → Type 0
@@ -57,8 +57,8 @@ module _ (P Q : Type 0) where
   ]
 
   -- decided alike, where each leads to the other
-  alike_decided : (P → Q) → (Q → P) → Decided P → Decided Q
-  alike_decided to from p = elim p [ inl x ↦ inl (to x) | inr n ↦ inr (λ y. n (from y)) ]
+  equivalent_decided : (P → Q) → (Q → P) → Decided P → Decided Q
+  equivalent_decided to from p = elim p [ inl x ↦ inl (to x) | inr n ↦ inr (λ y. n (from y)) ]
 
 not_decided : (P : Type 0) → Decided P → Decided (P → ⊥)
 not_decided P p = elim p [ inl x ↦ inr (λ n. n x) | inr n ↦ inl n ]
@@ -98,7 +98,7 @@ pub record Settled (F : Facts) : Type 0 where
 
 pub settled : (log : List Entry) → Settled (facts_before log (length log))
 settled log = record {
-  past = λ time. alike_decided _ _ (past_to log time) (past_from log time) (less_decided _ _);
+  past = λ time. equivalent_decided _ _ (past_to log time) (past_from log time) (less_decided _ _);
   entry = less_decided 0 (length log);
   up = before_cases log (length log) (omega arith) (λ entry. is_up entry.event);
   down = before_cases log (length log) (omega arith) (λ entry. is_down entry.event);
@@ -125,8 +125,8 @@ gone_decided : (phase : Phase) → Decided (phase ≡ Gone)
 gone_decided Gone = inl refl
 gone_decided phase = inr (λ e. cc)
 
-told : (view : View) → Settled (facts_of view)
-told view = record {
+named_rule : (view : View) → Settled (facts_of view)
+named_rule view = record {
   past = λ time. less_decided time view.last_time;
   entry = not_decided _ (before_decided view.phase);
   up = not_decided _ (before_decided view.phase);
@@ -217,7 +217,7 @@ module _ (F : Facts) (s : Settled F) (settings : Parameters) where
   cause_decided frame text =
       let first = first_decided (FrameBreaks F settings Incoming frame) (frame_decided Incoming frame text) (format_rules ++ transaction_rules) in
       let iff = no_cause_iff F settings frame first.0 first.1 in
-      both_decided _ _ (not_decided _ s.over) (alike_decided _ _ iff.0 iff.1 (none_decided first.0))
+      both_decided _ _ (not_decided _ s.over) (equivalent_decided _ _ iff.0 iff.1 (none_decided first.0))
 
   -- the texts of the event are items or not
   abbrev pub TextDecided : Event → Type 0
@@ -261,9 +261,9 @@ module _ (some : SomeTextAnswer) (not_both : NotBothOfText) where
       first_decided (Breaks F settings entry) (breaks_decided F s settings entry (texts_decided F s settings entry.event fits)) all_rules
 
   -- the view tells it too
-  pub told_answer : (view : View) (settings : Parameters) (entry : Entry) → HasOctets entry.event
+  pub returned_result : (view : View) (settings : Parameters) (entry : Entry) → HasOctets entry.event
       → (answer : Option Rule) × IsFirst (Breaks (facts_of view) settings entry) all_rules answer
-  told_answer view settings entry fits =
+  returned_result view settings entry fits =
       let F = facts_of view in
-      let s = told view in
+      let s = named_rule view in
       first_decided (Breaks F settings entry) (breaks_decided F s settings entry (texts_decided F s settings entry.event fits)) all_rules

@@ -9,30 +9,30 @@ use Rattle.hsms_machine.specs.declared.entry.Event.{Event}
 use Rattle.hsms_machine.specs.declared.entry.Event.TheVariants.{Up, Sent, Taken, Discarded, T3, Cut, Down}
 use Rattle.hsms_machine.specs.declared.rule.Rule.{Rule}
 use Rattle.hsms_machine.specs.declared.rule.Rule.TheVariants.{Backwards, NotUp, Ended, T3Overdue, NoCause}
-use Rattle.hsms_machine.specs.declared.open.Transaction.{Transaction}
+use Rattle.hsms_machine.specs.declared.open_transactions.Transaction.{Transaction}
 use Rattle.hsms_machine.specs.declared.view.View.{View}
 use Rattle.hsms_machine.specs.Entry.{is_up, connection_of}
 use Rattle.hsms_machine.specs.Message.{is_data_request, is_control_request}
-use Rattle.hsms_machine.specs.Ordered.{AreInOrder, AreUntil, first_of}
-use Rattle.hsms_machine.specs.Put.{ExpiryPutIsLawful}
+use Rattle.hsms_machine.specs.OpeningOrder.{AreInOrder, AreUntil, first_of}
+use Rattle.hsms_machine.specs.RepairLaws.{ExpiryPutIsValid}
 use Rattle.hsms_machine.specs.Repair.{First, change_by, entry_of_event, expired, expiry_of}
 use Rattle.hsms_machine.specs.Rule.{Breaks, IsFirst, IsNotUp, all_rules, format_rules, timer_rules, transaction_rules}
 use Rattle.hsms_machine.specs.Run.{Broken, IsRun}
 use Rattle.hsms_machine.specs.Session.{facts_before}
 use Rattle.hsms_machine.specs.Settings.{Parameters}
-use Rattle.hsms_machine.specs.Step.{IsUntil, is_closed_by, pool_after}
+use Rattle.hsms_machine.specs.ViewRules.{IsUntil, is_closed_by, pool_after}
 use Rattle.hsms_machine.specs.Transaction.{Pool, SentData, SentControl, TakenData, TakenControl, opened_as, opened_as_at, passes}
 use Rattle.hsms_machine.specs.View.{open_of, view_of}
-use Rattle.hsms_machine.proofs.Beside.{in_order-filter}
+use Rattle.hsms_machine.proofs.OtherEntries.{in_order-filter}
 use Rattle.hsms_machine.proofs.Connection.{on-before}
 use Rattle.hsms_machine.proofs.First.{applies, not_first}
-use Rattle.hsms_machine.proofs.Kept.{in_order-push}
+use Rattle.hsms_machine.proofs.KeptTransactions.{in_order-push}
 use Rattle.hsms_machine.proofs.Mapped.{any_first, overdue_falls}
 use Rattle.hsms_machine.proofs.Push.{view-push}
 use Rattle.hsms_machine.proofs.Runs.{run-front, run-next}
 use Rattle.hsms_machine.proofs.SameFacts.{never_from, none_never}
 use Rattle.hsms_machine.proofs.Timely.{new_until, until_after, until-filter, view_until-le}
-use Rattle.hsms_machine.proofs.ViewsOfRuns.{past_from, past_to, pool_told, told_pool}
+use Rattle.hsms_machine.proofs.ViewsOfRuns.{past_from, past_to, open_from_pool, pool_from_open}
 
 -- ---- the open primaries and requests of a run are in order of opening
 
@@ -43,8 +43,8 @@ module _ (P : List Entry → Type 0) (more : (log : List Entry) (entry : Entry) 
 
 not_before : (settings : Parameters) (log : List Entry) (entry : Entry) → Broken settings log entry None → (view_of settings log).last_time ≤ entry.time
 unfolding Broken
-not_before settings log entry lawful =
-    let never = never_from (Breaks (facts_before log (length log)) settings entry) all_rules lawful in
+not_before settings log entry is_valid =
+    let never = never_from (Breaks (facts_before log (length log)) settings entry) all_rules is_valid in
     elim (cases_lt entry.time (view_of settings log).last_time) [
       | inl before ↦ absurd (never.0 (past_to log entry.time before))
       | inr le ↦ le
@@ -104,20 +104,20 @@ run_timely settings log = from_front (IsTimelyRun settings) (timely_more setting
 -- ---- the expiry
 
 -- the rules behind the first two
-abbrev behind_up : List Rule
-behind_up = Ended ∷ (timer_rules ++ (format_rules ++ (transaction_rules ++ (NoCause ∷ []))))
+abbrev after_up : List Rule
+after_up = Ended ∷ (timer_rules ++ (format_rules ++ (transaction_rules ++ (NoCause ∷ []))))
 
 -- an expiry lacks its `up` no more than an entry before which it is due does
-not_lacking : (log : List Entry) (settings : Parameters) (event : Event) (system : ℕ) → 0 < length log
+not_missing : (log : List Entry) (settings : Parameters) (event : Event) (system : ℕ) → 0 < length log
     → ((facts_before log (length log)).FollowsDown → ⊥) → (IsNotUp (facts_before log (length log)) settings event → ⊥)
     → IsNotUp (facts_before log (length log)) settings (T3 system) → ⊥
-not_lacking log settings Up system some not_down up lacks = up (some, λ c. not_down c.1)
-not_lacking log settings (Sent frame) system some not_down up lacks = up lacks
-not_lacking log settings (Taken frame) system some not_down up lacks = up lacks
-not_lacking log settings (Discarded frame) system some not_down up lacks = up lacks
-not_lacking log settings (T3 other) system some not_down up lacks = up lacks
-not_lacking log settings (Cut cause) system some not_down up lacks = up lacks
-not_lacking log settings Down system some not_down up lacks = up lacks
+not_missing log settings Up system some not_down up lacks = up (some, λ c. not_down c.1)
+not_missing log settings (Sent frame) system some not_down up lacks = up lacks
+not_missing log settings (Taken frame) system some not_down up lacks = up lacks
+not_missing log settings (Discarded frame) system some not_down up lacks = up lacks
+not_missing log settings (T3 other) system some not_down up lacks = up lacks
+not_missing log settings (Cut cause) system some not_down up lacks = up lacks
+not_missing log settings Down system some not_down up lacks = up lacks
 
 late_by : (last moment time : ℕ) (b : Bool) → nat_lt last moment ≡ b → (last ≤ (if b then moment else last)) × (moment ≤ (if b then moment else last))
 late_by last moment time true is = let lt : last < moment = ltb-true last moment is in (omega arith, omega arith)
@@ -138,20 +138,20 @@ any_of_first test (x ∷ xs) opened e so =
     let here : test x ≡ true = ap test is ∙ so in
     rw here refl
 
-expiry_lawful : (settings : Parameters) (log : List Entry) (entry : Entry) (opened : Transaction) → IsRun settings log
+expiry_valid : (settings : Parameters) (log : List Entry) (entry : Entry) (opened : Transaction) → IsRun settings log
     → IsFirst (Breaks (facts_before log (length log)) settings entry) all_rules (Some T3Overdue) → first_of (open_of SentData log) ≡ Some opened
     → IsFirst (Breaks (facts_before log (length log)) settings (entry_of_event (expiry_of (view_of settings log) entry.time opened.time settings.t3) (T3 opened.header.system)))
     all_rules None
-expiry_lawful settings log entry opened run h first =
+expiry_valid settings log entry opened run h first =
     let F = facts_before log (length log) in
     let view = view_of settings log in
-    let not_up = (not_first (Breaks F settings entry) NotUp behind_up T3Overdue (λ e. cc) (not_first (Breaks F settings entry) Backwards (NotUp ∷ behind_up) T3Overdue (λ e. cc) h).1).0 in
+    let not_up = (not_first (Breaks F settings entry) NotUp after_up T3Overdue (λ e. cc) (not_first (Breaks F settings entry) Backwards (NotUp ∷ after_up) T3Overdue (λ e. cc) h).1).0 in
     let overdue = applies (Breaks F settings entry) all_rules T3Overdue h in
     let timed = overdue.1.0 in
     let some_late = overdue.1.1 in
     let some : 0 < length log = (let lt = on-before log some_late.0 (length log) some_late.1.earlier in omega (arith, lt)) in
     let late_test : ℕ → Bool = λ time. nat_lt settings.t3 (entry.time - time) in
-    let any_late = told_pool SentData log (λ other. late_test other.time) some_late in
+    let any_late = pool_from_open SentData log (λ other. late_test other.time) some_late in
     let oldest : passes (λ other. late_test other.time) (first_of (open_of SentData log)) ≡ true =
     sym (any_first late_test (overdue_falls entry.time settings.t3) (open_of SentData log) (run_timely settings log run).ordered) ∙ any_late in
     let late : nat_lt settings.t3 (entry.time - opened.time) ≡ true = sym (ap (passes (λ other. late_test other.time)) first) ∙ oldest in
@@ -160,10 +160,10 @@ expiry_lawful settings log entry opened run h first =
     let system = opened.header.system in
     let here : ((opened.header.system == system) && nat_le settings.t3 (time - opened.time)) ≡ true =
     rw (eq-eqb opened.header.system system refl) (le-leb settings.t3 (time - opened.time) due.1) in
-    let found = pool_told SentData log (λ other. (other.header.system == system) && nat_le settings.t3 (time - other.time))
+    let found = open_from_pool SentData log (λ other. (other.header.system == system) && nat_le settings.t3 (time - other.time))
     (any_of_first (λ other. (other.header.system == system) && nat_le settings.t3 (time - other.time)) (open_of SentData log) opened first here) in
     none_never (Breaks F settings (entry_of_event time (T3 system))) all_rules
-    ((λ past. let lt = past_from log time past in absurd (omega (arith, lt, due.0))), ((not_lacking log settings entry.event system some timed.1 not_up), ((λ ended. timed.0 ended.1), ((λ other. other.0 refl), ((λ other. other.0 refl), ((λ early. early found), ((λ never. never), ((λ never. never), ((λ never. never), ((λ never. never), ((λ never. never), ((λ never. never), ((λ never. never), ((λ never. never), ((λ never. never), ((λ never. never), ((λ never. never), ((λ never. never), ((λ never. never), tt)))))))))))))))))))
+    ((λ past. let lt = past_from log time past in absurd (omega (arith, lt, due.0))), ((not_missing log settings entry.event system some timed.1 not_up), ((λ ended. timed.0 ended.1), ((λ other. other.0 refl), ((λ other. other.0 refl), ((λ early. early found), ((λ never. never), ((λ never. never), ((λ never. never), ((λ never. never), ((λ never. never), ((λ never. never), ((λ never. never), ((λ never. never), ((λ never. never), ((λ never. never), ((λ never. never), ((λ never. never), ((λ never. never), tt)))))))))))))))))))
 
 put_by : (settings : Parameters) (log : List Entry) (entry first : Entry) (oldest : Option Transaction) → IsRun settings log
     → IsFirst (Breaks (facts_before log (length log)) settings entry) all_rules (Some T3Overdue) → first_of (open_of SentData log) ≡ oldest
@@ -173,8 +173,8 @@ put_by settings log entry first None run h is put = absurd cc
 put_by settings log entry first (Some opened) run h is put =
     let same : entry_of_event (expiry_of (view_of settings log) entry.time opened.time settings.t3) (T3 opened.header.system) ≡ first = cc in
     let P : Entry → Type 0 = λ e. IsFirst (Breaks (facts_before log (length log)) settings e) all_rules None in
-    subst P same (expiry_lawful settings log entry opened run h is)
+    subst P same (expiry_valid settings log entry opened run h is)
 
-pub expiry_put : ExpiryPutIsLawful
+pub expiry_put : ExpiryPutIsValid
 unfolding Broken
 expiry_put settings log entry first run h put = put_by settings log entry first (first_of (open_of SentData log)) run h refl put

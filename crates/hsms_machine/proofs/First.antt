@@ -71,11 +71,11 @@ module _ (Applies : Rule → Type 0) where
   ]
 
 -- rules that apply alike have the same first one
-pub first_alike : (P Q : Rule → Type 0) (xs : List Rule) (a : Option Rule) → ((r : Rule) → P r → Q r) → ((r : Rule) → Q r → P r) → IsFirst P xs a → IsFirst Q xs a
-first_alike P Q [] a to from h = h
-first_alike P Q (x ∷ xs) a to from h = elim h [
+pub first_agrees : (P Q : Rule → Type 0) (xs : List Rule) (a : Option Rule) → ((r : Rule) → P r → Q r) → ((r : Rule) → Q r → P r) → IsFirst P xs a → IsFirst Q xs a
+first_agrees P Q [] a to from h = h
+first_agrees P Q (x ∷ xs) a to from h = elim h [
   | inl p ↦ inl (to x p.0, p.1)
-  | inr q ↦ inr ((λ y. q.0 (from x y)), first_alike P Q xs a to from q.1)
+  | inr q ↦ inr ((λ y. q.0 (from x y)), first_agrees P Q xs a to from q.1)
 ]
 
 -- there is one first rule at most

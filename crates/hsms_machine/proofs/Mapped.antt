@@ -8,13 +8,13 @@ use Rattle.std.specs.Map.{values_of, lookup}
 use Rattle.std.proofs.lemmas.Bool.{cases_Bool, and_parts, or_cases, eqb-true, eq-eqb, ltb-true, ltb-false, lt-ltb, le-ltb, leb-true, le-leb}
 use Rattle.hsms_frame.specs.Header.{kind_of}
 use Rattle.hsms_frame.specs.declared.header.Header.{Header}
-use Rattle.hsms_machine.specs.declared.open.Transaction.{Transaction}
+use Rattle.hsms_machine.specs.declared.open_transactions.Transaction.{Transaction}
 use Rattle.hsms_frame.specs.declared.kinds.Kind.{Kind}
 use Rattle.hsms_frame.specs.declared.kinds.Kind.TheVariants.{Primary, Reply, SelectReq, SelectRsp, LinktestReq, LinktestRsp, Reject}
 use Rattle.hsms_machine.specs.Message.{is_reject_kind, is_response_kind, may_conclude}
 use Rattle.hsms_machine.specs.Transaction.{passes, answers, answers_kind, rejects, concludes}
 use Rattle.hsms_machine.specs.Timer.{due_at, due_times, least_of, least_in}
-use Rattle.hsms_machine.specs.Ordered.{IsOrdered, AreKeyed, AreSince, AreUntil, AreInOrder, AreApart, uses, first_of}
+use Rattle.hsms_machine.specs.OpeningOrder.{IsOrdered, AreKeyed, AreSince, AreUntil, AreInOrder, AreApart, uses, first_of}
 
 -- the parts of an `||` that is false
 pub or_parts : (a b : Bool) → (a || b) ≡ false → (a ≡ false) × (b ≡ false)

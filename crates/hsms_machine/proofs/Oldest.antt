@@ -6,16 +6,16 @@ use Rattle.hsms_frame.specs.declared.header.Header.{Header}
 use Rattle.hsms_machine.specs.declared.entry.Entry.{Entry}
 use Rattle.hsms_machine.specs.declared.entry.Event.{Event}
 use Rattle.hsms_machine.specs.declared.entry.Event.TheVariants.{Sent}
-use Rattle.hsms_machine.specs.declared.open.Transaction.{Transaction}
+use Rattle.hsms_machine.specs.declared.open_transactions.Transaction.{Transaction}
 use Rattle.hsms_machine.specs.declared.view.View.{View}
 use Rattle.hsms_machine.specs.Entry.{entry_at}
 use Rattle.hsms_machine.specs.Message.{is_data_request}
 use Rattle.hsms_machine.specs.Transaction.{SentData, IsOpen, opened_by, opened_as_at, passes}
 use Rattle.hsms_machine.specs.View.{open_of}
-use Rattle.hsms_machine.specs.Ordered.{AreInOrder, first_of}
-use Rattle.hsms_machine.specs.Placed.{SameEvents, is_sent_primary, IsPlaceOfOldest, NoPrimaryIsOpen}
+use Rattle.hsms_machine.specs.OpeningOrder.{AreInOrder, first_of}
+use Rattle.hsms_machine.specs.OpeningLines.{SameEvents, is_sent_primary, IsPlaceOfOldest, NoPrimaryIsOpen}
 use Rattle.hsms_machine.proofs.Mapped.{any_first}
-use Rattle.hsms_machine.proofs.ViewsOfRuns.{told_pool, pool_told}
+use Rattle.hsms_machine.proofs.ViewsOfRuns.{pool_from_open, open_from_pool}
 use Rattle.hsms_machine.proofs.Placed.{same-at, same-sym, open-same, TimeIs, time-opened, pool_seen}
 
 -- ---- one entry
@@ -66,14 +66,14 @@ primary_passes : (test : ℕ → Bool) (log placed : List Entry) → SameEvents 
 primary_passes test log placed s j unclosed is passed =
     let entry = entry_at placed j in
     let some = primary_opens entry.time entry.event ∙ ap is_sent_primary (sym (same-at log placed s j)) ∙ is in
-    told_pool SentData placed (λ opened. test opened.time)
+    pool_from_open SentData placed (λ opened. test opened.time)
     (j, open-same log placed s j unclosed, timed test entry.time (opened_as_at SentData entry.time entry.event) (time-opened SentData entry.time entry.event) some ∙ passed)
 
-pub oldest_told : (view places : View) → view ≡ places → (opened : Transaction) → first_of view.sent_data ≡ Some opened → AreInOrder view.sent_data → IsPlaceOfOldest places opened.time
-oldest_told view places is opened first in_order = λ log placed has.
+pub oldest_found : (view places : View) → view ≡ places → (opened : Transaction) → first_of view.sent_data ≡ Some opened → AreInOrder view.sent_data → IsPlaceOfOldest places opened.time
+oldest_found view places is opened first in_order = λ log placed has.
     let seen = pool_seen SentData view places log placed is has in
     let place = opened.time in
-    let some = pool_told SentData placed (λ other. other.time == place) (subst (λ xs. list_any (λ other. other.time == place) xs ≡ true) seen (first_any view.sent_data opened first)) in
+    let some = open_from_pool SentData placed (λ other. other.time == place) (subst (λ xs. list_any (λ other. other.time == place) xs ≡ true) seen (first_any view.sent_data opened first)) in
     let entry = entry_at placed some.0 in
     let here = some_of (λ other. other.time == place) (opened_as_at SentData entry.time entry.event) some.2 in
     let at_time = sym (timed (λ time. time == place) entry.time (opened_as_at SentData entry.time entry.event) (time-opened SentData entry.time entry.event) here) ∙ some.2 in

@@ -5,10 +5,10 @@ use Rattle.hsms_machine.specs.declared.entry.Act.TheVariants.{Up as ActUp, Sent 
 use Rattle.hsms_machine.specs.declared.rule.Rule.{Rule}
 use Rattle.hsms_machine.specs.declared.view.View.{View}
 use Rattle.hsms_machine.specs.Settings.{Parameters}
-use Rattle.hsms_machine.specs.Act.{entry_of}
+use Rattle.hsms_machine.specs.EventParts.{entry_of}
 use Rattle.hsms_machine.specs.Session.{Facts}
 use Rattle.hsms_machine.specs.Rule.{Breaks, IsFirst, all_rules, order_rules, timer_rules}
-use Rattle.hsms_machine.specs.Step.{facts_of, view_after, IsBrokenAt, IsFresh}
+use Rattle.hsms_machine.specs.ViewRules.{facts_of, view_after, IsBrokenAt, IsFresh}
 use Rattle.hsms_machine.proofs.SameFacts.{never_from}
 
 module _ (facts : Facts) (settings : Parameters) (time : ℕ) where

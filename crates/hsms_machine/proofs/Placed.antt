@@ -5,7 +5,7 @@ use Rattle.hsms_frame.specs.declared.header.Header.{Header}
 use Rattle.hsms_machine.specs.declared.entry.Entry.{Entry}
 use Rattle.hsms_machine.specs.declared.entry.Event.{Event}
 use Rattle.hsms_machine.specs.declared.entry.Event.TheVariants.{Sent, Taken, T3}
-use Rattle.hsms_machine.specs.declared.open.Transaction.{Transaction}
+use Rattle.hsms_machine.specs.declared.open_transactions.Transaction.{Transaction}
 use Rattle.hsms_machine.specs.declared.view.View.{View}
 use Rattle.hsms_machine.specs.Settings.{Parameters}
 use Rattle.hsms_machine.specs.Entry.{entry_at, is_up}
@@ -13,21 +13,21 @@ use Rattle.hsms_machine.specs.Message.{is_data_request, is_control_request, is_r
 use Rattle.hsms_machine.specs.Transaction.{concludes, Pool, SentData, SentControl, TakenData, TakenControl, opens, closes, opened_by, opened_as_at, IsOpen, passes, SomeOpen}
 use Rattle.hsms_machine.specs.declared.entry.Act.{Act}
 use Rattle.hsms_machine.specs.declared.entry.Act.TheVariants.{Sent as ActSent, Taken as ActTaken}
-use Rattle.hsms_machine.specs.Act.{event_of, entry_of, frame_of}
+use Rattle.hsms_machine.specs.EventParts.{event_of, entry_of, frame_of}
 use Rattle.hsms_machine.specs.Session.{facts_before}
 use Rattle.hsms_machine.specs.Rule.{Breaks, IsFirst, all_rules}
 use Rattle.hsms_machine.specs.Run.{Broken}
-use Rattle.hsms_machine.specs.Step.{is_closed_by, view_after, pool_of}
+use Rattle.hsms_machine.specs.ViewRules.{is_closed_by, view_after, pool_of}
 use Rattle.hsms_machine.specs.View.{open_of, view_of}
-use Rattle.hsms_machine.specs.Ordered.{uses}
-use Rattle.hsms_machine.specs.Placed.{SameEvents, at_place, HasPlaces, ClosesOneOpenedAt, ClosesNothing, IsClosing, ClosesNone, ForEachPlaced, is_fresh}
+use Rattle.hsms_machine.specs.OpeningOrder.{uses}
+use Rattle.hsms_machine.specs.OpeningLines.{SameEvents, at_place, HasPlaces, ClosesOneOpenedAt, ClosesNothing, IsClosing, ClosesNone, ForEachPlaced, is_fresh}
 use Rattle.hsms_machine.proofs.SameFacts.{never_from}
 use Rattle.hsms_machine.proofs.Parts.{unused}
 use Rattle.hsms_machine.proofs.Push.{Agrees, agrees_by, view-push}
 use Rattle.hsms_machine.proofs.Connection.{on-before, on-no_up, on-where}
 use Rattle.std.proofs.lemmas.Bool.{and_parts, or_cases, eqb-true}
 use Rattle.hsms_machine.proofs.Mapped.{or_parts, find-some, found_any}
-use Rattle.hsms_machine.proofs.ViewsOfRuns.{told_pool, pool_told}
+use Rattle.hsms_machine.proofs.ViewsOfRuns.{pool_from_open, open_from_pool}
 
 pub same-at : (log placed : List Entry) → SameEvents log placed → (j : ℕ) → (entry_at log j).event ≡ (entry_at placed j).event
 same-at [] [] s j = refl
@@ -96,8 +96,8 @@ both false false f g = refl
 pub any-same : (test : Header → Bool) (pool : Pool) (log placed : List Entry) → SameEvents log placed → list_any (λ opened. test opened.header) (open_of pool log) ≡ list_any (λ opened. test opened.header) (open_of pool placed)
 any-same test pool log placed s =
     both (list_any (λ opened. test opened.header) (open_of pool log)) (list_any (λ opened. test opened.header) (open_of pool placed))
-    (λ e. told_pool pool placed (λ opened. test opened.header) (some-same test pool log placed s (pool_told pool log (λ opened. test opened.header) e)))
-    (λ e. told_pool pool log (λ opened. test opened.header) (some-same test pool placed log (same-sym log placed s) (pool_told pool placed (λ opened. test opened.header) e)))
+    (λ e. pool_from_open pool placed (λ opened. test opened.header) (some-same test pool log placed s (open_from_pool pool log (λ opened. test opened.header) e)))
+    (λ e. pool_from_open pool log (λ opened. test opened.header) (some-same test pool placed log (same-sym log placed s) (open_from_pool pool placed (λ opened. test opened.header) e)))
 
 pub uses-same : (system : ℕ) (pool : Pool) (log placed : List Entry) → SameEvents log placed → uses system (open_of pool log) ≡ uses system (open_of pool placed)
 uses-same system pool log placed s = any-same (λ header. header.system == system) pool log placed s
@@ -127,7 +127,7 @@ closes_parts pool opening event time place (Some opened) agrees is e =
 
 pub closing : (pool : Pool) (log placed : List Entry) (event : Event) (place : ℕ) → SameEvents log placed → list_any (λ opened. is_closed_by pool event opened && (opened.time == place)) (open_of pool placed) ≡ true → IsClosing log placed event place
 closing pool log placed event place s e =
-    let some = pool_told pool placed (λ opened. is_closed_by pool event opened && (opened.time == place)) e in
+    let some = open_from_pool pool placed (λ opened. is_closed_by pool event opened && (opened.time == place)) e in
     let entry = entry_at placed some.0 in
     let parts = closes_parts pool entry.event event entry.time place (opened_as_at pool entry.time entry.event) (agrees_by pool entry.time entry.event event) (time-opened pool entry.time entry.event) some.2 in (
       some.0,
@@ -164,7 +164,7 @@ closing_none log placed event s none = λ j unclosed c.
     let here = open-same log placed s j unclosed in
     let entry = entry_at placed j in
     let found = closed_in entry.time entry.event event here.opened (ap (λ (opening : Event). closes opening event) (sym (same-at log placed s j)) ∙ c) in
-    let any = told_pool found.0 placed (is_closed_by found.0 event) (j, here, found.1) in
+    let any = pool_from_open found.0 placed (is_closed_by found.0 event) (j, here, found.1) in
     let d : true ≡ false = sym any ∙ none found.0 in
     cc
 
@@ -183,7 +183,7 @@ fresh_bools true one other h =
 fresh_in : (log placed : List Entry) → SameEvents log placed → (pool : Pool) (system : ℕ) → (SomeOpen log (length log) pool (λ opened. opened.header.system == system) → ⊥) → uses system (open_of pool placed) ≡ false
 fresh_in log placed s pool system none =
     sym (uses-same system pool log placed s)
-    ∙ unused (uses system (open_of pool log)) (λ e. none (pool_told pool log (λ opened. opened.header.system == system) e))
+    ∙ unused (uses system (open_of pool log)) (λ e. none (open_from_pool pool log (λ opened. opened.header.system == system) e))
 
 fresh_at_act : (settings : Parameters) (log placed : List Entry) (time : ℕ) (act : Act) (text : List ℕ) → SameEvents log placed → IsFirst (Breaks (facts_before log (length log)) settings (entry_of time act text)) all_rules None → is_fresh (view_of settings placed) act ≡ true
 fresh_at_act settings log placed time (ActSent header) text s h =
@@ -237,8 +237,8 @@ pub pool_seen : (pool : Pool) (view places : View) (log placed : List Entry) →
 pool_seen pool view places log placed is has =
     ap (λ (w : View). pool_of w pool) (is ∙ sym has.seen) ∙ pool_is places.settings placed pool
 
-told_one : (pool : Pool) (event : Event) (view places : View) → view ≡ places → (place : ℕ) → list_any (λ opened. is_closed_by pool event opened && (opened.time == place)) (pool_of view pool) ≡ true → ForEachPlaced places (λ log placed. IsClosing log placed event place)
-told_one pool event view places is place e = λ log placed has.
+one_found : (pool : Pool) (event : Event) (view places : View) → view ≡ places → (place : ℕ) → list_any (λ opened. is_closed_by pool event opened && (opened.time == place)) (pool_of view pool) ≡ true → ForEachPlaced places (λ log placed. IsClosing log placed event place)
+one_found pool event view places is place e = λ log placed has.
     closing pool log placed event place has.same (subst (λ xs. list_any (λ opened. is_closed_by pool event opened && (opened.time == place)) xs ≡ true) (pool_seen pool view places log placed is has) e)
 
 abbrev ConcludedAt : List Transaction → List Transaction → Header → Option ℕ → Type 0
@@ -253,23 +253,23 @@ ConcludesNone one other message result =
 pub parted : (entry : Entry) (time : ℕ) (act matched : Act) (text : List ℕ) → entry_of time act text ≡ entry → act ≡ matched → entry.event ≡ event_of matched text
 parted entry time act matched text e is = sym (ap (λ (x : Entry). x.event) e) ∙ ap (λ (a : Act). event_of a text) is
 
-pub sent_told : (view places : View) → view ≡ places → (event : Event) (message : Header) (text : List ℕ) → event ≡ Sent (frame_of message text) → (result : Option ℕ) → ConcludedAt view.taken_data view.taken_control message result → IfSome result (ClosesOneOpenedAt places event)
-sent_told view places is event message text e None h = tt
-sent_told view places is event message text e (Some place) h =
-    let told : ForEachPlaced places (λ log placed. IsClosing log placed (Sent (frame_of message text)) place) = elim (or_cases (list_any (λ opened. concludes opened.header message && (opened.time == place)) view.taken_data) (list_any (λ opened. concludes opened.header message && (opened.time == place)) view.taken_control) h) [
-      | inl d ↦ told_one TakenData (Sent (frame_of message text)) view places is place d
-      | inr d ↦ told_one TakenControl (Sent (frame_of message text)) view places is place d
+pub sent_found : (view places : View) → view ≡ places → (event : Event) (message : Header) (text : List ℕ) → event ≡ Sent (frame_of message text) → (result : Option ℕ) → ConcludedAt view.taken_data view.taken_control message result → IfSome result (ClosesOneOpenedAt places event)
+sent_found view places is event message text e None h = tt
+sent_found view places is event message text e (Some place) h =
+    let named_rule : ForEachPlaced places (λ log placed. IsClosing log placed (Sent (frame_of message text)) place) = elim (or_cases (list_any (λ opened. concludes opened.header message && (opened.time == place)) view.taken_data) (list_any (λ opened. concludes opened.header message && (opened.time == place)) view.taken_control) h) [
+      | inl d ↦ one_found TakenData (Sent (frame_of message text)) view places is place d
+      | inr d ↦ one_found TakenControl (Sent (frame_of message text)) view places is place d
     ] in
-    subst (λ (v : Event). ForEachPlaced places (λ log placed. IsClosing log placed v place)) (sym e) told
+    subst (λ (v : Event). ForEachPlaced places (λ log placed. IsClosing log placed v place)) (sym e) named_rule
 
-pub taken_told : (view places : View) → view ≡ places → (event : Event) (message : Header) (text : List ℕ) → event ≡ Taken (frame_of message text) → (result : Option ℕ) → ConcludedAt view.sent_data view.sent_control message result → IfSome result (ClosesOneOpenedAt places event)
-taken_told view places is event message text e None h = tt
-taken_told view places is event message text e (Some place) h =
-    let told : ForEachPlaced places (λ log placed. IsClosing log placed (Taken (frame_of message text)) place) = elim (or_cases (list_any (λ opened. concludes opened.header message && (opened.time == place)) view.sent_data) (list_any (λ opened. concludes opened.header message && (opened.time == place)) view.sent_control) h) [
-      | inl d ↦ told_one SentData (Taken (frame_of message text)) view places is place d
-      | inr d ↦ told_one SentControl (Taken (frame_of message text)) view places is place d
+pub taken_found : (view places : View) → view ≡ places → (event : Event) (message : Header) (text : List ℕ) → event ≡ Taken (frame_of message text) → (result : Option ℕ) → ConcludedAt view.sent_data view.sent_control message result → IfSome result (ClosesOneOpenedAt places event)
+taken_found view places is event message text e None h = tt
+taken_found view places is event message text e (Some place) h =
+    let named_rule : ForEachPlaced places (λ log placed. IsClosing log placed (Taken (frame_of message text)) place) = elim (or_cases (list_any (λ opened. concludes opened.header message && (opened.time == place)) view.sent_data) (list_any (λ opened. concludes opened.header message && (opened.time == place)) view.sent_control) h) [
+      | inl d ↦ one_found SentData (Taken (frame_of message text)) view places is place d
+      | inr d ↦ one_found SentControl (Taken (frame_of message text)) view places is place d
     ] in
-    subst (λ (v : Event). ForEachPlaced places (λ log placed. IsClosing log placed v place)) (sym e) told
+    subst (λ (v : Event). ForEachPlaced places (λ log placed. IsClosing log placed v place)) (sym e) named_rule
 
 sent_pools : (message : Header) (text : List ℕ) (placed : List Entry) → list_any (λ opened. concludes opened.header message) (open_of TakenData placed) ≡ false → list_any (λ opened. concludes opened.header message) (open_of TakenControl placed) ≡ false → (pool : Pool) → list_any (is_closed_by pool (Sent (frame_of message text))) (open_of pool placed) ≡ false
 sent_pools message text placed one other SentData = none_of (open_of SentData placed)
@@ -310,10 +310,10 @@ taken_none view places is event message text e None h = λ log placed has.
     closing_none log placed (Taken (frame_of message text)) has.same (taken_pools message text placed (none_seen test SentData view places log placed is has parts.0) (none_seen test SentControl view places log placed is has parts.1)) in
     subst (λ (v : Event). ClosesNone log v) (sym e) none
 
-pub t3_told : (view places : View) → view ≡ places → (event : Event) (system : ℕ) → event ≡ T3 system → (opened : Transaction) → find (λ other. other.header.system == system) view.sent_data ≡ Some opened → ForEachPlaced places (λ log placed. IsClosing log placed event opened.time)
-t3_told view places is event system e opened found =
-    let told = told_one SentData (T3 system) view places is opened.time (found_any (λ other. other.header.system == system) opened view.sent_data found) in
-    subst (λ (v : Event). ForEachPlaced places (λ log placed. IsClosing log placed v opened.time)) (sym e) told
+pub t3_found : (view places : View) → view ≡ places → (event : Event) (system : ℕ) → event ≡ T3 system → (opened : Transaction) → find (λ other. other.header.system == system) view.sent_data ≡ Some opened → ForEachPlaced places (λ log placed. IsClosing log placed event opened.time)
+t3_found view places is event system e opened found =
+    let named_rule = one_found SentData (T3 system) view places is opened.time (found_any (λ other. other.header.system == system) opened view.sent_data found) in
+    subst (λ (v : Event). ForEachPlaced places (λ log placed. IsClosing log placed v opened.time)) (sym e) named_rule
 
 pub t3_none : (view places : View) → view ≡ places → (event : Event) (system : ℕ) → event ≡ T3 system → find (λ other. other.header.system == system) view.sent_data ≡ None → ForEachPlaced places (λ log placed. ClosesNone log event)
 t3_none view places is event system e found = λ log placed has.

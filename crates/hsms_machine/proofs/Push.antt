@@ -9,7 +9,7 @@ use Rattle.hsms_frame.specs.Frame.{Frame}
 use Rattle.hsms_machine.specs.declared.entry.Entry.{Entry}
 use Rattle.hsms_machine.specs.declared.entry.Event.{Event}
 use Rattle.hsms_machine.specs.declared.entry.Event.TheVariants.{Up, Sent, Taken, T3}
-use Rattle.hsms_machine.specs.declared.open.Transaction.{Transaction}
+use Rattle.hsms_machine.specs.declared.open_transactions.Transaction.{Transaction}
 use Rattle.hsms_machine.specs.declared.phase.Phase.{Phase}
 use Rattle.hsms_machine.specs.declared.phase.Phase.TheVariants.{NotSelected}
 use Rattle.hsms_machine.specs.Settings.{Parameters}
@@ -18,7 +18,7 @@ use Rattle.hsms_machine.specs.Message.{is_data_request, is_control_request}
 use Rattle.hsms_machine.specs.Transaction.{Pool, SentData, SentControl, TakenData, TakenControl, opens, closes, opened_as, opened_as_at}
 use Rattle.hsms_machine.specs.Session.{selects, ends_session}
 use Rattle.hsms_machine.specs.View.{open_entries, open_of, phase_by, phase_in, phase_of, up_time_of, view_of}
-use Rattle.hsms_machine.specs.Step.{phase_after, is_gone, is_over, is_selected, view_after, is_closed_by, pool_after}
+use Rattle.hsms_machine.specs.ViewRules.{phase_after, is_gone, is_over, is_selected, view_after, is_closed_by, pool_after}
 use Rattle.hsms_machine.proofs.Connection.{connection-push}
 use Rattle.hsms_machine.proofs.Steps.{control_not_data}
 

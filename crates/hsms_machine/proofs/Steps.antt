@@ -13,16 +13,16 @@ use Rattle.hsms_machine.specs.declared.entry.Act.{Act}
 use Rattle.hsms_machine.specs.declared.entry.Act.TheVariants.{Up as ActUp, Sent as ActSent, Taken as ActTaken, T3 as ActT3}
 use Rattle.hsms_machine.specs.declared.rule.Rule.{Rule}
 use Rattle.hsms_machine.specs.declared.rule.Rule.TheVariants.{TooLong, PType, SType, ControlText, Session, Direction, NotSelected, WBit, Text, SystemInUse, NoTransaction, SelectStatus, NoCause}
-use Rattle.hsms_machine.specs.declared.open.Transaction.{Transaction}
+use Rattle.hsms_machine.specs.declared.open_transactions.Transaction.{Transaction}
 use Rattle.hsms_machine.specs.Settings.{Parameters}
 use Rattle.hsms_machine.specs.Message.{is_data_request, is_control_request, opens_data, opens_control}
 use Rattle.hsms_machine.specs.Transaction.{Pool, SentData, SentControl, TakenData, TakenControl, opened_by, concludes}
 use Rattle.hsms_machine.specs.Session.{Facts}
 use Rattle.hsms_machine.specs.Rule.{Breaks, FrameBreaks, IsNoCause, IsFirst, format_rules, transaction_rules}
-use Rattle.hsms_machine.specs.Act.{entry_of}
-use Rattle.hsms_machine.specs.Step.{pool_after}
-use Rattle.hsms_machine.specs.declared.flow.Flow.{Flow}
-use Rattle.hsms_machine.specs.declared.flow.Flow.TheVariants.{Outgoing, Incoming}
+use Rattle.hsms_machine.specs.EventParts.{entry_of}
+use Rattle.hsms_machine.specs.ViewRules.{pool_after}
+use Rattle.hsms_machine.specs.declared.direction.Flow.{Flow}
+use Rattle.hsms_machine.specs.declared.direction.Flow.TheVariants.{Outgoing, Incoming}
 use Rattle.hsms_machine.specs.declared.view.View.{View}
 use Rattle.hsms_machine.proofs.First.{first_extend, none_head, first_none}
 

@@ -4,7 +4,7 @@ use Rattle.hsms_frame.specs.declared.header.Header.{Header}
 use Rattle.hsms_machine.specs.declared.entry.Entry.{Entry}
 use Rattle.hsms_machine.specs.declared.entry.Event.{Event}
 use Rattle.hsms_machine.specs.declared.entry.Event.TheVariants.{Sent, Taken}
-use Rattle.hsms_machine.specs.declared.open.Transaction.{Transaction}
+use Rattle.hsms_machine.specs.declared.open_transactions.Transaction.{Transaction}
 use Rattle.hsms_machine.specs.declared.view.View.{View}
 use Rattle.hsms_machine.specs.Message.{is_data_request, is_control_request}
 use Rattle.hsms_machine.specs.Transaction.{Pool, SentData, SentControl, TakenData, TakenControl, opened_as, opened_as_at}
@@ -12,13 +12,13 @@ use Rattle.hsms_machine.specs.Rule.{Breaks, IsFirst, all_rules}
 use Rattle.hsms_machine.specs.Settings.{Parameters}
 use Rattle.hsms_machine.specs.Entry.{is_up, connection_of}
 use Rattle.hsms_machine.specs.View.{view_of}
-use Rattle.hsms_machine.specs.Step.{facts_of, is_closed_by, pool_after, view_after, IsUntil}
-use Rattle.hsms_machine.specs.Ordered.{AreUntil}
+use Rattle.hsms_machine.specs.ViewRules.{facts_of, is_closed_by, pool_after, view_after, IsUntil}
+use Rattle.hsms_machine.specs.OpeningOrder.{AreUntil}
 use Rattle.hsms_machine.proofs.SameFacts.{Never, never_from}
 
-module _ (view : View) (entry : Entry) (lawful : IsFirst (Breaks (facts_of view) view.settings entry) all_rules None) where
+module _ (view : View) (entry : Entry) (is_valid : IsFirst (Breaks (facts_of view) view.settings entry) all_rules None) where
   breaks_none : Never (Breaks (facts_of view) view.settings entry) all_rules
-  breaks_none = never_from (Breaks (facts_of view) view.settings entry) all_rules lawful
+  breaks_none = never_from (Breaks (facts_of view) view.settings entry) all_rules is_valid
 
   pub not_past : view.last_time ≤ entry.time
   not_past =

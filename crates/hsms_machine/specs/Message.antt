@@ -9,8 +9,8 @@ use Rattle.hsms_machine.specs.declared.settings.Role.{Role}
 use Rattle.hsms_machine.specs.declared.settings.Role.TheVariants.{Host, Equipment}
 use Rattle.hsms_machine.specs.declared.settings.Side.{Side}
 use Rattle.hsms_machine.specs.declared.settings.Side.TheVariants.{Active, Passive}
-use Rattle.hsms_machine.specs.declared.flow.Flow.{Flow}
-use Rattle.hsms_machine.specs.declared.flow.Flow.TheVariants.{Outgoing, Incoming}
+use Rattle.hsms_machine.specs.declared.direction.Flow.{Flow}
+use Rattle.hsms_machine.specs.declared.direction.Flow.TheVariants.{Outgoing, Incoming}
 use Rattle.hsms_machine.specs.Settings.{Parameters}
 
 -- ---- by kind

@@ -7,15 +7,15 @@ use Rattle.hsms_machine.specs.declared.entry.Event.TheVariants.{Up, Taken, Disca
 use Rattle.hsms_machine.specs.declared.entry.Cause.TheVariants.{T6, T7}
 use Rattle.hsms_machine.specs.declared.rule.Rule.{Rule}
 use Rattle.hsms_machine.specs.declared.rule.Rule.TheVariants.{Backwards, NotUp, T3Overdue, LinkOverdue, NotDue, NoCause}
-use Rattle.hsms_machine.specs.declared.remedy.Remedy.{Remedy}
-use Rattle.hsms_machine.specs.declared.remedy.Remedy.TheVariants.{Raise, Discard, ExpireFirst, CutFirst, DownFirst, LeaveOut}
-use Rattle.hsms_machine.specs.declared.open.Transaction.{Transaction}
+use Rattle.hsms_machine.specs.declared.repair.RepairAction.{RepairAction}
+use Rattle.hsms_machine.specs.declared.repair.RepairAction.TheVariants.{Raise, Discard, ExpireFirst, CutFirst, DownFirst, LeaveOut}
+use Rattle.hsms_machine.specs.declared.open_transactions.Transaction.{Transaction}
 use Rattle.hsms_machine.specs.declared.view.View.{View}
 use Rattle.hsms_machine.specs.Settings.{Parameters}
-use Rattle.hsms_machine.specs.Step.{is_connected}
+use Rattle.hsms_machine.specs.ViewRules.{is_connected}
 use Rattle.hsms_machine.specs.View.{view_of}
 use Rattle.hsms_machine.specs.Run.{Broken, IsRun}
-use Rattle.hsms_machine.specs.Ordered.{first_of}
+use Rattle.hsms_machine.specs.OpeningOrder.{first_of}
 
 -- ---- one entry
 
@@ -37,7 +37,7 @@ thrown_away (Taken frame) = Discarded frame
 thrown_away event = event
 
 -- what a remedy does with an entry
-abbrev pub change_by : Remedy → Entry → Change
+abbrev pub change_by : RepairAction → Entry → Change
 change_by (Raise time) entry = Other (entry_of_event time entry.event)
 change_by Discard entry = Other (entry_of_event entry.time (thrown_away entry.event))
 change_by (ExpireFirst time system) entry = First (entry_of_event time (T3 system))
@@ -48,15 +48,15 @@ change_by LeaveOut entry = Without
 -- ---- what a broken rule asks for
 
 -- a received frame that may not be taken is thrown away
-abbrev pub discarded : Event → Remedy
+abbrev pub discarded : Event → RepairAction
 discarded (Taken frame) = Discard
 discarded event = LeaveOut
 
 -- an `up` that lacks its `down` has it put before, where the log may have several connections
-abbrev pub lacks_down : View → ℕ → Event → Remedy
-lacks_down view time Up =
+abbrev pub missing_down : View → ℕ → Event → RepairAction
+missing_down view time Up =
     if (view.settings.version == 2) && is_connected view.phase then DownFirst time else LeaveOut
-lacks_down view time event = LeaveOut
+missing_down view time event = LeaveOut
 
 -- the later of two moments
 abbrev pub later_of : ℕ → ℕ → ℕ
@@ -67,16 +67,16 @@ abbrev pub expiry_of : View → ℕ → ℕ → ℕ → ℕ
 expiry_of view time since limit = later_of view.last_time (min (since + limit) time)
 
 -- the primary that was opened first has expired
-abbrev pub expired : View → ℕ → Option Transaction → Remedy
+abbrev pub expired : View → ℕ → Option Transaction → RepairAction
 expired view time None = LeaveOut
 expired view time (Some opened) = ExpireFirst (expiry_of view time opened.time view.settings.t3) opened.header.system
 
 -- the connection was cut as T7 ran out
-abbrev pub cut_by_t7 : View → ℕ → Remedy
+abbrev pub cut_by_t7 : View → ℕ → RepairAction
 cut_by_t7 view time = CutFirst (expiry_of view time view.up_time view.settings.t7) T7
 
 -- the connection was cut as T6 of the first open request ran out, or T7 where it had not by this time
-abbrev pub cut : View → ℕ → Option Transaction → Remedy
+abbrev pub cut : View → ℕ → Option Transaction → RepairAction
 cut view time None = cut_by_t7 view time
 cut view time (Some opened) =
     if nat_lt view.settings.t6 (time - opened.time)
@@ -84,14 +84,14 @@ cut view time (Some opened) =
     else cut_by_t7 view time
 
 -- what the rule that the entry broke first asks for
-abbrev pub remedy_of : View → Entry → Rule → Remedy
-remedy_of view entry Backwards = Raise view.last_time
-remedy_of view entry NotUp = lacks_down view entry.time entry.event
-remedy_of view entry T3Overdue = expired view entry.time (first_of view.sent_data)
-remedy_of view entry LinkOverdue = cut view entry.time (first_of view.sent_control)
-remedy_of view entry NotDue = LeaveOut
-remedy_of view entry NoCause = LeaveOut
-remedy_of view entry rule = discarded entry.event
+abbrev pub repair_of : View → Entry → Rule → RepairAction
+repair_of view entry Backwards = Raise view.last_time
+repair_of view entry NotUp = missing_down view entry.time entry.event
+repair_of view entry T3Overdue = expired view entry.time (first_of view.sent_data)
+repair_of view entry LinkOverdue = cut view entry.time (first_of view.sent_control)
+repair_of view entry NotDue = LeaveOut
+repair_of view entry NoCause = LeaveOut
+repair_of view entry rule = discarded entry.event
 
 -- ---- what stands in place of an entry
 
@@ -99,7 +99,7 @@ remedy_of view entry rule = discarded entry.event
 abbrev pub Asks : Parameters → List Entry → Entry → Change → Type 0
 Asks settings log entry change =
     (rule : Rule) × Broken settings log entry (Some rule)
-    × (change_by (remedy_of (view_of settings log) entry rule) entry ≡ change)
+    × (change_by (repair_of (view_of settings log) entry rule) entry ≡ change)
 
 -- what was done with an entry
 pub data Steps : Type 0 where
@@ -109,16 +109,16 @@ pub data Steps : Type 0 where
   Preceded : Steps → Steps → Steps
 
 -- `put` stands in place of the entry after the log: the entry where it is lawful, else what is asked for, itself mended
-abbrev pub Mended : Parameters → List Entry → Steps → Entry → List Entry → Type 0
-Mended settings log Passed entry put = Broken settings log entry None × (put ≡ entry ∷ [])
-Mended settings log LeftOut entry put = Asks settings log entry Without × (put ≡ [])
-Mended settings log (Changed steps) entry put =
-    (other : Entry) × Asks settings log entry (Other other) × Mended settings log steps other put
-Mended settings log (Preceded one more) entry put =
+abbrev pub RepairedBy : Parameters → List Entry → Steps → Entry → List Entry → Type 0
+RepairedBy settings log Passed entry put = Broken settings log entry None × (put ≡ entry ∷ [])
+RepairedBy settings log LeftOut entry put = Asks settings log entry Without × (put ≡ [])
+RepairedBy settings log (Changed steps) entry put =
+    (other : Entry) × Asks settings log entry (Other other) × RepairedBy settings log steps other put
+RepairedBy settings log (Preceded one more) entry put =
     (first : Entry) × (before : List Entry) × (rest : List Entry)
     × Asks settings log entry (First first)
-    × Mended settings log one first before
-    × Mended settings (log ++ before) more entry rest
+    × RepairedBy settings log one first before
+    × RepairedBy settings (log ++ before) more entry rest
     × (put ≡ before ++ rest)
 
 -- ---- a whole log
@@ -128,7 +128,7 @@ abbrev pub IsRepaired : Parameters → List Entry → List Entry → List Entry 
 IsRepaired settings before [] after = after ≡ []
 IsRepaired settings before (entry ∷ entries) after =
     (steps : Steps) × (put : List Entry) × (rest : List Entry)
-    × Mended settings before steps entry put
+    × RepairedBy settings before steps entry put
     × IsRepaired settings (before ++ put) entries rest
     × (after ≡ put ++ rest)
 
@@ -140,10 +140,10 @@ RepairedLogPasses =
     (settings : Parameters) (log repaired : List Entry) → IsRepaired settings [] log repaired → IsRun settings repaired
 
 -- a lawful entry stays as it is
-abbrev pub LawfulEntryIsKept : Type 0
-LawfulEntryIsKept =
+abbrev pub ValidEntryIsKept : Type 0
+ValidEntryIsKept =
     (settings : Parameters) (log : List Entry) (steps : Steps) (entry : Entry) (put : List Entry)
-    → Broken settings log entry None → Mended settings log steps entry put
+    → Broken settings log entry None → RepairedBy settings log steps entry put
     → put ≡ entry ∷ []
 
 -- so a run stays as it is

@@ -6,7 +6,7 @@ use Rattle.hsms_machine.specs.declared.entry.Event.{Event}
 use Rattle.hsms_machine.specs.declared.entry.Event.TheVariants.{T3, Cut}
 use Rattle.hsms_machine.specs.declared.entry.Cause.{Cause}
 use Rattle.hsms_machine.specs.declared.entry.Cause.TheVariants.{T6, T7}
-use Rattle.hsms_machine.specs.declared.open.Transaction.{Transaction}
+use Rattle.hsms_machine.specs.declared.open_transactions.Transaction.{Transaction}
 use Rattle.hsms_machine.specs.Settings.{Parameters}
 use Rattle.hsms_machine.specs.Transaction.{SentData, SentControl}
 use Rattle.hsms_machine.specs.Session.{Facts}

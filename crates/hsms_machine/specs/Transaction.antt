@@ -8,7 +8,7 @@ use Rattle.hsms_frame.specs.declared.kinds.Kind.TheVariants.{Primary, Reply, Sel
 use Rattle.hsms_machine.specs.declared.entry.Entry.{Entry}
 use Rattle.hsms_machine.specs.declared.entry.Event.{Event}
 use Rattle.hsms_machine.specs.declared.entry.Event.TheVariants.{Sent, Taken, T3}
-use Rattle.hsms_machine.specs.declared.open.Transaction.{Transaction}
+use Rattle.hsms_machine.specs.declared.open_transactions.Transaction.{Transaction}
 use Rattle.hsms_machine.specs.Entry.{entry_at, IsOnConnection}
 use Rattle.hsms_machine.specs.Message.{is_reject_kind, is_data_request, is_control_request, is_request}
 

@@ -6,7 +6,7 @@ use Rattle.hsms_machine.specs.declared.entry.Entry.{Entry}
 use Rattle.hsms_machine.specs.declared.phase.Phase.{Phase}
 use Rattle.hsms_machine.specs.declared.phase.Phase.TheVariants.{Before, NotSelected, Selected, Over, Gone}
 use Rattle.hsms_machine.specs.declared.rule.Rule.{Rule}
-use Rattle.hsms_machine.specs.declared.open.Transaction.{Transaction}
+use Rattle.hsms_machine.specs.declared.open_transactions.Transaction.{Transaction}
 use Rattle.hsms_machine.specs.declared.view.View.{View}
 use Rattle.hsms_machine.specs.Settings.{Parameters}
 use Rattle.hsms_machine.specs.Entry.{entry_at, is_up, is_down, connection_of}
@@ -91,8 +91,8 @@ abbrev pub LeadsTo : View → Entry → View → Type 0
 LeadsTo view entry later = ForEachRun view (λ log. HasView view.settings (log ++ entry ∷ []) later)
 
 -- where the answer is that no rule is broken, the fact holds
-abbrev pub IfLawful : {E : Type 0} → Result (Option Rule) E → Type 0 → Type 0
-IfLawful result Holds = IfOk result (λ answer. answer ≡ None → Holds)
+abbrev pub IfValid : {E : Type 0} → Result (Option Rule) E → Type 0 → Type 0
+IfValid result Holds = IfOk result (λ answer. answer ≡ None → Holds)
 
 -- ---- what is read from a view
 

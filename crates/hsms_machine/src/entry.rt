@@ -101,7 +101,7 @@ pub struct EntryRef<'a> {
 
 impl<'a> Model for EntryRef<'a> {
     ghost use Rattle.hsms_machine.specs.declared.entry.Entry.{Entry};
-    ghost use Rattle.hsms_machine.specs.Act.{entry_of};
+    ghost use Rattle.hsms_machine.specs.EventParts.{entry_of};
 
     ghost Value = { Entry };
 
@@ -111,7 +111,7 @@ impl<'a> Model for EntryRef<'a> {
 impl<'a> EntryRef<'a> {
     ghost use Rattle.std.specs.Prelude.{◌≡◌, []};
     ghost use Rattle.hsms_machine.specs.Entry.{frame_entry};
-    ghost use Rattle.hsms_machine.specs.Act.{entry_of};
+    ghost use Rattle.hsms_machine.specs.EventParts.{entry_of};
 
     /// The entry of a frame that has this mark, header and text.
     #[inline(always)]

@@ -1,8 +1,8 @@
 //! Laws over the definitions of a run. Each is the contract of a function that does nothing.
 
-ghost use Rattle.hsms_machine.specs.Laws.{EachResponseAnswersOne, DataFlowsWhileSelected, ExpiryIsLoggedFirst, RepliesComeWithinT3, SystemBytesAreUnique, OneConnectionInVersionOne, EachConnectionFollowsDown, NothingIsOpenOverUp, VersionOneKeepsRuns, VersionOneKeepsAnswers, VersionOneIsOneConnection, ViewListsWhatIsOpen, LawfulEntryExtendsRun, FrontOfRunIsRun, NextOfRunIsLawful, EachEntryHasAnAnswer, NoEntryHasTwoAnswers, EmptyLogIsRun, RunIsRunOfSeveral, SingleRunOfSeveralIsRun, JoinedRunsAreARun, JoinedConnectionsAreARun};
-ghost use Rattle.hsms_machine.specs.Put.{CutPutIsLawful, EachEntryIsMended, EachLogIsRepaired, ExpiryPutIsLawful, NoEntryIsMendedTwice, NoLogIsRepairedTwice};
-ghost use Rattle.hsms_machine.specs.Repair.{RepairedLogPasses, LawfulEntryIsKept, RunIsItsRepair, FrontIsKept};
+ghost use Rattle.hsms_machine.specs.Laws.{EachResponseAnswersOne, DataFlowsWhileSelected, ExpiryIsLoggedFirst, RepliesComeWithinT3, SystemBytesAreUnique, OneConnectionInVersionOne, EachConnectionFollowsDown, NothingIsOpenOverUp, VersionOneKeepsRuns, VersionOneKeepsAnswers, VersionOneIsOneConnection, ViewListsWhatIsOpen, ValidEntryExtendsRun, FrontOfRunIsRun, NextOfRunIsValid, EachEntryHasAnAnswer, NoEntryHasTwoAnswers, EmptyLogIsRun, RunIsRunOfSeveral, SingleRunOfSeveralIsRun, JoinedRunsAreARun, JoinedConnectionsAreARun};
+ghost use Rattle.hsms_machine.specs.RepairLaws.{CutPutIsValid, EachEntryIsRepaired, EachLogIsRepaired, ExpiryPutIsValid, NoEntryIsRepairedTwice, NoLogIsRepairedTwice};
+ghost use Rattle.hsms_machine.specs.Repair.{RepairedLogPasses, ValidEntryIsKept, RunIsItsRepair, FrontIsKept};
 
 /// Each sent or taken response of a run answers exactly one open transaction, which it closes.
 pub fn each_response_answers_one()
@@ -31,7 +31,7 @@ pub fn system_bytes_are_unique()
 
 /// In a run of version 1 only the first entry is an `up`. In version 2 each later one stands directly after a `down`. No
 /// transaction that was opened before an `up` is open after it.
-pub fn connections_stand_apart()
+pub fn connections_are_separate()
     ensures one { OneConnectionInVersionOne }
     ensures several { EachConnectionFollowsDown }
     ensures apart { NothingIsOpenOverUp }
@@ -51,14 +51,14 @@ pub fn view_lists_what_is_open()
 {}
 
 /// An entry that breaks no rule after a run extends it.
-pub fn lawful_entry_extends_run()
-    ensures { LawfulEntryExtendsRun }
+pub fn valid_entry_extends_run()
+    ensures { ValidEntryExtendsRun }
 {}
 
 /// The entries at the front of a run are a run, and the next one breaks no rule after them.
 pub fn front_of_run_is_run()
     ensures front { FrontOfRunIsRun }
-    ensures next { NextOfRunIsLawful }
+    ensures next { NextOfRunIsValid }
 {}
 
 /// After a run each entry has exactly one answer: the first rule that it breaks, or none.
@@ -85,25 +85,25 @@ pub fn joined_connections_are_a_run()
 /// up to its first failure.
 pub fn repaired_log_passes()
     ensures passes { RepairedLogPasses }
-    ensures kept { LawfulEntryIsKept }
+    ensures kept { ValidEntryIsKept }
     ensures run { RunIsItsRepair }
     ensures front { FrontIsKept }
 {}
 
 /// An expiry of T3 that is put before an entry, where a log is gone on with, breaks no rule there.
-pub fn expiry_put_is_lawful()
-    ensures { ExpiryPutIsLawful }
+pub fn expiry_put_is_valid()
+    ensures { ExpiryPutIsValid }
 {}
 
 /// A cut that is put before an entry, where a log is gone on with, breaks no rule there.
-pub fn cut_put_is_lawful()
-    ensures { CutPutIsLawful }
+pub fn cut_put_is_valid()
+    ensures { CutPutIsValid }
 {}
 
 /// Behind a run something stands in place of each entry, after few judgements, and it alone.
-pub fn each_entry_is_mended()
-    ensures some { EachEntryIsMended }
-    ensures one { NoEntryIsMendedTwice }
+pub fn each_entry_is_repaired()
+    ensures some { EachEntryIsRepaired }
+    ensures one { NoEntryIsRepairedTwice }
 {}
 
 /// Each log is gone on with to its end, and in one way alone.

@@ -19,27 +19,27 @@
 //! ```
 #![tactic(auto)]
 
+mod direction;
 mod entry;
-mod flow;
-mod judge;
 pub mod laws;
 mod message;
-mod open;
+mod open_transactions;
+mod opening_lines;
 mod phase;
-mod places;
-mod queue;
-mod remedy;
+mod repair;
 mod rule;
+mod rule_check;
 mod settings;
 mod tracker;
+mod transaction_map;
 mod view;
 
 pub use entry::{Cause, Entry, EntryRef, Event, Mark};
 pub use message::{Message, concludes};
-pub use open::earlier;
+pub use open_transactions::earlier;
+pub use opening_lines::Places;
 pub use phase::Phase;
-pub use places::Places;
-pub use remedy::Remedy;
+pub use repair::RepairAction;
 pub use rule::Rule;
 pub use settings::{
     GREATEST_DEPTH, GREATEST_DEVICE, GREATEST_MAX, GREATEST_TIME, LEAST_DEPTH, LEAST_MAX,

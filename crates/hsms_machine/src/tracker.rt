@@ -1,9 +1,9 @@
 //! The judge of a session, entry by entry.
 
 use crate::entry::{Entry, EntryRef};
-use crate::open::{Transactions, earlier};
+use crate::open_transactions::{Transactions, earlier};
 use crate::phase::Phase;
-use crate::remedy::Remedy;
+use crate::repair::RepairAction;
 use crate::rule::Rule;
 use crate::settings::Settings;
 use crate::view::View;
@@ -31,7 +31,7 @@ impl Drop for Tracker {
 impl Model for Tracker {
     ghost use Rattle.hsms_machine.specs.declared.view.View.{View};
     ghost use Rattle.hsms_machine.specs.View.{HasRun};
-    ghost use Rattle.hsms_machine.specs.Step.{IsUntil};
+    ghost use Rattle.hsms_machine.specs.ViewRules.{IsUntil};
 
     ghost Value = { View };
 
@@ -44,9 +44,9 @@ impl Tracker {
     ghost use Rattle.std.specs.Prelude.{◌≡◌, [], Some, None, IsTrue, IfOk, OnErr};
     ghost use Rattle.hsms_machine.specs.declared.rule.Rule.{Rule};
     ghost use Rattle.hsms_machine.specs.Transaction.{opens};
-    ghost use Rattle.hsms_machine.specs.View.{HasView, IsBrokenAfter, LeadsTo, IfLawful, waiting_of, own_open_of, next_due_of, in_use_of, oldest_of};
-    ghost use Rattle.hsms_machine.specs.Step.{IsBrokenAt, IsInOrder, view_after};
-    ghost use Rattle.hsms_machine.specs.Repair.{remedy_of};
+    ghost use Rattle.hsms_machine.specs.View.{HasView, IsBrokenAfter, LeadsTo, IfValid, waiting_of, own_open_of, next_due_of, in_use_of, oldest_of};
+    ghost use Rattle.hsms_machine.specs.ViewRules.{IsBrokenAt, IsInOrder, view_after};
+    ghost use Rattle.hsms_machine.specs.Repair.{repair_of};
 
     /// The tracker of a session without an entry.
     pub fn new(alloc: Global, settings: Settings) -> Tracker
@@ -68,7 +68,7 @@ impl Tracker {
     /// memory.
     pub fn check(&self, entry: &Entry) -> Option<Rule>
         ensures answer { IsBrokenAfter self.now entry.now result }
-        ensures told { IsBrokenAt self.now entry.now result }
+        ensures named_rule { IsBrokenAt self.now entry.now result }
     {
         self.check_ref(&entry.as_ref())
     }
@@ -76,7 +76,7 @@ impl Tracker {
     /// Does as `check` does, of an entry whose text lies elsewhere.
     pub fn check_ref(&self, entry: &EntryRef<'_>) -> Option<Rule>
         ensures answer { IsBrokenAfter self.now entry.now result }
-        ensures told { IsBrokenAt self.now entry.now result }
+        ensures named_rule { IsBrokenAt self.now entry.now result }
     {
         let (time, act, text) = entry.parts();
         self.view.first_broken(time, act, text)
@@ -87,12 +87,12 @@ impl Tracker {
     /// only of a lawful entry that opens a transaction.
     pub fn step(&mut self, entry: &Entry) -> Result<Option<Rule>, AllocError>
         ensures answer { IfOk result (λ answer. IsBrokenAfter self.old entry.now answer) }
-        ensures told { IfOk result (λ answer. IsBrokenAt self.old entry.now answer) }
-        ensures lawful { IfLawful result (LeadsTo self.old entry.now self.new) }
-        ensures next { IfLawful result (self.new ≡ view_after self.old entry.now) }
+        ensures named_rule { IfOk result (λ answer. IsBrokenAt self.old entry.now answer) }
+        ensures is_valid { IfValid result (LeadsTo self.old entry.now self.new) }
+        ensures next { IfValid result (self.new ≡ view_after self.old entry.now) }
         ensures broken { IfOk result (λ answer. (rule : Rule) → answer ≡ Some rule → self.new ≡ self.old) }
         ensures err { OnErr result (self.new ≡ self.old) }
-        ensures err_lawful { OnErr result (IsBrokenAfter self.old entry.now None) }
+        ensures err_valid { OnErr result (IsBrokenAfter self.old entry.now None) }
         ensures err_opens { OnErr result (IsTrue (opens entry.now.event)) }
     {
         self.step_ref(&entry.as_ref())
@@ -102,12 +102,12 @@ impl Tracker {
     #[inline(always)]
     pub fn step_ref(&mut self, entry: &EntryRef<'_>) -> Result<Option<Rule>, AllocError>
         ensures answer { IfOk result (λ answer. IsBrokenAfter self.old entry.now answer) }
-        ensures told { IfOk result (λ answer. IsBrokenAt self.old entry.now answer) }
-        ensures lawful { IfLawful result (LeadsTo self.old entry.now self.new) }
-        ensures next { IfLawful result (self.new ≡ view_after self.old entry.now) }
+        ensures named_rule { IfOk result (λ answer. IsBrokenAt self.old entry.now answer) }
+        ensures is_valid { IfValid result (LeadsTo self.old entry.now self.new) }
+        ensures next { IfValid result (self.new ≡ view_after self.old entry.now) }
         ensures broken { IfOk result (λ answer. (rule : Rule) → answer ≡ Some rule → self.new ≡ self.old) }
         ensures err { OnErr result (self.new ≡ self.old) }
-        ensures err_lawful { OnErr result (IsBrokenAfter self.old entry.now None) }
+        ensures err_valid { OnErr result (IsBrokenAfter self.old entry.now None) }
         ensures err_opens { OnErr result (IsTrue (opens entry.now.event)) }
     {
         let (time, act, text) = entry.parts();
@@ -119,11 +119,11 @@ impl Tracker {
     }
 
     /// How the log is gone on with behind an entry that breaks this rule first as the next one. Takes no memory.
-    pub fn remedy(&self, rule: Rule, entry: &EntryRef<'_>) -> Remedy
-        ensures { result ≡ remedy_of self.now entry.now rule }
+    pub fn repair_action(&self, rule: Rule, entry: &EntryRef<'_>) -> RepairAction
+        ensures { result ≡ repair_of self.now entry.now rule }
     {
         let (time, act, _) = entry.parts();
-        self.view.remedy(rule, time, act)
+        self.view.repair_action(rule, time, act)
     }
 
     /// Where the session stands.

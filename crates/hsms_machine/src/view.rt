@@ -2,7 +2,7 @@
 
 use crate::entry::Act;
 use crate::message::{Message, establishes, is_control_request, is_data_request, may_conclude};
-use crate::open::{Transaction, Transactions};
+use crate::open_transactions::{Transaction, Transactions};
 use crate::phase::Phase;
 use crate::settings::Settings;
 use hsms_frame::Kind;
@@ -27,9 +27,9 @@ impl View {
     ghost use Rattle.hsms_machine.specs.Transaction.{opens, opened_by, concludes as is_conclusion};
     ghost use Rattle.hsms_machine.specs.Session.{ends_session as is_end_of_session, selects as is_selection};
     ghost use Rattle.hsms_machine.specs.View.{view_of};
-    ghost use Rattle.hsms_machine.specs.Act.{event_of, entry_of};
-    ghost use Rattle.hsms_machine.specs.Step.{view_after, pools_after, phase_after, IsUntil, IsFresh};
-    ghost use Rattle.hsms_machine.specs.Ordered.{AreUntil, uses};
+    ghost use Rattle.hsms_machine.specs.EventParts.{event_of, entry_of};
+    ghost use Rattle.hsms_machine.specs.ViewRules.{view_after, pools_after, phase_after, IsUntil, IsFresh};
+    ghost use Rattle.hsms_machine.specs.OpeningOrder.{AreUntil, uses};
 
     /// The view of an empty log.
     #[tactic(auto, unfolding(crate::specs::Entry::connection_of))]

@@ -1,7 +1,7 @@
 //! What is said of attempts to connect that fail and are made again.
 
-use crate::advice::link_words;
-use hsms_service::{Attempts, ConnectError};
+use crate::error_help::link_words;
+use cli_serve::{Attempts, ConnectError};
 use std::alloc::Global;
 
 /// Writes one line for each kind of failure to standard error, where words are asked for.

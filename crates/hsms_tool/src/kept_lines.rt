@@ -1,6 +1,6 @@
 //! The last lines of a log that is read in blocks, for what is said of a line that cannot be read.
 
-use crate::place::marked;
+use crate::caret::marked;
 use hsms_frame::drop_front;
 use hsms_log::{
     LineFault, Unreadable, Verdict, Why, read_line, read_settings, unreadable_entry,
@@ -61,9 +61,11 @@ impl<R: Read> KeptLines<R> {
             None => (first, unreadable_settings(first)),
             Some(settings) => self.unreadable_line(alloc, settings.max())?,
         };
-        let (before, behind) = line.split_at(unreadable.column.saturating_sub(1).min(line.len()));
+        let (before, subsequent) = line.split_at(
+            unreadable.column.saturating_sub(1).min(line.len()),
+        );
         let words = format!(in alloc; "line {number}, {unreadable}")?;
-        marked(words, before, behind)
+        marked(words, before, subsequent)
     }
 
     // The first line that cannot be read, but for the line of the settings. An audit has read all lines before it.

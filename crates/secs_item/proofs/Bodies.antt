@@ -4,15 +4,15 @@ use Rattle.std.proofs.lemmas.List.{nil_from_length, length-take, length-drop, le
 use Rattle.std.proofs.lemmas.Nat.{div-mul-add, mod-mul-add, div-add-mod'}
 use Rattle.std.specs.List.{flat_map, AllByRecursion}
 use Rattle.std.proofs.lemmas.List.Concat.{flat_map-cons, flat_map-append}
-use Rattle.secs_item.specs.Short.{octet_alone}
+use Rattle.secs_item.specs.ShortestEncoding.{octet_alone}
 use Rattle.std.specs.Int.{w8, w16, w32, w64}
 use Rattle.byteorder.specs.Endian.{big_number}
 use Rattle.secs_item.specs.declared.format.Format.{Format}
 use Rattle.secs_item.specs.declared.format.Format.TheVariants as format
 use Rattle.secs_item.specs.Format.{is_list, value_size}
 use Rattle.secs_item.specs.Item.{Values, binary, boolean, ascii, jis8, char2, i8, i1, i2, i4, f8, f4, u8, u1, u2, u4, format_of_values}
-use Rattle.secs_item.specs.Spelling.{IsOctets, InOrder, Octet, Truth, Signed, Unsigned, Unread, Body}
-use Rattle.secs_item.specs.Reading.{pieces, each, octet, truth, signed, unread, values_of}
+use Rattle.secs_item.specs.Encoding.{IsOctets, InOrder, Octet, Truth, Signed, Unsigned, Unread, Body}
+use Rattle.secs_item.specs.Decoding.{pieces, each, octet, truth, signed, unread, values_of}
 use Rattle.secs_item.proofs.Octets.{IsOctets-nil, IsOctets-append, IsOctets-take, IsOctets-drop}
 use Rattle.secs_item.proofs.Codecs.{IsCodec, octets_codec, truth_codec, signed_codec, unsigned_codec, unread_codec}
 
@@ -32,17 +32,17 @@ module _ {X : Type 0} (One : X → List ℕ → Type 0) (size : ℕ) (read : Lis
       let len = codec.length_is x h.0 h.2 in
       rw (h.4, take_at h.0 h.1 size len, drop_at h.0 h.1 size len, codec.read_is x h.0 h.2, in_order_read xs h.1 h.3) refl
 
-  in_order_spelled : (n : ℕ) (octets : List ℕ) → length octets ≡ n * size → IsOctets octets → InOrder One (pieces read size n octets) octets
-  in_order_spelled zero octets len h = nil_from_length octets (omega (arith, len))
-  in_order_spelled (suc n) octets len h =
+  in_order_encoded : (n : ℕ) (octets : List ℕ) → length octets ≡ n * size → IsOctets octets → InOrder One (pieces read size n octets) octets
+  in_order_encoded zero octets len h = nil_from_length octets (omega (arith, len))
+  in_order_encoded (suc n) octets len h =
       let first : length (take size octets) ≡ size = omega (arith, length-take size octets, len) in
       let rest : length (drop size octets) ≡ n * size = omega (arith, length-drop size octets, len) in
-      (take size octets, drop size octets, codec.spelled (take size octets) first (IsOctets-take size octets h), in_order_spelled n (drop size octets) rest (IsOctets-drop size octets h), sym (take-append-drop size octets))
+      (take size octets, drop size octets, codec.encoded_bytes (take size octets) first (IsOctets-take size octets h), in_order_encoded n (drop size octets) rest (IsOctets-drop size octets h), sym (take-append-drop size octets))
 
   -- what `each` gives is spelled so, and nothing else is
-  pub each_spelled : 0 < size → (octets : List ℕ) → length octets % size ≡ 0 → IsOctets octets → InOrder One (each read size octets) octets
-  each_spelled some octets whole h =
-      in_order_spelled (length octets / size) octets (omega (arith, div-add-mod' (length octets) size, whole)) h
+  pub each_encoded : 0 < size → (octets : List ℕ) → length octets % size ≡ 0 → IsOctets octets → InOrder One (each read size octets) octets
+  each_encoded some octets whole h =
+      in_order_encoded (length octets / size) octets (omega (arith, div-add-mod' (length octets) size, whole)) h
 
   pub each_read : 0 < size → (xs : List X) (octets : List ℕ) → InOrder One xs octets → each read size octets ≡ xs
   each_read some xs octets h =
@@ -103,23 +103,23 @@ body_reads v octets h =
     by_format (u4 xs) octets h = body_by (Unsigned 4) 4 (big_number 4) u4 (unsigned_codec 4) (omega arith) xs octets h
 
 -- whole values spell what is read of them
-pub body_spelled : (f : Format) (octets : List ℕ) → is_list f ≡ false → length octets % value_size f ≡ 0 → IsOctets octets → Body (values_of f octets) octets × (format_of_values (values_of f octets) ≡ f)
-body_spelled format.List octets lists whole h = absurd cc
-body_spelled format.Binary octets lists whole h = (each_spelled Octet 1 octet octets_codec (omega arith) octets whole h, refl)
-body_spelled format.Boolean octets lists whole h = (each_spelled Truth 1 truth truth_codec (omega arith) octets whole h, refl)
-body_spelled format.Ascii octets lists whole h = (each_spelled Octet 1 octet octets_codec (omega arith) octets whole h, refl)
-body_spelled format.Jis8 octets lists whole h = (each_spelled Octet 1 octet octets_codec (omega arith) octets whole h, refl)
-body_spelled format.Char2 octets lists whole h = (each_spelled Octet 1 octet octets_codec (omega arith) octets whole h, refl)
-body_spelled format.I8 octets lists whole h = (each_spelled (Signed w64) 8 (signed w64) (signed_codec w64 refl) (omega arith) octets whole h, refl)
-body_spelled format.I1 octets lists whole h = (each_spelled (Signed w8) 1 (signed w8) (signed_codec w8 refl) (omega arith) octets whole h, refl)
-body_spelled format.I2 octets lists whole h = (each_spelled (Signed w16) 2 (signed w16) (signed_codec w16 refl) (omega arith) octets whole h, refl)
-body_spelled format.I4 octets lists whole h = (each_spelled (Signed w32) 4 (signed w32) (signed_codec w32 refl) (omega arith) octets whole h, refl)
-body_spelled format.F8 octets lists whole h = (each_spelled (Unread 8) 8 unread (unread_codec 8) (omega arith) octets whole h, refl)
-body_spelled format.F4 octets lists whole h = (each_spelled (Unread 4) 4 unread (unread_codec 4) (omega arith) octets whole h, refl)
-body_spelled format.U8 octets lists whole h = (each_spelled (Unsigned 8) 8 (big_number 8) (unsigned_codec 8) (omega arith) octets whole h, refl)
-body_spelled format.U1 octets lists whole h = (each_spelled Octet 1 octet octets_codec (omega arith) octets whole h, refl)
-body_spelled format.U2 octets lists whole h = (each_spelled (Unsigned 2) 2 (big_number 2) (unsigned_codec 2) (omega arith) octets whole h, refl)
-body_spelled format.U4 octets lists whole h = (each_spelled (Unsigned 4) 4 (big_number 4) (unsigned_codec 4) (omega arith) octets whole h, refl)
+pub body_encoded : (f : Format) (octets : List ℕ) → is_list f ≡ false → length octets % value_size f ≡ 0 → IsOctets octets → Body (values_of f octets) octets × (format_of_values (values_of f octets) ≡ f)
+body_encoded format.List octets lists whole h = absurd cc
+body_encoded format.Binary octets lists whole h = (each_encoded Octet 1 octet octets_codec (omega arith) octets whole h, refl)
+body_encoded format.Boolean octets lists whole h = (each_encoded Truth 1 truth truth_codec (omega arith) octets whole h, refl)
+body_encoded format.Ascii octets lists whole h = (each_encoded Octet 1 octet octets_codec (omega arith) octets whole h, refl)
+body_encoded format.Jis8 octets lists whole h = (each_encoded Octet 1 octet octets_codec (omega arith) octets whole h, refl)
+body_encoded format.Char2 octets lists whole h = (each_encoded Octet 1 octet octets_codec (omega arith) octets whole h, refl)
+body_encoded format.I8 octets lists whole h = (each_encoded (Signed w64) 8 (signed w64) (signed_codec w64 refl) (omega arith) octets whole h, refl)
+body_encoded format.I1 octets lists whole h = (each_encoded (Signed w8) 1 (signed w8) (signed_codec w8 refl) (omega arith) octets whole h, refl)
+body_encoded format.I2 octets lists whole h = (each_encoded (Signed w16) 2 (signed w16) (signed_codec w16 refl) (omega arith) octets whole h, refl)
+body_encoded format.I4 octets lists whole h = (each_encoded (Signed w32) 4 (signed w32) (signed_codec w32 refl) (omega arith) octets whole h, refl)
+body_encoded format.F8 octets lists whole h = (each_encoded (Unread 8) 8 unread (unread_codec 8) (omega arith) octets whole h, refl)
+body_encoded format.F4 octets lists whole h = (each_encoded (Unread 4) 4 unread (unread_codec 4) (omega arith) octets whole h, refl)
+body_encoded format.U8 octets lists whole h = (each_encoded (Unsigned 8) 8 (big_number 8) (unsigned_codec 8) (omega arith) octets whole h, refl)
+body_encoded format.U1 octets lists whole h = (each_encoded Octet 1 octet octets_codec (omega arith) octets whole h, refl)
+body_encoded format.U2 octets lists whole h = (each_encoded (Unsigned 2) 2 (big_number 2) (unsigned_codec 2) (omega arith) octets whole h, refl)
+body_encoded format.U4 octets lists whole h = (each_encoded (Unsigned 4) 4 (big_number 4) (unsigned_codec 4) (omega arith) octets whole h, refl)
 
 -- one more value of a body
 pub pieces_go_on : {X : Type 0} (one : List ℕ → X) (size count i : ℕ) (read : List X) (rest first after : List ℕ) (x : X) (total : List X) → i < count → first ≡ take size rest → after ≡ drop size rest → x ≡ one first
@@ -157,8 +157,8 @@ piece_there size count i left lt is =
     step k g = omega (arith, g)
 
 -- what is left behind one piece
-pub left_behind : (size count i before after : ℕ) → i < count → before ≡ (count - i) * size → after + size ≡ before → after ≡ (count - (i + 1)) * size
-left_behind size count i before after left is e =
+pub remains_after : (size count i before after : ℕ) → i < count → before ≡ (count - i) * size → after + size ≡ before → after ≡ (count - (i + 1)) * size
+remains_after size count i before after left is e =
     let k : count - i ≡ suc (count - (i + 1)) = omega arith in
     let grown : before ≡ suc (count - (i + 1)) * size = is ∙ ap (λ (n : ℕ). n * size) k in
     step (count - (i + 1)) grown

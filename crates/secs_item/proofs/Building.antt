@@ -3,11 +3,11 @@ use Rattle.std.proofs.Common.{◌≡◌, ℕ, suc, ◌+◌, ◌-◌, ◌<◌, �
 use Rattle.std.specs.Prelude.{IsOk}
 use Rattle.std.proofs.lemmas.List.{length-append, length-drop, drop-drop}
 use Rattle.secs_item.specs.Item.{Value, Elements, no_elements, element, elements_of}
-use Rattle.secs_item.specs.Spelling.{IsOctets}
-use Rattle.secs_item.specs.Reading.{Fault, ◌>>=◌, behind, elements_by, item_at}
+use Rattle.secs_item.specs.Encoding.{IsOctets}
+use Rattle.secs_item.specs.Decoding.{Fault, ◌>>=◌, subsequent, elements_by, item_at}
 use Rattle.secs_item.specs.Measure.{EndsAt}
 use Rattle.secs_item.proofs.Octets.{IsOctets-drop}
-use Rattle.secs_item.proofs.Items.{item_found, bind_ok, behind_ok}
+use Rattle.secs_item.proofs.Items.{item_found, bind_ok, subsequent_ok}
 
 -- the values, and then more elements
 abbrev pub joined : List Value → Elements → Elements
@@ -61,14 +61,14 @@ record IsNext (one : List ℕ → Result (Value × ℕ) Fault) (octets : List �
 next_is : (one : List ℕ → Result (Value × ℕ) Fault) (octets : List ℕ) (n : ℕ) (es : Elements) (size : ℕ) → elements_by one (suc n) octets ≡ Ok (es, size) → IsNext one octets n es size
 unfolding elements_by
 next_is one octets n es size e =
-    let a = bind_ok (one octets) (λ first. behind first.1 (elements_by one n (drop first.1 octets)) >>= λ others. Ok (element first.0 others.0, first.1 + others.1)) (es, size) e in
-    let b = bind_ok (behind a.0.1 (elements_by one n (drop a.0.1 octets))) (λ others. Ok (element a.0.0 others.0, a.0.1 + others.1)) (es, size) a.2 in
+    let a = bind_ok (one octets) (λ first. subsequent first.1 (elements_by one n (drop first.1 octets)) >>= λ others. Ok (element first.0 others.0, first.1 + others.1)) (es, size) e in
+    let b = bind_ok (subsequent a.0.1 (elements_by one n (drop a.0.1 octets))) (λ others. Ok (element a.0.0 others.0, a.0.1 + others.1)) (es, size) a.2 in
     let made : ◌≡◌ {A = Elements × ℕ} (element a.0.0 b.0.0, a.0.1 + b.0.1) (es, size) = cc in
     record {
       first = a.0;
       others = b.0;
       first_is = a.1;
-      others_are = behind_ok a.0.1 _ b.0 b.1;
+      others_are = subsequent_ok a.0.1 _ b.0 b.1;
       all_are = sym (ap (λ (y : Elements × ℕ). y.0) made);
       size_is = sym (ap (λ (y : Elements × ℕ). y.1) made);
     }
@@ -83,9 +83,9 @@ pub next_measured : (one : List ℕ → Result (Value × ℕ) Fault) (octets : L
 next_measured one octets place number i end built lt b = rw (next_of one octets place number i end built lt b).first_is refl
 
 -- one more element is built
-pub goes_on_building : (depth : ℕ) (octets : List ℕ) (place number i end after : ℕ) (built : List Value) (v : Value) → IsOctets octets → i < number → IsBuilding (item_at depth) octets place number i end built
+pub continues_building : (depth : ℕ) (octets : List ℕ) (place number i end after : ℕ) (built : List Value) (v : Value) → IsOctets octets → i < number → IsBuilding (item_at depth) octets place number i end built
     → EndsAt end (item_at depth (drop end octets)) v after → IsBuilding (item_at depth) octets place number (i + 1) after (built ++ v ∷ [])
-goes_on_building depth octets place number i end after built v h lt b ends =
+continues_building depth octets place number i end after built v h lt b ends =
     let next = next_of (item_at depth) octets place number i end built lt b in
     let same : ◌≡◌ {A = Result (Value × ℕ) Fault} (Ok next.first) (Ok (v, ends.0)) = sym next.first_is ∙ ends.1 in
     let first : next.first ≡ (v, ends.0) = cc in
@@ -97,7 +97,7 @@ goes_on_building depth octets place number i end after built v h lt b ends =
     record {
       left = next.others.0;
       size = next.others.1;
-      within = omega (arith, ends.2, b.within, ap length item.parts, length-append item.spelled item.rest, item.length_is, length-drop end octets);
+      within = omega (arith, ends.2, b.within, ap length item.parts, length-append item.encoded_bytes item.rest, item.length_is, length-drop end octets);
       from_place = omega (arith, b.from_place, ends.2);
       left_is = left;
       whole = b.whole ∙ ap (λ (es : Elements). Ok (joined built es, (end - place) + b.size)) (next.all_are ∙ ap (λ (x : Value). element x next.others.0) v_is)

@@ -8,15 +8,15 @@ use Rattle.std.proofs.lemmas.Int.{to_z-of_z, of_z-to_z}
 use Rattle.std.proofs.lemmas.List.{append-nil}
 use Rattle.byteorder.specs.Endian.{big_bytes, big_number}
 use Rattle.byteorder.specs.Numbers.{big_from-lt, big_number-reads_back, length-bytes_high_first}
-use Rattle.secs_item.specs.Spelling.{IsOctets, Octet, Truth, Unsigned, Signed, Unread}
-use Rattle.secs_item.specs.Reading.{octet, truth, signed, unread}
+use Rattle.secs_item.specs.Encoding.{IsOctets, Octet, Truth, Unsigned, Signed, Unread}
+use Rattle.secs_item.specs.Decoding.{octet, truth, signed, unread}
 use Rattle.secs_item.proofs.Octets.{IsOctets-nil, IsOctets-cons, IsOctets-big_bytes, big_bytes-big_number}
 
 pub record IsCodec {X : Type 0} (One : X → List ℕ → Type 0) (size : ℕ) (read : List ℕ → X) : Type 0 where
   pub length_is : (x : X) (octets : List ℕ) → One x octets → length octets ≡ size
   pub octets_are : (x : X) (octets : List ℕ) → One x octets → IsOctets octets
   pub read_is : (x : X) (octets : List ℕ) → One x octets → read octets ≡ x
-  pub spelled : (octets : List ℕ) → length octets ≡ size → IsOctets octets → One (read octets) octets
+  pub encoded_bytes : (octets : List ℕ) → length octets ≡ size → IsOctets octets → One (read octets) octets
 
 lone : (octets : List ℕ) → length octets ≡ 1 → octets ≡ get_or octets 0 0 ∷ []
 lone [] len = absurd (omega arith)
@@ -28,7 +28,7 @@ octets_codec = record {
   length_is = λ x o one. rw one.1 refl;
   octets_are = λ x o one. rw one.1 (IsOctets-cons x [] one.0 IsOctets-nil);
   read_is = λ x o one. rw one.1 refl;
-  spelled = λ o len h. (h 0, lone o len);
+  encoded_bytes = λ o len h. (h 0, lone o len);
 }
 
 pub truth_codec : IsCodec Truth 1 truth
@@ -36,7 +36,7 @@ truth_codec = record {
   length_is = λ x o one. rw one.2 refl;
   octets_are = λ x o one. rw one.2 (IsOctets-cons one.0 [] one.1 IsOctets-nil);
   read_is = λ x o one. rw one.2 (sym one.3);
-  spelled = λ o len h. (get_or o 0 0, h 0, lone o len, refl);
+  encoded_bytes = λ o len h. (get_or o 0 0, h 0, lone o len, refl);
 }
 
 big_number-big_bytes : (size n : ℕ) → n < 256 ^ size → big_number size (big_bytes size n) ≡ n
@@ -47,7 +47,7 @@ unsigned_codec size = record {
   length_is = λ n o one. rw one.1 (length-bytes_high_first size n);
   octets_are = λ n o one. rw one.1 (IsOctets-big_bytes size n);
   read_is = λ n o one. rw one.1 (big_number-big_bytes size n one.0);
-  spelled = λ o len h. (big_from-lt 0 size o h, sym (big_bytes-big_number size o len h));
+  encoded_bytes = λ o len h. (big_from-lt 0 size o h, sym (big_bytes-big_number size o len h));
 }
 
 pub unread_codec : (size : ℕ) → IsCodec (Unread size) size unread
@@ -55,7 +55,7 @@ unread_codec size = record {
   length_is = λ x o one. ap length one.2 ∙ one.0;
   octets_are = λ x o one. rw one.2 one.1;
   read_is = λ x o one. one.2;
-  spelled = λ o len h. (len, h, refl);
+  encoded_bytes = λ o len h. (len, h, refl);
 }
 
 -- at a width whose numbers are those of its octets
@@ -66,7 +66,7 @@ signed_codec width same = record {
   read_is = λ z o one.
       let small : cast_unsigned width z < 256 ^ byte_len width = rw (← same) (below (Fits-of_z one.0)) in
       rw one.1 (ap (cast_signed width) (big_number-big_bytes (byte_len width) (cast_unsigned width z) small) ∙ to_z-of_z width z one.0);
-  spelled = λ o len h.
+  encoded_bytes = λ o len h.
       let n = big_number (byte_len width) o in
       let small : n < 256 ^ byte_len width = big_from-lt 0 (byte_len width) o h in
       let small' : n < 2 ^ bits width = rw same small in

@@ -24,21 +24,21 @@ same_lists items others v w r v_is w_is d = (λ h. v_is ∙ ap list (d.0 h) ∙ 
     inner e = cc
 
 -- two tests that tell the same fact are alike
-pub told_alike : {P : Type 0} (a b : Bool) → Decides a P → Decides b P → a ≡ b
-told_alike true b f g = sym (g.1 (f.0 refl))
-told_alike false true f g = f.1 (g.0 refl)
-told_alike false false f g = refl
+pub decides_same : {P : Type 0} (a b : Bool) → Decides a P → Decides b P → a ≡ b
+decides_same true b f g = sym (g.1 (f.0 refl))
+decides_same false true f g = f.1 (g.0 refl)
+decides_same false false f g = refl
 
 -- ---- elements that are being compared
 
 -- those before place i are the same
 pub record IsComparing (items others : List Item) (i : ℕ) : Type 0 where
   pub lengths : length items ≡ length others
-  pub goes : views (drop i items) ≡ views (drop i others) → views items ≡ views others
+  pub proceeds : views (drop i items) ≡ views (drop i others) → views items ≡ views others
   pub back : views items ≡ views others → views (drop i items) ≡ views (drop i others)
 
 pub starts_comparing : (items others : List Item) → length items ≡ length others → IsComparing items others 0
-starts_comparing items others lengths = record { lengths = lengths; goes = λ e. e; back = λ e. e }
+starts_comparing items others lengths = record { lengths = lengths; proceeds = λ e. e; back = λ e. e }
 
 both : (v w : Value) (es fs : Elements) → element v es ≡ element w fs → (v ≡ w) × (es ≡ fs)
 both v w es fs e = (cc, cc)
@@ -46,13 +46,13 @@ both v w es fs e = (cc, cc)
 made : (v w : Value) (es fs : Elements) → v ≡ w → es ≡ fs → element v es ≡ element w fs
 made v w es fs e f = cc
 
-pub goes_on_comparing : (items others : List Item) (i : ℕ) (x y : Item) → i < length items → x ≡ get_or items i x → y ≡ get_or others i y → view x ≡ view y → IsComparing items others i → IsComparing items others (i + 1)
-goes_on_comparing items others i x y lt x_is y_is same c =
+pub continues_comparing : (items others : List Item) (i : ℕ) (x y : Item) → i < length items → x ≡ get_or items i x → y ≡ get_or others i y → view x ≡ view y → IsComparing items others i → IsComparing items others (i + 1)
+continues_comparing items others i x y lt x_is y_is same c =
     let a = views_from items i x lt x_is in
     let b = views_from others i y (omega (arith, c.lengths)) y_is in
     record {
       lengths = c.lengths;
-      goes = λ e. c.goes (a ∙ made (view x) (view y) (views (drop (i + 1) items)) (views (drop (i + 1) others)) same e ∙ sym b);
+      proceeds = λ e. c.proceeds (a ∙ made (view x) (view y) (views (drop (i + 1) items)) (views (drop (i + 1) others)) same e ∙ sym b);
       back = λ e. (both (view x) (view y) (views (drop (i + 1) items)) (views (drop (i + 1) others)) (sym a ∙ c.back e ∙ b)).1;
     }
 
@@ -66,4 +66,4 @@ differs items others i x y lt x_is y_is other c e =
 -- all are the same
 pub ends_comparing : (items others : List Item) (i : ℕ) → length items ≤ i → IsComparing items others i → views items ≡ views others
 ends_comparing items others i le c =
-    c.goes (views_done items i le ∙ sym (views_done others i (omega (arith, c.lengths))))
+    c.proceeds (views_done items i le ∙ sym (views_done others i (omega (arith, c.lengths))))

@@ -10,7 +10,7 @@ use Rattle.secs_item.specs.declared.format.Format.{Format}
 use Rattle.secs_item.specs.declared.format.Format.TheVariants as format
 use Rattle.secs_item.specs.Format.{code_of, all_formats, format_among, format_with_code, is_list, value_size}
 use Rattle.secs_item.specs.Header.{Reason, no_length, deep, ragged, truncated, Head, checked_body, with_format, header_at}
-use Rattle.secs_item.specs.Spelling.{IsOctets, header}
+use Rattle.secs_item.specs.Encoding.{IsOctets, header}
 use Rattle.secs_item.proofs.Octets.{IsOctets-take, IsOctets-tail, big_bytes-big_number}
 
 -- ---- tests that did not fail
@@ -89,9 +89,9 @@ not_deep false depth e f = absurd cc
 not_deep true zero e f = absurd cc
 not_deep true (suc depth) e f = omega arith
 
-spelled_header : (first : ℕ) (rest : List ℕ) (f : Format) (field : ℕ) → field ≡ first % 4 → code_of f ≡ first / 4 → field ≤ length rest → IsOctets rest
+encoded_header : (first : ℕ) (rest : List ℕ) (f : Format) (field : ℕ) → field ≡ first % 4 → code_of f ≡ first / 4 → field ≤ length rest → IsOctets rest
     → first ∷ rest ≡ header f field (big_number field rest) ++ drop (1 + field) (first ∷ rest)
-spelled_header first rest f field low code long h =
+encoded_header first rest f field low code long h =
     let front : 4 * code_of f + field ≡ first = omega (arith, low, code) in
     let len : length (take field rest) ≡ field = omega (arith, length-take field rest) in
     let number : big_number field rest ≡ big_number field (take field rest) = sym (big_from-take 0 field field rest (omega arith)) in
@@ -116,7 +116,7 @@ formatted depth first rest head (Some f) code some h e =
       fits = big_from-lt 0 field rest h;
       size = refl;
       within = omega arith;
-      parts = spelled_header first rest f field refl (code_is (first / 4) f code) long h;
+      parts = encoded_header first rest f field refl (code_is (first / 4) f code) long h;
       deep_enough = not_deep (is_list f) depth a.0;
       whole = λ lists. eqb-true _ 0 (c.1 lists).0;
       body = λ lists. rw past (omega (arith, ltb-false _ _ (c.1 lists).1, length-drop field rest));

@@ -8,10 +8,10 @@ use Rattle.secs_item.specs.declared.format.Format.TheVariants as format
 use Rattle.secs_item.specs.Format.{is_list, value_size}
 use Rattle.secs_item.specs.Item.{Value, list, values, Elements, no_elements, element, count, nest, nest_of_elements}
 use Rattle.secs_item.specs.Header.{Reason, Head, header_at}
-use Rattle.secs_item.specs.Spelling.{IsOctets, header, Spells, AllSpelled}
-use Rattle.secs_item.specs.Reading.{Fault, ◌>>=◌, behind, values_of, elements_by, item_by, item_at}
+use Rattle.secs_item.specs.Encoding.{IsOctets, header, EncodesTo, AllEncoded}
+use Rattle.secs_item.specs.Decoding.{Fault, ◌>>=◌, subsequent, values_of, elements_by, item_by, item_at}
 use Rattle.secs_item.proofs.Octets.{IsOctets-drop, IsOctets-rest, IsOctets-take}
-use Rattle.secs_item.proofs.Bodies.{body_spelled}
+use Rattle.secs_item.proofs.Bodies.{body_encoded}
 use Rattle.secs_item.proofs.Headers.{IsHeader, header_is}
 
 -- ---- steps that did not fail
@@ -20,26 +20,26 @@ pub bind_ok : {A B : Type 0} (r : Result A Fault) (f : A → Result B Fault) (y 
 bind_ok (Ok x) f y e = (x, refl, e)
 bind_ok (Err d) f y e = absurd cc
 
-pub behind_ok : {A : Type 0} (size : ℕ) (r : Result A Fault) (y : A) → behind size r ≡ Ok y → r ≡ Ok y
-behind_ok size (Ok x) y e = e
-behind_ok size (Err d) y e = absurd cc
+pub subsequent_ok : {A : Type 0} (size : ℕ) (r : Result A Fault) (y : A) → subsequent size r ≡ Ok y → r ≡ Ok y
+subsequent_ok size (Ok x) y e = e
+subsequent_ok size (Err d) y e = absurd cc
 
 -- ---- what was read from the front
 
 pub record IsItem (depth : ℕ) (octets : List ℕ) (v : Value) (n : ℕ) : Type 0 where
-  pub spelled : List ℕ
+  pub encoded_bytes : List ℕ
   pub rest : List ℕ
-  pub parts : octets ≡ spelled ++ rest
-  pub length_is : length spelled ≡ n
-  pub spells : Spells v spelled
+  pub parts : octets ≡ encoded_bytes ++ rest
+  pub length_is : length encoded_bytes ≡ n
+  pub encodes_to : EncodesTo v encoded_bytes
   pub nesting : nest v ≤ depth
 
 pub record AreElements (depth number : ℕ) (octets : List ℕ) (es : Elements) (n : ℕ) : Type 0 where
-  pub spelled : List ℕ
+  pub encoded_bytes : List ℕ
   pub rest : List ℕ
-  pub parts : octets ≡ spelled ++ rest
-  pub length_is : length spelled ≡ n
-  pub spells : AllSpelled es spelled
+  pub parts : octets ≡ encoded_bytes ++ rest
+  pub length_is : length encoded_bytes ≡ n
+  pub encodes_to : AllEncoded es encoded_bytes
   pub count_is : count es ≡ number
   pub nesting : nest_of_elements es ≤ depth
 
@@ -53,21 +53,21 @@ elements_found : (depth : ℕ) (one : List ℕ → Result (Value × ℕ) Fault) 
 unfolding elements_by
 elements_found depth one found zero octets x h e =
     let made : ◌≡◌ {A = Elements × ℕ} (no_elements, 0) x = cc in
-    subst (λ (y : Elements × ℕ). AreElements depth 0 octets y.0 y.1) made (record { spelled = []; rest = octets; parts = refl; length_is = refl; spells = refl; count_is = refl; nesting = omega arith })
+    subst (λ (y : Elements × ℕ). AreElements depth 0 octets y.0 y.1) made (record { encoded_bytes = []; rest = octets; parts = refl; length_is = refl; encodes_to = refl; count_is = refl; nesting = omega arith })
 elements_found depth one found (suc number) octets x h e =
-    let a = bind_ok (one octets) (λ first. behind first.1 (elements_by one number (drop first.1 octets)) >>= λ others. Ok (element first.0 others.0, first.1 + others.1)) x e in
+    let a = bind_ok (one octets) (λ first. subsequent first.1 (elements_by one number (drop first.1 octets)) >>= λ others. Ok (element first.0 others.0, first.1 + others.1)) x e in
     let first = found octets a.0 h a.1 in
-    let past : drop a.0.1 octets ≡ first.rest = ap (λ (o : List ℕ). drop a.0.1 o) first.parts ∙ drop_at first.spelled first.rest a.0.1 first.length_is in
-    let b = bind_ok (behind a.0.1 (elements_by one number (drop a.0.1 octets))) (λ others. Ok (element a.0.0 others.0, a.0.1 + others.1)) x a.2 in
-    let read : elements_by one number first.rest ≡ Ok b.0 = ap (elements_by one number) (sym past) ∙ behind_ok a.0.1 _ b.0 b.1 in
-    let others = elements_found depth one found number first.rest b.0 (IsOctets-rest octets first.spelled first.rest first.parts h) read in
+    let past : drop a.0.1 octets ≡ first.rest = ap (λ (o : List ℕ). drop a.0.1 o) first.parts ∙ drop_at first.encoded_bytes first.rest a.0.1 first.length_is in
+    let b = bind_ok (subsequent a.0.1 (elements_by one number (drop a.0.1 octets))) (λ others. Ok (element a.0.0 others.0, a.0.1 + others.1)) x a.2 in
+    let read : elements_by one number first.rest ≡ Ok b.0 = ap (elements_by one number) (sym past) ∙ subsequent_ok a.0.1 _ b.0 b.1 in
+    let others = elements_found depth one found number first.rest b.0 (IsOctets-rest octets first.encoded_bytes first.rest first.parts h) read in
     let made : ◌≡◌ {A = Elements × ℕ} (element a.0.0 b.0.0, a.0.1 + b.0.1) x = cc in
     subst (λ (y : Elements × ℕ). AreElements depth (suc number) octets y.0 y.1) made (record {
-      spelled = first.spelled ++ others.spelled;
+      encoded_bytes = first.encoded_bytes ++ others.encoded_bytes;
       rest = others.rest;
-      parts = first.parts ∙ ap (λ (o : List ℕ). first.spelled ++ o) others.parts ∙ sym (append_assoc first.spelled others.spelled others.rest);
-      length_is = length-append first.spelled others.spelled ∙ omega (arith, first.length_is, others.length_is);
-      spells = (first.spelled, others.spelled, first.spells, others.spells, refl);
+      parts = first.parts ∙ ap (λ (o : List ℕ). first.encoded_bytes ++ o) others.parts ∙ sym (append_assoc first.encoded_bytes others.encoded_bytes others.rest);
+      length_is = length-append first.encoded_bytes others.encoded_bytes ∙ omega (arith, first.length_is, others.length_is);
+      encodes_to = (first.encoded_bytes, others.encoded_bytes, first.encodes_to, others.encodes_to, refl);
       count_is = ap suc others.count_is;
       nesting = omega (arith, first.nesting, others.nesting);
     })
@@ -79,11 +79,11 @@ framed_length f field number body = omega (arith, length-append (big_bytes field
 list_found : (depth : ℕ) (octets : List ℕ) (head : Head) (y : Elements × ℕ) → IsHeader depth octets head → is_list head.format ≡ true → head.format ≡ format.List
     → AreElements (depth - 1) head.length (drop head.size octets) y.0 y.1 → IsItem depth octets (list y.0) (head.size + y.1)
 list_found depth octets head y is lists of_list found = record {
-  spelled = header format.List is.field head.length ++ found.spelled;
+  encoded_bytes = header format.List is.field head.length ++ found.encoded_bytes;
   rest = found.rest;
-  parts = is.parts ∙ ap (λ (f : Format). header f is.field head.length ++ drop head.size octets) of_list ∙ ap (λ (o : List ℕ). header format.List is.field head.length ++ o) found.parts ∙ sym (append_assoc (header format.List is.field head.length) found.spelled found.rest);
-  length_is = framed_length format.List is.field head.length found.spelled ∙ omega (arith, is.size, found.length_is);
-  spells = (found.spelled, found.spells, record { field = is.field; one_at_least = is.one_at_least; three_at_most = is.three_at_most; fits = rw found.count_is is.fits; parts = rw found.count_is refl });
+  parts = is.parts ∙ ap (λ (f : Format). header f is.field head.length ++ drop head.size octets) of_list ∙ ap (λ (o : List ℕ). header format.List is.field head.length ++ o) found.parts ∙ sym (append_assoc (header format.List is.field head.length) found.encoded_bytes found.rest);
+  length_is = framed_length format.List is.field head.length found.encoded_bytes ∙ omega (arith, is.size, found.length_is);
+  encodes_to = (found.encoded_bytes, found.encodes_to, record { field = is.field; one_at_least = is.one_at_least; three_at_most = is.three_at_most; fits = rw found.count_is is.fits; parts = rw found.count_is refl });
   nesting = let some = is.deep_enough lists in omega (arith, found.nesting, some);
 }
 
@@ -93,13 +93,13 @@ values_found depth octets head h is lists =
     let left = drop head.size octets in
     let body = take head.length left in
     let len : length body ≡ head.length = omega (arith, length-take head.length left, is.body lists) in
-    let p = body_spelled head.format body lists (ap (λ (n : ℕ). n % value_size head.format) len ∙ is.whole lists) (IsOctets-take head.length left (IsOctets-drop head.size octets h)) in
+    let p = body_encoded head.format body lists (ap (λ (n : ℕ). n % value_size head.format) len ∙ is.whole lists) (IsOctets-take head.length left (IsOctets-drop head.size octets h)) in
     record {
-      spelled = header head.format is.field head.length ++ body;
+      encoded_bytes = header head.format is.field head.length ++ body;
       rest = drop head.length left;
       parts = is.parts ∙ ap (λ (o : List ℕ). header head.format is.field head.length ++ o) (sym (take-append-drop head.length left)) ∙ sym (append_assoc (header head.format is.field head.length) body (drop head.length left));
       length_is = framed_length head.format is.field head.length body ∙ omega (arith, is.size, len);
-      spells = (body, p.0, record { field = is.field; one_at_least = is.one_at_least; three_at_most = is.three_at_most; fits = rw len is.fits; parts = rw (p.1, len) refl });
+      encodes_to = (body, p.0, record { field = is.field; one_at_least = is.one_at_least; three_at_most = is.three_at_most; fits = rw len is.fits; parts = rw (p.1, len) refl });
       nesting = omega arith;
     }
 
@@ -132,8 +132,8 @@ by_found depth inner found octets x (Ok head) h is e = by_kind (is_list head.for
 
     by_kind : (b : Bool) → is_list head.format ≡ b → IsItem depth octets x.0 x.1
     by_kind true lists =
-        let a = bind_ok (behind head.size (inner head.length (drop head.size octets))) (λ y. Ok (list y.0, head.size + y.1)) x (rw lists at e) in
-        let read = behind_ok head.size (inner head.length (drop head.size octets)) a.0 a.1 in
+        let a = bind_ok (subsequent head.size (inner head.length (drop head.size octets))) (λ y. Ok (list y.0, head.size + y.1)) x (rw lists at e) in
+        let read = subsequent_ok head.size (inner head.length (drop head.size octets)) a.0 a.1 in
         let made : ◌≡◌ {A = Value × ℕ} (list a.0.0, head.size + a.0.1) x = cc in
         subst (λ (y : Value × ℕ). IsItem depth octets y.0 y.1) made
         (list_found depth octets head a.0 known lists (is_format_list head.format lists) (found (known.deep_enough lists) head.length (drop head.size octets) a.0 (IsOctets-drop head.size octets h) read))

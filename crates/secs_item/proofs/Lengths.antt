@@ -7,24 +7,24 @@ use Rattle.secs_item.specs.declared.header.Header.{Header}
 use Rattle.secs_item.specs.Format.{is_list}
 use Rattle.secs_item.specs.Header.{Reason, Head, header_at}
 use Rattle.secs_item.specs.Item.{Value, Elements, no_elements, list, values, element}
-use Rattle.secs_item.specs.Reading.{Fault, ◌>>=◌, behind, values_of, elements_by, item_by, item_at}
+use Rattle.secs_item.specs.Decoding.{Fault, ◌>>=◌, subsequent, values_of, elements_by, item_by, item_at}
 use Rattle.secs_item.specs.Measure.{header_from, end_from, EndsAt}
 use Rattle.secs_item.specs.Fault.{fault_at}
 
 -- ---- elements
 
 -- an element, and what is read behind it
-behind_element : (place size : ℕ) (v : Value) (others : Result (Elements × ℕ) Fault)
-    → end_from place (behind size others >>= λ o. Ok (element v o.0, size + o.1)) ≡ end_from (place + size) others
-behind_element place size v (Ok o) = ap (λ (n : ℕ). Ok n) (sym (add_assoc place size o.1))
-behind_element place size v (Err f) = ap (λ (n : ℕ). Err (fault_at n f.reason)) (sym (add_assoc place size f.at))
+subsequent_element : (place size : ℕ) (v : Value) (others : Result (Elements × ℕ) Fault)
+    → end_from place (subsequent size others >>= λ o. Ok (element v o.0, size + o.1)) ≡ end_from (place + size) others
+subsequent_element place size v (Ok o) = ap (λ (n : ℕ). Ok n) (sym (add_assoc place size o.1))
+subsequent_element place size v (Err f) = ap (λ (n : ℕ). Err (fault_at n f.reason)) (sym (add_assoc place size f.at))
 
 pub first_is : (one : List ℕ → Result (Value × ℕ) Fault) (place n : ℕ) (octets : List ℕ) (r : Result (Value × ℕ) Fault) (end : ℕ) → Ok end ≡ end_from place r → one (drop place octets) ≡ r
     → end_from place (elements_by one (suc n) (drop place octets)) ≡ end_from end (elements_by one n (drop end octets))
 unfolding elements_by
 first_is one place n octets (Ok x) end ended is =
     let end_is : end ≡ place + x.1 = cc in
-    rw (is, end_is) (behind_element place x.1 x.0 (elements_by one n (drop x.1 (drop place octets)))
+    rw (is, end_is) (subsequent_element place x.1 x.0 (elements_by one n (drop x.1 (drop place octets)))
     ∙ ap (λ (o : List ℕ). end_from (place + x.1) (elements_by one n o)) (drop-drop x.1 place octets))
 first_is one place n octets (Err f) end ended is = absurd cc
 
@@ -67,7 +67,7 @@ list_by inner place octets head lists =
     let moved : drop head.size (drop place octets) ≡ drop (place + head.size) octets = drop-drop head.size place octets in
     rw (lists, moved) (list_from place head.size (inner head.length (drop (place + head.size) octets)))
   where
-    list_from : (place size : ℕ) (r : Result (Elements × ℕ) Fault) → end_from place (behind size r >>= λ x. Ok (list x.0, size + x.1)) ≡ end_from (place + size) r
+    list_from : (place size : ℕ) (r : Result (Elements × ℕ) Fault) → end_from place (subsequent size r >>= λ x. Ok (list x.0, size + x.1)) ≡ end_from (place + size) r
     list_from place size (Ok x) = ap (λ (n : ℕ). Ok n) (sym (add_assoc place size x.1))
     list_from place size (Err f) = ap (λ (n : ℕ). Err (fault_at n f.reason)) (sym (add_assoc place size f.at))
 
@@ -150,7 +150,7 @@ pub header_measured : (place depth : ℕ) (octets : List ℕ) (e : ItemFault) �
 header_measured place depth octets e is h = measured_not (item_at depth (drop place octets)) place e (item_fails place depth octets e is) h
 
 abbrev in_list : ℕ → Result (Elements × ℕ) Fault → Result (Value × ℕ) Fault
-in_list size r = behind size r >>= λ x. Ok (list x.0, size + x.1)
+in_list size r = subsequent size r >>= λ x. Ok (list x.0, size + x.1)
 
 elements_ok : (size : ℕ) (r : Result (Elements × ℕ) Fault) → IsOk (in_list size r) → IsOk r
 elements_ok size (Ok x) h = refl

@@ -3,13 +3,13 @@ pub mod Codecs
 pub mod Bodies
 pub mod Headers
 pub mod Items
-pub mod Again
+pub mod Determinism
 pub mod Faults
-pub mod Fronts
+pub mod Prefixes
 pub mod Views
 pub mod Variants
 pub mod Equals
-pub mod Shorts
+pub mod ShortestEncodings
 pub mod Building
 pub mod Lengths
 pub mod Uniqueness

@@ -6,14 +6,14 @@ use Rattle.std.proofs.lemmas.Nat.{same_from_place}
 use Rattle.std.specs.Int.{byte_at}
 use Rattle.byteorder.specs.Endian.{big_bytes, big_number}
 use Rattle.byteorder.specs.Numbers.{big_from-cons, big_from-lt, big_number-reads_back, length-bytes_high_first}
-use Rattle.secs_item.specs.Spelling.{IsOctets}
+use Rattle.secs_item.specs.Encoding.{IsOctets}
 
 pub IsOctets-drop : (n : ℕ) (octets : List ℕ) → IsOctets octets → IsOctets (drop n octets)
 IsOctets-drop n octets h i = rw get_or-drop (h (n + i))
 
-pub IsOctets-rest : (octets spelled rest : List ℕ) → octets ≡ spelled ++ rest → IsOctets octets → IsOctets rest
-IsOctets-rest octets spelled rest parts h =
-    subst IsOctets (ap (λ (o : List ℕ). drop (length spelled) o) parts ∙ drop_at spelled rest (length spelled) refl) (IsOctets-drop (length spelled) octets h)
+pub IsOctets-rest : (octets encoded_bytes rest : List ℕ) → octets ≡ encoded_bytes ++ rest → IsOctets octets → IsOctets rest
+IsOctets-rest octets encoded_bytes rest parts h =
+    subst IsOctets (ap (λ (o : List ℕ). drop (length encoded_bytes) o) parts ∙ drop_at encoded_bytes rest (length encoded_bytes) refl) (IsOctets-drop (length encoded_bytes) octets h)
 
 pub IsOctets-take : (n : ℕ) (octets : List ℕ) → IsOctets octets → IsOctets (take n octets)
 IsOctets-take n octets h i =

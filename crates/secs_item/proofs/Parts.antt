@@ -5,9 +5,9 @@ use Rattle.std.proofs.lemmas.Bool.{eqb-true, le-ltb, ne_eqb, eq-eqb, agree_below
 use Rattle.std.proofs.lemmas.List.{drop_more, length-drop}
 use Rattle.std.proofs.lemmas.Nat.{and_mask}
 use Rattle.byteorder.specs.Endian.{big_number}
-use Rattle.secs_item.specs.declared.part.TheConstants.{MASKS}
+use Rattle.secs_item.specs.declared.measure_step.TheConstants.{MASKS}
 use Rattle.secs_item.specs.declared.fault.ItemFault.{ItemFault}
-use Rattle.secs_item.specs.declared.part.Part.{Part}
+use Rattle.secs_item.specs.declared.measure_step.Part.{Part}
 use Rattle.secs_item.specs.declared.format.Format.{Format}
 use Rattle.secs_item.specs.declared.format.Format.TheVariants as format
 use Rattle.secs_item.specs.Format.{format_with_code, is_list, value_size}

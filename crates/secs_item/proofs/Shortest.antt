@@ -10,9 +10,9 @@ use Rattle.secs_item.specs.declared.format.Format.{Format}
 use Rattle.secs_item.specs.declared.format.Format.TheVariants as format
 use Rattle.secs_item.specs.Format.{value_size}
 use Rattle.secs_item.specs.Item.{Value, list, values, Values, binary, boolean, ascii, jis8, char2, i8, i1, i2, i4, f8, f4, u8, u1, u2, u4, Elements, no_elements, element, count, ValuesInRange, InRange, ElementsInRange, format_of_values, count_of_values}
-use Rattle.secs_item.specs.Spelling.{IsOctets, InOrder, Octet, Truth, Signed, Unsigned, Unread, Body, header, Framed, Spells, AllSpelled}
-use Rattle.secs_item.specs.Short.{short_body, field_of, framed, short, short_elements}
-use Rattle.secs_item.specs.Reading.{octet, truth, signed, unread}
+use Rattle.secs_item.specs.Encoding.{IsOctets, InOrder, Octet, Truth, Signed, Unsigned, Unread, Body, header, Framed, EncodesTo, AllEncoded}
+use Rattle.secs_item.specs.ShortestEncoding.{short_body, field_of, framed, short, short_elements}
+use Rattle.secs_item.specs.Decoding.{octet, truth, signed, unread}
 use Rattle.byteorder.specs.Endian.{big_number}
 use Rattle.secs_item.proofs.Codecs.{octets_codec, truth_codec, signed_codec, unsigned_codec, unread_codec}
 use Rattle.secs_item.proofs.Bodies.{in_order_length}
@@ -51,13 +51,13 @@ body_in_range (u2 xs) octets h = all_in_order (λ n octets one. one.0) xs octets
 body_in_range (u4 xs) octets h = all_in_order (λ n octets one. one.0) xs octets h
 
 mutual
-  pub spelled_in_range : (v : Value) (octets : List ℕ) → Spells v octets → InRange v
-  spelled_in_range (list es) octets h = elements_in_range es h.0 h.1
-  spelled_in_range (values v) octets h = body_in_range v h.0 h.1
+  pub encoded_in_range : (v : Value) (octets : List ℕ) → EncodesTo v octets → InRange v
+  encoded_in_range (list es) octets h = elements_in_range es h.0 h.1
+  encoded_in_range (values v) octets h = body_in_range v h.0 h.1
 
-  elements_in_range : (es : Elements) (octets : List ℕ) → AllSpelled es octets → ElementsInRange es
+  elements_in_range : (es : Elements) (octets : List ℕ) → AllEncoded es octets → ElementsInRange es
   elements_in_range no_elements octets h = tt
-  elements_in_range (element v es) octets h = (spelled_in_range v h.0 h.2, elements_in_range es h.1 h.3)
+  elements_in_range (element v es) octets h = (encoded_in_range v h.0 h.2, elements_in_range es h.1 h.3)
 
 -- ---- the body of values has one length
 
@@ -112,7 +112,7 @@ framed_shorter f number body octets least framed le = (
 )
 
 mutual
-  pub none_shorter : (v : Value) (octets : List ℕ) → Spells v octets → (least : List ℕ) × (short v ≡ Some least) × (length least ≤ length octets)
+  pub none_shorter : (v : Value) (octets : List ℕ) → EncodesTo v octets → (least : List ℕ) × (short v ≡ Some least) × (length least ≤ length octets)
   none_shorter (list es) octets h =
       let inner = elements_shorter es h.0 h.1 in
       let outer = framed_shorter format.List (count es) h.0 octets inner.0 h.2 inner.2 in
@@ -124,7 +124,7 @@ mutual
       let outer = framed_shorter (format_of_values v) (length h.0) h.0 octets (short_body v) h.2 (omega (arith, least, number)) in
       (outer.0, ap (λ n. framed (format_of_values v) n (short_body v)) (sym number) ∙ outer.1, outer.2)
 
-  elements_shorter : (es : Elements) (octets : List ℕ) → AllSpelled es octets → (least : List ℕ) × (short_elements es ≡ Some least) × (length least ≤ length octets)
+  elements_shorter : (es : Elements) (octets : List ℕ) → AllEncoded es octets → (least : List ℕ) × (short_elements es ≡ Some least) × (length least ≤ length octets)
   elements_shorter no_elements octets h = ([], refl, omega arith)
   elements_shorter (element v es) octets h =
       let first = none_shorter v h.0 h.2 in

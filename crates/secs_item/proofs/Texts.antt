@@ -5,9 +5,9 @@ use Rattle.std.proofs.lemmas.Bool.{cases_lt}
 use Rattle.std.proofs.lemmas.List.{nil_from_length}
 use Rattle.secs_item.specs.Item.{Value}
 use Rattle.secs_item.specs.Header.{Reason, trailing}
-use Rattle.secs_item.specs.Spelling.{IsOctets, IsAtFront, IsTextOf}
+use Rattle.secs_item.specs.Encoding.{IsOctets, IsAtFront, IsTextOf}
 use Rattle.secs_item.specs.Fault.{Faults, TextFaults}
-use Rattle.secs_item.proofs.Fronts.{front_one, whole_front, front_whole, text_item, text_none, has_trailing, trailing_front, trailing_within}
+use Rattle.secs_item.proofs.Prefixes.{front_one, whole_front, front_whole, text_item, text_none, has_trailing, trailing_front, trailing_within}
 use Rattle.secs_item.proofs.Uniqueness.{some_answer, one_fault_of, not_both_of}
 
 TextAnswer : ℕ → List ℕ → Type 0

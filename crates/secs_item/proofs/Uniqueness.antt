@@ -13,21 +13,21 @@ use Rattle.secs_item.specs.declared.format.Format.TheVariants as format
 use Rattle.secs_item.specs.Format.{value_size}
 use Rattle.secs_item.specs.Item.{Value, list, values, Values, binary, boolean, ascii, jis8, char2, i1, i2, i4, i8, u1, u2, u4, u8, f4, f8, Elements, no_elements, element, count, nest, ValuesInRange, InRange, ElementsInRange, count_of_values, format_of_values}
 use Rattle.secs_item.specs.Header.{Reason}
-use Rattle.secs_item.specs.Spelling.{IsOctets, InOrder, Octet, Truth, Signed, Unsigned, Unread, Body, header, Framed, Spells, AllSpelled, IsAtFront}
-use Rattle.secs_item.specs.Short.{octet_alone, octet_of_truth, octets_of_signed, unread, short_body, field_of, framed, short, short_elements}
+use Rattle.secs_item.specs.Encoding.{IsOctets, InOrder, Octet, Truth, Signed, Unsigned, Unread, Body, header, Framed, EncodesTo, AllEncoded, IsAtFront}
+use Rattle.secs_item.specs.ShortestEncoding.{octet_alone, octet_of_truth, octets_of_signed, unread, short_body, field_of, framed, short, short_elements}
 use Rattle.secs_item.specs.Fault.{Faults}
-use Rattle.secs_item.specs.Reading.{Fault, item_at, octet, truth, signed, unread as unread_of}
+use Rattle.secs_item.specs.Decoding.{Fault, item_at, octet, truth, signed, unread as unread_of}
 use Rattle.secs_item.proofs.Octets.{IsOctets-nil, IsOctets-cons}
 use Rattle.secs_item.proofs.Codecs.{IsCodec, octets_codec, truth_codec, signed_codec, unsigned_codec, unread_codec}
 use Rattle.secs_item.proofs.Bodies.{in_order_length}
-use Rattle.secs_item.proofs.Again.{item_reads}
+use Rattle.secs_item.proofs.Determinism.{item_reads}
 use Rattle.secs_item.proofs.Faults.{fault, fault_found, fault_read}
-use Rattle.secs_item.proofs.Shorts.{both_short}
-use Rattle.secs_item.proofs.Fronts.{front_found, front_read}
+use Rattle.secs_item.proofs.ShortestEncodings.{both_short}
+use Rattle.secs_item.proofs.Prefixes.{front_found, front_read}
 
 -- ---- one spelling
 
-pub same_front : (v w : Value) (a b x y : List ℕ) → Spells v a → Spells w b → a ++ x ≡ b ++ y → (v ≡ w) × (a ≡ b)
+pub same_front : (v w : Value) (a b x y : List ℕ) → EncodesTo v a → EncodesTo w b → a ++ x ≡ b ++ y → (v ≡ w) × (a ≡ b)
 same_front v w a b x y sv sw e =
     let depth = max (nest v) (nest w) in
     let same : ◌≡◌ {A = Result (Value × ℕ) Fault} (Ok (v, length a)) (Ok (w, length b)) =
@@ -85,8 +85,8 @@ in_order One octets_of Fits fits (x ∷ xs) h = (octets_of x, flat_map octets_of
 short_values : {X : Type 0} (One : X → List ℕ → Type 0) (size : ℕ) (read : List ℕ → X) (octets_of : X → List ℕ) (Fits : X → Type 0) → IsCodec One size read → ((x : X) → Fits x → One x (octets_of x)) → (xs : List X) → AllByRecursion Fits xs
     → InOrder One xs (flat_map octets_of xs) × (size * length xs ≡ length (flat_map octets_of xs))
 short_values One size read octets_of Fits codec fits xs h =
-    let spelled = in_order One octets_of Fits fits xs h in
-    (spelled, mul_comm size (length xs) ∙ sym (in_order_length One size read codec xs (flat_map octets_of xs) spelled))
+    let encoded_bytes = in_order One octets_of Fits fits xs h in
+    (encoded_bytes, mul_comm size (length xs) ∙ sym (in_order_length One size read codec xs (flat_map octets_of xs) encoded_bytes))
 
 pub body_short : (v : Values) → ValuesInRange v → Body v (short_body v) × (value_size (format_of_values v) * count_of_values v ≡ length (short_body v))
 body_short (binary xs) h = short_values Octet 1 octet octet_alone (λ n. n < 256) octets_codec octet_fits xs h
@@ -130,23 +130,23 @@ then_some f None y e = absurd cc
 then_some f (Some x) y e = (x, refl, e)
 
 mutual
-  pub short_spells : (v : Value) (octets : List ℕ) → InRange v → short v ≡ Some octets → Spells v octets
-  short_spells (list es) octets h e =
+  pub short_encodes : (v : Value) (octets : List ℕ) → InRange v → short v ≡ Some octets → EncodesTo v octets
+  short_encodes (list es) octets h e =
       let p = then_some (λ body. framed format.List (count es) body) (short_elements es) octets e in
-      (p.0, elements_spell es p.0 h p.1, framed_by format.List (count es) p.0 octets p.2)
-  short_spells (values v) octets h e =
+      (p.0, elements_encode es p.0 h p.1, framed_by format.List (count es) p.0 octets p.2)
+  short_encodes (values v) octets h e =
       let p = body_short v h in
       (short_body v, p.0, framed_by (format_of_values v) (length (short_body v)) (short_body v) octets (ap (λ (n : ℕ). framed (format_of_values v) n (short_body v)) (sym p.1) ∙ e))
 
-  pub elements_spell : (es : Elements) (octets : List ℕ) → ElementsInRange es → short_elements es ≡ Some octets → AllSpelled es octets
-  elements_spell no_elements octets h e = sym cc
-  elements_spell (element v es) octets h e =
+  pub elements_encode : (es : Elements) (octets : List ℕ) → ElementsInRange es → short_elements es ≡ Some octets → AllEncoded es octets
+  elements_encode no_elements octets h e = sym cc
+  elements_encode (element v es) octets h e =
       let p = both_short (short v) (short_elements es) octets e in
-      (p.0, p.1, short_spells v p.0 h.0 p.2, elements_spell es p.1 h.1 p.3, p.4)
+      (p.0, p.1, short_encodes v p.0 h.0 p.2, elements_encode es p.1 h.1 p.3, p.4)
 
 pub short_front : (v : Value) (octets rest : List ℕ) (depth : ℕ) → InRange v → short v ≡ Some octets → nest v ≤ depth → IsAtFront depth (octets ++ rest) v (length octets)
 short_front v octets rest depth h e deep = record {
   within = omega (arith, length-append octets rest);
-  spells = rw (take_at octets rest (length octets) refl) (short_spells v octets h e);
+  encodes_to = rw (take_at octets rest (length octets) refl) (short_encodes v octets h e);
   nesting = deep;
 }

@@ -4,8 +4,8 @@ use Rattle.std.specs.Prelude.{◌≡◌, ◌<◌, ◌^◌, ℕ, ℤ, Bool, List,
 use Rattle.std.specs.Int.{Width, byte_len}
 use Rattle.std.specs.List.{AllByRecursion}
 use Rattle.byteorder.specs.Endian.{big_bytes, big_number}
-use Rattle.secs_item.specs.Reading.{truth, signed}
-use Rattle.secs_item.specs.Short.{octet_of_truth, octets_of_signed}
+use Rattle.secs_item.specs.Decoding.{truth, signed}
+use Rattle.secs_item.specs.ShortestEncoding.{octet_of_truth, octets_of_signed}
 
 pub record Codec (X : Type 0) : Type 1 where
   pub size : ℕ

@@ -5,7 +5,7 @@ use Rattle.secs_item.specs.Format.{is_list}
 use Rattle.secs_item.specs.declared.fault.ItemFault.{ItemFault}
 use Rattle.secs_item.specs.declared.fault.ItemFault.TheVariants as fault
 use Rattle.secs_item.specs.Header.{Reason, no_length, bad_format, deep, ragged, truncated, trailing, Head, header_at}
-use Rattle.secs_item.specs.Spelling.{Spells, AllSpelled}
+use Rattle.secs_item.specs.Encoding.{EncodesTo, AllEncoded}
 
 -- The front is the header of a list. Some of its elements are there, and the next one is at fault.
 pub record FaultsInElement (InElement : List ℕ → ℕ → Reason → Type 0) (depth : ℕ) (octets : List ℕ) (at : ℕ) (reason : Reason) : Type 0 where
@@ -15,12 +15,12 @@ pub record FaultsInElement (InElement : List ℕ → ℕ → Reason → Type 0) 
   pub before : Elements
   pub fewer : count before < head.length
   pub nesting : nest_of_elements before ≤ depth
-  pub spelled : List ℕ
-  pub spells : AllSpelled before spelled
+  pub encoded_bytes : List ℕ
+  pub encodes_to : AllEncoded before encoded_bytes
   pub rest : List ℕ
-  pub parts : drop head.size octets ≡ spelled ++ rest
+  pub parts : drop head.size octets ≡ encoded_bytes ++ rest
   pub at_in_element : ℕ
-  pub place : at ≡ head.size + length spelled + at_in_element
+  pub place : at ≡ head.size + length encoded_bytes + at_in_element
   pub fault : InElement rest at_in_element reason
 
 -- the header at the front is at fault
@@ -35,13 +35,13 @@ Faults (suc depth) octets at reason = FaultsInHeader (suc depth) octets at reaso
 -- octets follow the item at the front
 pub record HasTrailing (depth : ℕ) (octets : List ℕ) (at : ℕ) : Type 0 where
   pub value : Value
-  pub spelled : List ℕ
-  pub spells : Spells value spelled
+  pub encoded_bytes : List ℕ
+  pub encodes_to : EncodesTo value encoded_bytes
   pub nesting : nest value ≤ depth
   pub rest : List ℕ
   pub follows : 0 < length rest
-  pub parts : octets ≡ spelled ++ rest
-  pub place : at ≡ length spelled
+  pub parts : octets ≡ encoded_bytes ++ rest
+  pub place : at ≡ length encoded_bytes
 
 -- the octets are neither empty nor one item
 abbrev pub TextFaults : ℕ → List ℕ → ℕ → Reason → Type 0
@@ -57,5 +57,5 @@ fault_at at truncated = fault.Truncated at
 fault_at at trailing = fault.Trailing at
 
 -- what is told is a fault that P has
-abbrev pub IsTold : (ℕ → Reason → Type 0) → ItemFault → Type 0
-IsTold P f = (at : ℕ) × (reason : Reason) × P at reason × (f ≡ fault_at at reason)
+abbrev pub IsReported : (ℕ → Reason → Type 0) → ItemFault → Type 0
+IsReported P f = (at : ℕ) × (reason : Reason) × P at reason × (f ≡ fault_at at reason)

@@ -2,25 +2,25 @@
 use Rattle.std.specs.Prelude.{◌≡◌, ◌≤◌, ◌⊎◌, ℕ, List, ◌++◌, length, Option, Some}
 use Rattle.secs_item.specs.Item.{Value, nest, InRange}
 use Rattle.secs_item.specs.Header.{Reason}
-use Rattle.secs_item.specs.Spelling.{IsOctets, Spells, IsAtFront, IsTextOf}
-use Rattle.secs_item.specs.Short.{short}
+use Rattle.secs_item.specs.Encoding.{IsOctets, EncodesTo, IsAtFront, IsTextOf}
+use Rattle.secs_item.specs.ShortestEncoding.{short}
 use Rattle.secs_item.specs.Fault.{Faults, TextFaults}
 
 -- No spelling stands at the front of a longer one, and none spells two values.
-abbrev pub OneSpellingAtFront : Type 0
-OneSpellingAtFront = (v w : Value) (a b x y : List ℕ) → Spells v a → Spells w b → a ++ x ≡ b ++ y → (v ≡ w) × (a ≡ b)
+abbrev pub OneEncodingAtStart : Type 0
+OneEncodingAtStart = (v w : Value) (a b x y : List ℕ) → EncodesTo v a → EncodesTo w b → a ++ x ≡ b ++ y → (v ≡ w) × (a ≡ b)
 
 -- The shortest spelling is a spelling.
-abbrev pub ShortSpells : Type 0
-ShortSpells = (v : Value) (octets : List ℕ) → InRange v → short v ≡ Some octets → Spells v octets
+abbrev pub ShortEncodes : Type 0
+ShortEncodes = (v : Value) (octets : List ℕ) → InRange v → short v ≡ Some octets → EncodesTo v octets
 
 -- What has a spelling has a shortest one, and none is shorter.
 abbrev pub NoneIsShorter : Type 0
-NoneIsShorter = (v : Value) (octets : List ℕ) → Spells v octets → (least : List ℕ) × (short v ≡ Some least) × (length least ≤ length octets)
+NoneIsShorter = (v : Value) (octets : List ℕ) → EncodesTo v octets → (least : List ℕ) × (short v ≡ Some least) × (length least ≤ length octets)
 
 -- What has a spelling has its numbers in range.
-abbrev pub SpelledInRange : Type 0
-SpelledInRange = (v : Value) (octets : List ℕ) → Spells v octets → InRange v
+abbrev pub EncodedInRange : Type 0
+EncodedInRange = (v : Value) (octets : List ℕ) → EncodesTo v octets → InRange v
 
 -- The shortest spelling is read again as the value, whatever follows it.
 abbrev pub ShortIsReadAgain : Type 0

@@ -2,10 +2,10 @@ pub mod Item
 pub mod Equality
 pub mod Format
 pub mod Header
-pub mod Spelling
-pub mod Short
+pub mod Encoding
+pub mod ShortestEncoding
 pub mod Fault
-pub mod Reading
+pub mod Decoding
 pub mod Codec
 pub mod Measure
 pub mod Laws

@@ -3,11 +3,11 @@ use Rattle.std.specs.Prelude.{◌≡◌, ◌==◌, ◌≤◌, ◌<◌, ℕ, zero
 use Rattle.secs_item.specs.declared.fault.ItemFault.{ItemFault}
 use Rattle.secs_item.specs.declared.format.Format.{Format}
 use Rattle.secs_item.specs.declared.header.Header.{Header}
-use Rattle.secs_item.specs.declared.part.Part.{Part}
+use Rattle.secs_item.specs.declared.measure_step.Part.{Part}
 use Rattle.secs_item.specs.Fault.{fault_at}
 use Rattle.secs_item.specs.Format.{format_with_code, is_list, value_size}
 use Rattle.secs_item.specs.Header.{Reason, Head}
-use Rattle.secs_item.specs.Reading.{Fault, elements_by, item_at}
+use Rattle.secs_item.specs.Decoding.{Fault, elements_by, item_at}
 
 -- the header that is read at a place
 abbrev pub header_from : ℕ → Result Head Reason → Result Header ItemFault
@@ -32,7 +32,7 @@ mask_for (Some format) = if is_list format then 8 else (value_size format - 1)
 -- what is known of a part that is read at a place of so many octets
 pub record LiesIn (depth place octets : ℕ) (part : Part) : Type 0 where
   pub deep_enough : 0 < part.elements → 0 < depth
-  pub behind : place < part.end
+  pub subsequent : place < part.end
   pub within : part.end ≤ octets
 
 -- the place after what is read at a place

@@ -1,12 +1,12 @@
 //! Decoding: items from their octets.
 
 ghost use Rattle.std.specs.Prelude.{◌≡◌, ◌≤◌, ◌<◌, ◌%◌, ◌⊎◌, ℕ, false, length, drop, IfOk, IfErr, MatchResult, IsOk, Option, Some, None, Ok, [], option_map};
-ghost use Rattle.secs_item.specs.Fault.{Faults, TextFaults, IsTold, fault_at};
+ghost use Rattle.secs_item.specs.Fault.{Faults, TextFaults, IsReported, fault_at};
 ghost use Rattle.secs_item.specs.Format.{is_list, value_size};
 ghost use Rattle.secs_item.specs.Header.{Reason};
 ghost use Rattle.secs_item.specs.Measure.{EndsAt};
-ghost use Rattle.secs_item.specs.Reading.{each, octet, values_of, item_at, elements_by};
-ghost use Rattle.secs_item.specs.Spelling.{IsAtFront, IsText, IsTextOf};
+ghost use Rattle.secs_item.specs.Decoding.{each, octet, values_of, item_at, elements_by};
+ghost use Rattle.secs_item.specs.Encoding.{IsAtFront, IsText, IsTextOf};
 ghost use Rattle.secs_item.specs.Item.{Value as ItemValue, values, view, views};
 
 use crate::fault::ItemFault;
@@ -153,7 +153,7 @@ pub fn decode_front(alloc: Global, octets: &[u8], depth: u8) -> Result<(Item, us
     ensures ok { IfOk result (λ x. IsAtFront depth octets.now (view x.0) x.1) }
     ensures ok_where { (v : ItemValue) (n : ℕ) → IsAtFront depth octets.now v n
         → MatchResult result (λ x. (view x.0 ≡ v) × (x.1 ≡ n)) (λ f. f ≡ ItemFault.Memory) }
-    ensures err { IfErr result (λ f. (f ≡ ItemFault.Memory) ⊎ IsTold (Faults depth octets.now) f) }
+    ensures err { IfErr result (λ f. (f ≡ ItemFault.Memory) ⊎ IsReported (Faults depth octets.now) f) }
     ensures err_where { (at : ℕ) (reason : Reason) → Faults depth octets.now at reason
         → result ≡ Err (fault_at at reason) }
 {
@@ -174,7 +174,7 @@ pub fn decode_text(alloc: Global, octets: &[u8], depth: u8) -> Result<Option<Ite
     ensures ok { IfOk result (λ item. IsTextOf depth octets.now (option_map view item)) }
     ensures ok_where { (text : Option ItemValue) → IsTextOf depth octets.now text
         → MatchResult result (λ item. option_map view item ≡ text) (λ f. f ≡ ItemFault.Memory) }
-    ensures err { IfErr result (λ f. (f ≡ ItemFault.Memory) ⊎ IsTold (TextFaults depth octets.now) f) }
+    ensures err { IfErr result (λ f. (f ≡ ItemFault.Memory) ⊎ IsReported (TextFaults depth octets.now) f) }
     ensures err_where { (at : ℕ) (reason : Reason) → TextFaults depth octets.now at reason
         → result ≡ Err (fault_at at reason) }
 {

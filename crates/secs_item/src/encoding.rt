@@ -2,8 +2,8 @@
 
 ghost use Rattle.std.specs.Prelude.{◌≡◌, ◌<◌, ◌^◌, ◌++◌, OnOk, IfOk, IfErr, IsTrue, IsSome, IsNone, IsErrOf, Some, ◌↔◌, ◌⊎◌};
 ghost use Rattle.std.specs.List.{flat_map, AllByRecursion};
-ghost use Rattle.secs_item.specs.Short.{octet_alone, body_of, field_of, short, Appends, IsBodyOf};
-ghost use Rattle.secs_item.specs.Spelling.{header, Spells};
+ghost use Rattle.secs_item.specs.ShortestEncoding.{octet_alone, body_of, field_of, short, Appends, IsBodyOf};
+ghost use Rattle.secs_item.specs.Encoding.{header, EncodesTo};
 ghost use Rattle.secs_item.specs.Item.{view, InRange};
 
 use crate::fault::ItemFault;
@@ -74,7 +74,7 @@ fn push_body(octets: &mut Vec<u8>, item: &Item) -> Result<(), AllocError>
 }
 
 /// Whether the item has a spelling: three length octets can count each body and each list of it.
-fn has_spelling(item: &Item) -> bool
+fn has_encoding(item: &Item) -> bool
     ensures { IsTrue result ↔ IsSome (short (view item.now)) }
 {
     let length = item.format().size().saturating_mul(item.count());
@@ -85,7 +85,7 @@ fn has_spelling(item: &Item) -> bool
         return true;
     };
     for element in elements {
-        if !has_spelling(element) {
+        if !has_encoding(element) {
             return false;
         }
     }
@@ -114,14 +114,14 @@ fn push_item(octets: &mut Vec<u8>, item: &Item) -> Result<(), AllocError>
 /// # Errors
 ///
 /// `TooLarge`, before any memory is asked for, where a body or a list is past 16,777,215; else `Memory`.
-#[tactic(auto, using(crate::proofs::Uniqueness::short_spells))]
+#[tactic(auto, using(crate::proofs::Uniqueness::short_encodes))]
 pub fn encode(alloc: Global, item: &Item) -> Result<Vec<u8>, ItemFault>
     ensures ok { IfOk result (λ octets. short (view item.now) ≡ Some octets.items) }
-    ensures spells { IfOk result (λ octets. Spells (view item.now) octets.items) }
+    ensures encodes_to { IfOk result (λ octets. EncodesTo (view item.now) octets.items) }
     ensures too_large { IsErrOf result ItemFault.TooLarge ↔ IsNone (short (view item.now)) }
     ensures err { IfErr result (λ f. (f ≡ ItemFault.TooLarge) ⊎ (f ≡ ItemFault.Memory)) }
 {
-    if !has_spelling(item) {
+    if !has_encoding(item) {
         return Err(ItemFault::TooLarge);
     }
     let mut octets = Vec::new(alloc);

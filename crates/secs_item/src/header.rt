@@ -5,7 +5,7 @@ ghost use Rattle.byteorder.specs.Endian.{big_number};
 ghost use Rattle.secs_item.specs.Format.{is_list, value_size};
 ghost use Rattle.secs_item.specs.Header.{header_at};
 ghost use Rattle.secs_item.specs.Measure.{header_from};
-ghost use Rattle.secs_item.specs.Spelling.{header};
+ghost use Rattle.secs_item.specs.Encoding.{header};
 
 use crate::fault::ItemFault;
 use crate::format::Format;
@@ -68,7 +68,7 @@ pub fn read_header(octets: &[u8], place: usize, depth: u8) -> Result<Header, Ite
     requires { place ≤ length octets.now }
     ensures read { result ≡ header_from place (header_at depth (drop place octets.now)) }
     ensures list { IfOk result (λ h. is_list h.format ≡ true → 0 < depth) }
-    ensures behind { IfOk result (λ h. place < h.body) }
+    ensures subsequent { IfOk result (λ h. place < h.body) }
     ensures header { IfOk result (λ h. h.body ≤ length octets.now) }
     ensures whole { IfOk result (λ h. is_list h.format ≡ false → h.length % value_size h.format ≡ 0) }
     ensures values { IfOk result (λ h. is_list h.format ≡ false → h.body + h.length ≤ length octets.now) }

@@ -1,19 +1,19 @@
 //! Laws of the spellings of items. They speak of the definitions alone, so nothing is computed: each function proves
 //! that its clauses hold.
 
-ghost use Rattle.secs_item.specs.Laws.{OneSpellingAtFront, ShortSpells, NoneIsShorter, SpelledInRange, ShortIsReadAgain, SomeAnswer, OneItem, OneFault, NotBoth, SomeTextAnswer, OneText, OneTextFault, NotBothOfText};
+ghost use Rattle.secs_item.specs.Laws.{OneEncodingAtStart, ShortEncodes, NoneIsShorter, EncodedInRange, ShortIsReadAgain, SomeAnswer, OneItem, OneFault, NotBoth, SomeTextAnswer, OneText, OneTextFault, NotBothOfText};
 
 /// No spelling is the beginning of a longer one, and none spells two values.
-pub fn one_spelling_at_front()
-    ensures { OneSpellingAtFront }
+pub fn one_encoding_at_start()
+    ensures { OneEncodingAtStart }
 {}
 
 /// The shortest spelling is a spelling of its value, and no other is shorter. What has a spelling at all has a shortest
 /// one, and its numbers are within the ranges of their types.
-pub fn shortest_spelling()
-    ensures spells { ShortSpells }
+pub fn shortest_encoding()
+    ensures encodes_to { ShortEncodes }
     ensures least { NoneIsShorter }
-    ensures in_range { SpelledInRange }
+    ensures in_range { EncodedInRange }
 {}
 
 /// What is encoded is decoded, whatever follows it.

@@ -3,7 +3,7 @@
 //! An item is a list of items, or any number of values of one format. Its octets are a format octet, one to three
 //! length octets and the body. [`measure_front`] and [`measure_text`] tell whether octets are an item, and how long it
 //! is, and take no memory; [`decode_front`] and [`decode_text`] measure, and then make the item; [`encode`] gives its
-//! shortest octets. `specs/Spelling.antt` says what spells an item, and `specs/Fault.antt` what is a fault, and where;
+//! shortest octets. `specs/Encoding.antt` says what spells an item, and `specs/Fault.antt` what is a fault, and where;
 //! [`laws`] has what follows from both.
 //!
 //! Octets are measured before they are decoded; what was decoded is encoded again, in its shortest octets:
@@ -22,11 +22,11 @@ mod encoding;
 mod fault;
 mod format;
 mod header;
+mod header_patch;
 mod item;
 pub mod laws;
 mod measure;
-mod part;
-mod patch;
+mod measure_step;
 mod value;
 
 pub use decode::{decode_front, decode_text, item_of_values};
@@ -34,7 +34,7 @@ pub use encoding::{body_octets, encode};
 pub use fault::ItemFault;
 pub use format::Format;
 pub use header::{Header, read_header};
+pub use header_patch::patch_header;
 pub use item::{Item, nesting};
 pub use measure::{MAX_DEPTH, measure_front, measure_text};
-pub use patch::patch_header;
 pub use value::octets_known;

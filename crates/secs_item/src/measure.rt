@@ -1,15 +1,15 @@
 //! The length of an item, measured without making the item.
 
 ghost use Rattle.std.specs.Prelude.{◌≡◌, ◌≤◌, ◌<◌, ◌-◌, ℕ, length, drop, IfOk, IfErr, OnOk, IsOk};
-ghost use Rattle.secs_item.specs.Fault.{Faults, TextFaults, IsTold, fault_at};
+ghost use Rattle.secs_item.specs.Fault.{Faults, TextFaults, IsReported, fault_at};
 ghost use Rattle.secs_item.specs.Header.{Reason};
 ghost use Rattle.secs_item.specs.Measure.{end_from};
-ghost use Rattle.secs_item.specs.Reading.{item_at, elements_by};
-ghost use Rattle.secs_item.specs.Spelling.{IsAtFront, IsText};
+ghost use Rattle.secs_item.specs.Decoding.{item_at, elements_by};
+ghost use Rattle.secs_item.specs.Encoding.{IsAtFront, IsText};
 ghost use Rattle.secs_item.specs.Item.{Value};
 
 use crate::fault::ItemFault;
-use crate::part::read_part;
+use crate::measure_step::read_part;
 
 /// How deep lists may be nested at most.
 pub const MAX_DEPTH: usize = 100;
@@ -83,7 +83,7 @@ pub fn measure_front(octets: &[u8], depth: u8) -> Result<usize, ItemFault>
     requires { depth ≤ 100 }
     ensures ok { IfOk result (λ n. (v : Value) × IsAtFront depth octets.now v n) }
     ensures ok_where { (v : Value) (n : ℕ) → IsAtFront depth octets.now v n → result ≡ Ok n }
-    ensures err { IfErr result (IsTold (Faults depth octets.now)) }
+    ensures err { IfErr result (IsReported (Faults depth octets.now)) }
     ensures err_where { (at : ℕ) (reason : Reason) → Faults depth octets.now at reason
         → result ≡ Err (fault_at at reason) }
 {
@@ -100,7 +100,7 @@ pub fn measure_text(octets: &[u8], depth: u8) -> Result<(), ItemFault>
     requires { depth ≤ 100 }
     ensures ok { OnOk result (IsText depth octets.now) }
     ensures ok_where { IsText depth octets.now → IsOk result }
-    ensures err { IfErr result (IsTold (TextFaults depth octets.now)) }
+    ensures err { IfErr result (IsReported (TextFaults depth octets.now)) }
     ensures err_where { (at : ℕ) (reason : Reason) → TextFaults depth octets.now at reason
         → result ≡ Err (fault_at at reason) }
 {

@@ -6,28 +6,28 @@ use Rattle.std.proofs.lemmas.Bool.{ltb-true}
 use Rattle.std.proofs.lemmas.List.{drop-drop, drop-take}
 use Rattle.std.proofs.lemmas.Fmt.{AppendsLastDigit, decimal_from_appends, decimal_step, length-decimal-le}
 use Rattle.secs_item.specs.Equality.{octets_Decides}
-use Rattle.secs_text.specs.declared.tables.TheConstants.{WORDS, NUMBERS}
-use Rattle.secs_text.specs.Laid.{IsPlace, Laid, Puts, two_decimals}
+use Rattle.secs_text.specs.declared.word_tables.TheConstants.{WORDS, NUMBERS}
+use Rattle.secs_text.specs.BlockOutput.{IsPlace, AppendsText, Puts, two_decimals}
 use Rattle.secs_text.specs.Printed.{hexadecimal, two_digits}
-use Rattle.secs_text.proofs.Fronts.{both}
+use Rattle.secs_text.proofs.Prefixes.{both}
 
 -- a second text begins where the first ended
-pub laid_then : {a b c xs ys : List ℕ} {i j k : ℕ} → Laid a b i xs j → Laid b c j ys k → Laid a c i (xs ++ ys) k
-laid_then {a} {b} {c} {xs} {ys} {i} p q = record {
+pub appended_then : {a b c xs ys : List ℕ} {i j k : ℕ} → AppendsText a b i xs j → AppendsText b c j ys k → AppendsText a c i (xs ++ ys) k
+appended_then {a} {b} {c} {xs} {ys} {i} p q = record {
   octets = q.octets ∙ ap (λ l. l ++ ys) p.octets ∙ append_assoc (take i a) xs ys;
   moved = omega (arith, p.moved, q.moved, length-append xs ys);
   size = q.size ∙ p.size;
 }
 
-pub laid_nothing : (block : List ℕ) (at : ℕ) → Laid block block at [] at
-laid_nothing block at = record { octets = sym (append-nil (take at block)); moved = omega arith; size = refl }
+pub appended_nothing : (block : List ℕ) (at : ℕ) → AppendsText block block at [] at
+appended_nothing block at = record { octets = sym (append-nil (take at block)); moved = omega arith; size = refl }
 
-pub laid_same : {old now : List ℕ} {at end : ℕ} {xs : List ℕ} (ys : List ℕ) → xs ≡ ys → Laid old now at xs end → Laid old now at ys end
-laid_same {old} {now} {at} {end} ys same p = subst (λ (o : List ℕ). Laid old now at o end) same p
+pub appended_same : {old now : List ℕ} {at end : ℕ} {xs : List ℕ} (ys : List ℕ) → xs ≡ ys → AppendsText old now at xs end → AppendsText old now at ys end
+appended_same {old} {now} {at} {end} ys same p = subst (λ (o : List ℕ). AppendsText old now at o end) same p
 
 -- only the first n octets count
-pub laid_less : {a b xs : List ℕ} {i j : ℕ} (n : ℕ) → i ≤ length a → n ≤ length xs → Laid a b i xs j → Laid a b i (take n xs) (i + n)
-laid_less {a} {b} {xs} {i} {j} n within few p =
+pub appended_less : {a b xs : List ℕ} {i j : ℕ} (n : ℕ) → i ≤ length a → n ≤ length xs → AppendsText a b i xs j → AppendsText a b i (take n xs) (i + n)
+appended_less {a} {b} {xs} {i} {j} n within few p =
     let front = length-take-le i a within in
     record {
       octets = sym (take-take (i + n) j b (omega (arith, p.moved))) ∙ ap (take (i + n)) p.octets ∙ take-add i n (take i a ++ xs)
@@ -110,8 +110,8 @@ puts_given G H block at place gives = record {
 }
 
 -- what is laid behind what was put
-pub puts_laid : {G H : List ℕ → Type 0} {block now new : List ℕ} {from at end : ℕ} {xs ys : List ℕ} → Puts G block from H now at xs → Laid now new at ys end → end ≤ 65536 → Puts G block from H new end (xs ++ ys)
-puts_laid {G} {H} {block} {now} {new} {from} {at} {end} {xs} {ys} p q within = record {
+pub puts_appended : {G H : List ℕ → Type 0} {block now new : List ℕ} {from at end : ℕ} {xs ys : List ℕ} → Puts G block from H now at xs → AppendsText now new at ys end → end ≤ 65536 → Puts G block from H new end (xs ++ ys)
+puts_appended {G} {H} {block} {now} {new} {from} {at} {end} {xs} {ys} p q within = record {
   octets = λ given h.
       let a = p.octets given h in
       (a.0, a.1, ap (λ o. a.0 ++ o) q.octets ∙ sym (append_assoc a.0 (take at now) ys) ∙ ap (λ o. o ++ ys) a.2 ∙ append_assoc (given ++ take from block) xs ys);

@@ -2,7 +2,7 @@
 use Rattle.std.proofs.Common.{◌≡◌, ℕ, List, [], ◌∷◌, ◌++◌, map, refl, ap, ◌∙◌}
 use Rattle.std.specs.Prelude.{Ok, Err}
 use Rattle.secs_text.specs.Token.{Token, Placed}
-use Rattle.secs_text.specs.Places.{Rules, Place, walk, step, ◌>>=◌}
+use Rattle.secs_text.specs.ParserStates.{Rules, Place, walk, step, ◌>>=◌}
 
 abbrev pub token_of : Placed → Token
 token_of p = p.token

@@ -6,8 +6,8 @@ use Rattle.secs_text.specs.declared.fault.TextFault.TheVariants as fault
 use Rattle.secs_item.specs.Item.{Value, list, values}
 use Rattle.secs_text.specs.Content.{Content}
 use Rattle.secs_text.specs.Token.{Token, word, quoted, less, greater, bracket, bracket_end, stop, broken, end, Placed, Front, white, whole, faulty, front, with_front, tokens_after, tokens}
-use Rattle.secs_text.specs.Seen.{is_last}
-use Rattle.secs_text.specs.Places.{Rules, Place, Step, start, after_head, after_wait, type_wanted, after_type, count_wanted, after_count, in_item, stop_wanted, finished, Opened, Before, walk, step, ◌>>=◌, is_empty, at_in_item}
+use Rattle.secs_text.specs.TokenView.{is_last}
+use Rattle.secs_text.specs.ParserStates.{Rules, Place, Step, start, after_head, after_wait, type_expected, after_type, count_expected, after_count, in_item, stop_expected, finished, Opened, Before, walk, step, ◌>>=◌, is_empty, at_in_item}
 
 -- the last of these tokens has nothing behind it
 abbrev pub EndsLast : List Placed → Type 0
@@ -15,13 +15,13 @@ EndsLast [] = ⊥
 EndsLast (p ∷ []) = is_last p.token ≡ true
 EndsLast (p ∷ q ∷ ps) = EndsLast (q ∷ ps)
 
-ends_behind : (p : Placed) (ps : List Placed) → EndsLast ps → EndsLast (p ∷ ps)
-ends_behind p [] h = absurd h
-ends_behind p (q ∷ ps) h = h
+ends_following : (p : Placed) (ps : List Placed) → EndsLast ps → EndsLast (p ∷ ps)
+ends_following p [] h = absurd h
+ends_following p (q ∷ ps) h = h
 
 front_ends : (at : ℕ) (f : Front) (after : ℕ → List Placed) → ((more : ℕ) → EndsLast (after more)) → EndsLast (with_front at f after)
 front_ends at white after h = h 0
-front_ends at (whole token more) after h = ends_behind (record { at = at; token = token }) (after more) (h more)
+front_ends at (whole token more) after h = ends_following (record { at = at; token = token }) (after more) (h more)
 front_ends at (faulty n) after h = refl
 
 ends_after : (skip at : ℕ) (octets : List ℕ) → EndsLast (tokens_after skip at octets)
@@ -64,24 +64,24 @@ broken_finishes : (rules : Rules) (place : Place) (at : ℕ) → Finishes (step 
 broken_finishes rules (start ms) at = tt
 broken_finishes rules (after_head ms m) at = tt
 broken_finishes rules (after_wait ms m) at = tt
-broken_finishes rules (type_wanted b opening) at = tt
+broken_finishes rules (type_expected b opening) at = tt
 broken_finishes rules (after_type b v) at = in_item_finishes b (record { count = None; so_far = v }) at v broken refl
-broken_finishes rules (count_wanted b v opening) at = tt
+broken_finishes rules (count_expected b v opening) at = tt
 broken_finishes rules (after_count b v c) at = tt
 broken_finishes rules (in_item b o) at = in_item_finishes b o at o.so_far broken refl
-broken_finishes rules (stop_wanted ms m) at = tt
+broken_finishes rules (stop_expected ms m) at = tt
 broken_finishes rules (finished ms) at = tt
 
 end_finishes : (rules : Rules) (place : Place) (at : ℕ) → Finishes (step rules place at end)
 end_finishes rules (start ms) at = choice_finishes (rules.several || not (is_empty ms)) ms (fault.Syntax at)
 end_finishes rules (after_head ms m) at = tt
 end_finishes rules (after_wait ms m) at = tt
-end_finishes rules (type_wanted b opening) at = tt
+end_finishes rules (type_expected b opening) at = tt
 end_finishes rules (after_type b v) at = in_item_finishes b (record { count = None; so_far = v }) at v end refl
-end_finishes rules (count_wanted b v opening) at = tt
+end_finishes rules (count_expected b v opening) at = tt
 end_finishes rules (after_count b v c) at = tt
 end_finishes rules (in_item b o) at = in_item_finishes b o at o.so_far end refl
-end_finishes rules (stop_wanted ms m) at = tt
+end_finishes rules (stop_expected ms m) at = tt
 end_finishes rules (finished ms) at = tt
 
 last_finishes : (rules : Rules) (place : Place) (at : ℕ) (t : Token) → is_last t ≡ true → Finishes (step rules place at t)
@@ -118,12 +118,12 @@ outcome_of (Ok (finished ms)) h = through ms refl
 outcome_of (Ok (start ms)) h = absurd h
 outcome_of (Ok (after_head ms m)) h = absurd h
 outcome_of (Ok (after_wait ms m)) h = absurd h
-outcome_of (Ok (type_wanted b opening)) h = absurd h
+outcome_of (Ok (type_expected b opening)) h = absurd h
 outcome_of (Ok (after_type b v)) h = absurd h
-outcome_of (Ok (count_wanted b v opening)) h = absurd h
+outcome_of (Ok (count_expected b v opening)) h = absurd h
 outcome_of (Ok (after_count b v c)) h = absurd h
 outcome_of (Ok (in_item b o)) h = absurd h
-outcome_of (Ok (stop_wanted ms m)) h = absurd h
+outcome_of (Ok (stop_expected ms m)) h = absurd h
 outcome_of (Err f) h = at_fault f refl
 
 pub reading_outcome : (rules : Rules) (text : List ℕ) → Outcome (walk rules (start []) (tokens text))

@@ -3,7 +3,7 @@ use Rattle.std.proofs.Common.{◌≡◌, ℕ, suc, ◌+◌, ◌*◌, ◌<◌, Bo
 use Rattle.std.specs.Prelude.{Option, Some, None, option_map, option_and_then, ◌==◌}
 use Rattle.std.proofs.Math.Seq.{drop-cons, drop-length}
 use Rattle.std.proofs.lemmas.Bool.{eqb-true, eq-eqb, ne_eqb}
-use Rattle.secs_item.specs.Short.{octet_alone}
+use Rattle.secs_item.specs.ShortestEncoding.{octet_alone}
 use Rattle.secs_text.specs.Words.{octet_of, octets_of, octet_then, octet_of_digits, only, hex_octets, sized, float_of}
 
 -- a word that spells one octet spells as many as a float of one octet has
@@ -75,8 +75,8 @@ moved octets o None = refl
 moved octets o (Some rest) = ap (λ k. Some k) (sym (append_assoc octets (o ∷ []) rest))
 
 -- the octet of the next two digits
-pub octet_goes_on : (digits octets new : List ℕ) (i o : ℕ) → 2 * i + 1 < length digits → octet_of_digits (get_or digits (2 * i) 0) (get_or digits (2 * i + 1) 0) ≡ Some o → new ≡ octets ++ o ∷ [] → hex_octets digits ≡ after_octets octets (hex_octets (drop (2 * i) digits)) → hex_octets digits ≡ after_octets new (hex_octets (drop (2 * (i + 1)) digits))
-octet_goes_on digits octets new i o lt is new_is before =
+pub octet_continues : (digits octets new : List ℕ) (i o : ℕ) → 2 * i + 1 < length digits → octet_of_digits (get_or digits (2 * i) 0) (get_or digits (2 * i + 1) 0) ≡ Some o → new ≡ octets ++ o ∷ [] → hex_octets digits ≡ after_octets octets (hex_octets (drop (2 * i) digits)) → hex_octets digits ≡ after_octets new (hex_octets (drop (2 * (i + 1)) digits))
+octet_continues digits octets new i o lt is new_is before =
     let place : 2 * i + 2 ≡ 2 * (i + 1) = omega arith in
     before ∙ ap (λ r. after_octets octets r) (digits_at digits (2 * i) lt ∙ ap (λ p. octet_then p (hex_octets (drop (2 * i + 2) digits))) is)
     ∙ moved octets o (hex_octets (drop (2 * i + 2) digits))

@@ -8,7 +8,7 @@ use Rattle.std.proofs.lemmas.Bool.{ltb-true}
 use Rattle.std.proofs.lemmas.Bool.Decides.{nat_tests}
 use Rattle.secs_item.specs.Item.{Values, binary, boolean, ascii, jis8, char2, i1, i2, i4, i8, u1, u2, u4, u8, f4, f8, ValuesInRange}
 use Rattle.secs_text.specs.Octets.{is_digit}
-use Rattle.secs_text.specs.Places.{with_word, with_quoted}
+use Rattle.secs_text.specs.ParserStates.{with_word, with_quoted}
 use Rattle.secs_text.specs.Words.{is_numeral, number_below, negative_of, signed_below, hex_digit, octet_from, octet_of_digits, octet_then, hex_octets, octets_of, only, octet_of, sized, float_of, truth_of}
 
 -- ---- numbers

@@ -12,9 +12,9 @@ use Rattle.secs_text.specs.Token.{Token, word, quoted, less, greater, bracket, b
 use Rattle.secs_text.specs.TypeName.{format_named}
 use Rattle.secs_text.specs.Words.{number_below}
 use Rattle.secs_text.specs.Notation.{ItemTokens}
-use Rattle.secs_text.specs.Places.{Rules, Count, Opened, Before, Place, Step, type_wanted, after_type, count_wanted, after_count, in_item, step, with_word, with_quoted, is_counted, count_place, closed, or_fault, after_name, after_number, at_value, at_in_item}
-use Rattle.secs_text.proofs.SoFar.{OpenedTokens, element_taken, nest_taken, value_taken, word_taken, quoted_taken, item_closed, format_of_nothing, nothing_so_far}
-use Rattle.secs_text.proofs.TokensBefore.{Surrounded, Named, InItem, Stands, arrives, chosen}
+use Rattle.secs_text.specs.ParserStates.{Rules, Count, Opened, Before, Place, Step, type_expected, after_type, count_expected, after_count, in_item, step, with_word, with_quoted, is_counted, count_place, closed, or_fault, after_name, after_number, at_value, at_in_item}
+use Rattle.secs_text.proofs.PartialTokens.{OpenedTokens, element_taken, nest_taken, value_taken, word_taken, quoted_taken, item_closed, format_of_nothing, nothing_so_far}
+use Rattle.secs_text.proofs.TokensBefore.{Surrounded, Named, InItem, StateInvariant, arrives, chosen}
 
 -- ---- the type name
 
@@ -39,7 +39,7 @@ named_leads rules b opening at format.U8 next room e = (e, omega arith)
 named_leads rules b opening at format.F4 next room e = (e, omega arith)
 named_leads rules b opening at format.F8 next room e = (e, omega arith)
 
-name_step : (rules : Rules) (b : Before) (opening at : ℕ) (w : List ℕ) (ts outer : List Token) (next : Place) → Surrounded rules b.messages b.message b.lists outer → length b.lists ≤ rules.depth → ts ≡ outer ++ less ∷ [] → (o : Option Format) → format_named w ≡ o → after_name rules b opening at o ≡ Ok next → Stands rules next (ts ++ word w ∷ [])
+name_step : (rules : Rules) (b : Before) (opening at : ℕ) (w : List ℕ) (ts outer : List Token) (next : Place) → Surrounded rules b.messages b.message b.lists outer → length b.lists ≤ rules.depth → ts ≡ outer ++ less ∷ [] → (o : Option Format) → format_named w ≡ o → after_name rules b opening at o ≡ Ok next → StateInvariant rules next (ts ++ word w ∷ [])
 name_step rules b opening at w ts outer next around room parts None is e = cc
 name_step rules b opening at w ts outer next around room parts (Some f) is e =
     let l = named_leads rules b opening at f next room e in
@@ -53,7 +53,7 @@ name_step rules b opening at w ts outer next around room parts (Some f) is e =
       parts = ap (λ o. o ++ word w ∷ []) parts ∙ append_assoc outer (less ∷ []) (word w ∷ []);
     }) l.0
 
-pub type_step : (rules : Rules) (b : Before) (opening at : ℕ) (t : Token) (ts outer : List Token) (next : Place) → Surrounded rules b.messages b.message b.lists outer → length b.lists ≤ rules.depth → ts ≡ outer ++ less ∷ [] → step rules (type_wanted b opening) at t ≡ Ok next → Stands rules next (ts ++ t ∷ [])
+pub type_step : (rules : Rules) (b : Before) (opening at : ℕ) (t : Token) (ts outer : List Token) (next : Place) → Surrounded rules b.messages b.message b.lists outer → length b.lists ≤ rules.depth → ts ≡ outer ++ less ∷ [] → step rules (type_expected b opening) at t ≡ Ok next → StateInvariant rules next (ts ++ t ∷ [])
 type_step rules b opening at (word w) ts outer next around room parts e = name_step rules b opening at w ts outer next around room parts (format_named w) refl e
 type_step rules b opening at (quoted text) ts outer next around room parts e = cc
 type_step rules b opening at less ts outer next around room parts e = cc
@@ -66,9 +66,9 @@ type_step rules b opening at end ts outer next around room parts e = cc
 
 -- ---- values and the end of an item
 
-closed_stands : (rules : Rules) (lists : List Opened) (b : Before) (v : Value) (outer us : List Token) → Surrounded rules b.messages b.message lists outer → ItemTokens v us → nest v + length lists ≤ rules.depth → Stands rules (closed lists b v) (outer ++ us)
-closed_stands rules [] b v outer us around item deep = record { outer = outer; headed = around; value = v; item = refl; inner = us; holds = item; shallow = omega arith; parts = refl }
-closed_stands rules (o ∷ os) b v outer us around item deep = record {
+closed_invariant : (rules : Rules) (lists : List Opened) (b : Before) (v : Value) (outer us : List Token) → Surrounded rules b.messages b.message lists outer → ItemTokens v us → nest v + length lists ≤ rules.depth → StateInvariant rules (closed lists b v) (outer ++ us)
+closed_invariant rules [] b v outer us around item deep = record { outer = outer; headed = around; value = v; item = refl; inner = us; holds = item; shallow = omega arith; parts = refl }
+closed_invariant rules (o ∷ os) b v outer us around item deep = record {
   outer = around.0;
   around = around.2;
   inner = around.1 ++ us;
@@ -77,7 +77,7 @@ closed_stands rules (o ∷ os) b v outer us around item deep = record {
   parts = ap (λ x. x ++ us) around.6 ∙ append_assoc around.0 around.1 us;
 }
 
-taken_step : (rules : Rules) (b : Before) (c : Option Count) (v : Values) (t : Token) (ts : List Token) (next : Place) (f : TextFault) → InItem rules b c (values v) ts → (o : Option Values) → ((more : Values) → o ≡ Some more → (inner : List Token) → OpenedTokens c (values v) inner → OpenedTokens c (values more) (inner ++ t ∷ [])) → or_fault f b c o ≡ Ok next → Stands rules next (ts ++ t ∷ [])
+taken_step : (rules : Rules) (b : Before) (c : Option Count) (v : Values) (t : Token) (ts : List Token) (next : Place) (f : TextFault) → InItem rules b c (values v) ts → (o : Option Values) → ((more : Values) → o ≡ Some more → (inner : List Token) → OpenedTokens c (values v) inner → OpenedTokens c (values more) (inner ++ t ∷ [])) → or_fault f b c o ≡ Ok next → StateInvariant rules next (ts ++ t ∷ [])
 taken_step rules b c v t ts next f h None taken e = cc
 taken_step rules b c v t ts next f h (Some more) taken e =
     arrives rules (in_item b (record { count = c; so_far = values more })) next _ (record {
@@ -89,9 +89,9 @@ taken_step rules b c v t ts next f h (Some more) taken e =
       parts = ap (λ o. o ++ t ∷ []) h.parts ∙ append_assoc h.outer h.inner (t ∷ []);
     }) e
 
-value_step : (rules : Rules) (b : Before) (c : Option Count) (v : Value) (at : ℕ) (t : Token) (ts : List Token) (next : Place) → InItem rules b c v ts → at_value b c v at t ≡ Ok next → Stands rules next (ts ++ t ∷ [])
+value_step : (rules : Rules) (b : Before) (c : Option Count) (v : Value) (at : ℕ) (t : Token) (ts : List Token) (next : Place) → InItem rules b c v ts → at_value b c v at t ≡ Ok next → StateInvariant rules next (ts ++ t ∷ [])
 value_step rules b c (list es) at less ts next h e =
-    arrives rules (type_wanted (record b { lists = record { count = c; so_far = list es } ∷ b.lists }) at) next _ (ts, (h.outer, h.inner, h.around, h.opened, tt, h.shallow, h.parts), (let s = h.shallow in omega arith), refl) e
+    arrives rules (type_expected (record b { lists = record { count = c; so_far = list es } ∷ b.lists }) at) next _ (ts, (h.outer, h.inner, h.around, h.opened, tt, h.shallow, h.parts), (let s = h.shallow in omega arith), refl) e
 value_step rules b c (list es) at (word w) ts next h e = cc
 value_step rules b c (list es) at (quoted text) ts next h e = cc
 value_step rules b c (list es) at greater ts next h e = cc
@@ -112,13 +112,13 @@ value_step rules b c (values v) at stop ts next h e = cc
 value_step rules b c (values v) at broken ts next h e = cc
 value_step rules b c (values v) at end ts next h e = cc
 
-close_step : (rules : Rules) (b : Before) (c : Option Count) (v : Value) (ts : List Token) (next : Place) → InItem rules b c v ts → is_counted c (count_of v) ≡ true → ◌≡◌ {A = Step} (Ok (closed b.lists b v)) (Ok next) → Stands rules next (ts ++ greater ∷ [])
+close_step : (rules : Rules) (b : Before) (c : Option Count) (v : Value) (ts : List Token) (next : Place) → InItem rules b c v ts → is_counted c (count_of v) ≡ true → ◌≡◌ {A = Step} (Ok (closed b.lists b v)) (Ok next) → StateInvariant rules next (ts ++ greater ∷ [])
 close_step rules b c v ts next h right e =
-    let P : List Token → Type 0 = λ o. Stands rules (closed b.lists b v) o in
+    let P : List Token → Type 0 = λ o. StateInvariant rules (closed b.lists b v) o in
     let parts : ts ++ greater ∷ [] ≡ h.outer ++ (h.inner ++ greater ∷ []) = ap (λ o. o ++ greater ∷ []) h.parts ∙ append_assoc h.outer h.inner (greater ∷ []) in
-    arrives rules (closed b.lists b v) next _ (subst P (sym parts) (closed_stands rules b.lists b v h.outer (h.inner ++ greater ∷ []) h.around (item_closed c v h.inner h.opened right) h.shallow)) e
+    arrives rules (closed b.lists b v) next _ (subst P (sym parts) (closed_invariant rules b.lists b v h.outer (h.inner ++ greater ∷ []) h.around (item_closed c v h.inner h.opened right) h.shallow)) e
 
-pub in_item_step : (rules : Rules) (b : Before) (c : Option Count) (v : Value) (at : ℕ) (t : Token) (ts : List Token) (next : Place) → InItem rules b c v ts → at_in_item b (record { count = c; so_far = v }) at t ≡ Ok next → Stands rules next (ts ++ t ∷ [])
+pub in_item_step : (rules : Rules) (b : Before) (c : Option Count) (v : Value) (at : ℕ) (t : Token) (ts : List Token) (next : Place) → InItem rules b c v ts → at_in_item b (record { count = c; so_far = v }) at t ≡ Ok next → StateInvariant rules next (ts ++ t ∷ [])
 in_item_step rules b c v at greater ts next h e =
     let k = chosen (is_counted c (count_of v)) (Ok (closed b.lists b v)) (fault.Count (count_place c)) next e in
     close_step rules b c v ts next h k.0 k.1
@@ -154,8 +154,8 @@ uncounted rules b v ts h = record {
   parts = h.parts;
 }
 
-pub after_type_step : (rules : Rules) (b : Before) (v : Value) (at : ℕ) (t : Token) (ts : List Token) (next : Place) → Named rules b v [] ts → step rules (after_type b v) at t ≡ Ok next → Stands rules next (ts ++ t ∷ [])
-after_type_step rules b v at bracket ts next h e = arrives rules (count_wanted b v at) next _ (more_named rules b v [] ts (bracket ∷ []) h) e
+pub after_type_step : (rules : Rules) (b : Before) (v : Value) (at : ℕ) (t : Token) (ts : List Token) (next : Place) → Named rules b v [] ts → step rules (after_type b v) at t ≡ Ok next → StateInvariant rules next (ts ++ t ∷ [])
+after_type_step rules b v at bracket ts next h e = arrives rules (count_expected b v at) next _ (more_named rules b v [] ts (bracket ∷ []) h) e
 after_type_step rules b v at (word w) ts next h e = in_item_step rules b None v at (word w) ts next (uncounted rules b v ts h) e
 after_type_step rules b v at (quoted text) ts next h e = in_item_step rules b None v at (quoted text) ts next (uncounted rules b v ts h) e
 after_type_step rules b v at less ts next h e = in_item_step rules b None v at less ts next (uncounted rules b v ts h) e
@@ -165,12 +165,12 @@ after_type_step rules b v at stop ts next h e = in_item_step rules b None v at s
 after_type_step rules b v at broken ts next h e = in_item_step rules b None v at broken ts next (uncounted rules b v ts h) e
 after_type_step rules b v at end ts next h e = in_item_step rules b None v at end ts next (uncounted rules b v ts h) e
 
-number_step : (rules : Rules) (b : Before) (v : Value) (opening at : ℕ) (w : List ℕ) (ts : List Token) (next : Place) → Named rules b v (bracket ∷ []) ts → (o : Option ℕ) → number_below (2 ^ 64) w ≡ o → after_number b v opening at o ≡ Ok next → Stands rules next (ts ++ word w ∷ [])
+number_step : (rules : Rules) (b : Before) (v : Value) (opening at : ℕ) (w : List ℕ) (ts : List Token) (next : Place) → Named rules b v (bracket ∷ []) ts → (o : Option ℕ) → number_below (2 ^ 64) w ≡ o → after_number b v opening at o ≡ Ok next → StateInvariant rules next (ts ++ word w ∷ [])
 number_step rules b v opening at w ts next h None is e = cc
 number_step rules b v opening at w ts next h (Some n) is e =
     arrives rules (after_count b v (record { at = opening; number = n })) next _ (w, is, more_named rules b v (bracket ∷ []) ts (word w ∷ []) h) e
 
-pub count_step : (rules : Rules) (b : Before) (v : Value) (opening at : ℕ) (t : Token) (ts : List Token) (next : Place) → Named rules b v (bracket ∷ []) ts → step rules (count_wanted b v opening) at t ≡ Ok next → Stands rules next (ts ++ t ∷ [])
+pub count_step : (rules : Rules) (b : Before) (v : Value) (opening at : ℕ) (t : Token) (ts : List Token) (next : Place) → Named rules b v (bracket ∷ []) ts → step rules (count_expected b v opening) at t ≡ Ok next → StateInvariant rules next (ts ++ t ∷ [])
 count_step rules b v opening at (word w) ts next h e = number_step rules b v opening at w ts next h (number_below (2 ^ 64) w) refl e
 count_step rules b v opening at (quoted text) ts next h e = cc
 count_step rules b v opening at less ts next h e = cc
@@ -191,7 +191,7 @@ counted rules b v c w ts is h = record {
   parts = h.parts;
 }
 
-pub count_end_step : (rules : Rules) (b : Before) (v : Value) (c : Count) (w : List ℕ) (at : ℕ) (t : Token) (ts : List Token) (next : Place) → number_below (2 ^ 64) w ≡ Some c.number → Named rules b v (bracket ∷ word w ∷ []) ts → step rules (after_count b v c) at t ≡ Ok next → Stands rules next (ts ++ t ∷ [])
+pub count_end_step : (rules : Rules) (b : Before) (v : Value) (c : Count) (w : List ℕ) (at : ℕ) (t : Token) (ts : List Token) (next : Place) → number_below (2 ^ 64) w ≡ Some c.number → Named rules b v (bracket ∷ word w ∷ []) ts → step rules (after_count b v c) at t ≡ Ok next → StateInvariant rules next (ts ++ t ∷ [])
 count_end_step rules b v c w at bracket_end ts next is h e =
     arrives rules (in_item b (record { count = Some c; so_far = v })) next _ (counted rules b v c w _ is (more_named rules b v (bracket ∷ word w ∷ []) ts (bracket_end ∷ []) h)) e
 count_end_step rules b v c w at (word x) ts next is h e = cc

@@ -14,7 +14,7 @@ use Rattle.std.proofs.lemmas.Bool.{false_from_ne_true, eqb-true, leb-true, le-lt
 use Rattle.std.specs.Int.{IsInRange}
 use Rattle.secs_text.specs.Octets.{is_digit}
 use Rattle.secs_text.specs.Words.{is_numeral, number_below}
-use Rattle.secs_text.proofs.Fronts.{both}
+use Rattle.secs_text.proofs.Prefixes.{both}
 
 all_at : (w : List ℕ) (i : ℕ) → list_all is_digit w ≡ true → i < length w → is_digit (get_or w i 0) ≡ true
 all_at [] i all lt = absurd (omega arith)

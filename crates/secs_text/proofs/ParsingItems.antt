@@ -7,14 +7,14 @@ use Rattle.secs_item.specs.declared.format.Format.{Format}
 use Rattle.secs_item.specs.declared.format.Format.TheVariants as format
 use Rattle.secs_item.specs.Format.{value_size}
 use Rattle.secs_item.specs.Item.{Value, list, values, Elements, no_elements, element, count, with_element, count_of_values}
-use Rattle.secs_item.specs.Spelling.{header}
-use Rattle.secs_item.specs.Short.{field_of, framed, short, short_elements, short_body}
+use Rattle.secs_item.specs.Encoding.{header}
+use Rattle.secs_item.specs.ShortestEncoding.{field_of, framed, short, short_elements, short_body}
 use Rattle.secs_text.specs.Body.{nothing_of}
 use Rattle.secs_text.specs.Token as math
 use Rattle.secs_text.specs.Token.{Placed}
-use Rattle.secs_text.specs.Places.{Rules, Before, Count, walk, type_wanted, in_item, closed, is_counted, count_place, ◌>>=◌}
-use Rattle.secs_text.specs.Reads.{Checks, Fails}
-use Rattle.secs_text.specs.Spellings.{laid, Lays, Closed, Itemized, Deep, Anywhere}
+use Rattle.secs_text.specs.ParserStates.{Rules, Before, Count, walk, type_expected, in_item, closed, is_counted, count_place, ◌>>=◌}
+use Rattle.secs_text.specs.ParseSteps.{Checks, Fails}
+use Rattle.secs_text.specs.EncodedText.{appended_text, AppendsBytes, Closed, Itemized, Deep, Anywhere}
 use Rattle.secs_text.specs.declared.fault.TextFault.{TextFault}
 use Rattle.secs_text.specs.declared.fault.TextFault.TheVariants as fault
 
@@ -25,15 +25,15 @@ pub record Patched (f : Format) (number start : ℕ) (old now : List ℕ) (fits 
   pub holds : IsTrue fits ↔ (number < 256 ^ 3)
   pub octets : IsTrue fits → now ≡ take start old ++ (header f (field_of number) number ++ drop (start + 2) old)
 
-patched_laid : {f : Format} {number start : ℕ} {old now : List ℕ} (fits : Bool) (front body : List ℕ)
-    → Patched f number start old now fits → old ≡ front ++ 0 ∷ 0 ∷ body → length front ≡ start → Lays fits front now (framed f number body)
-patched_laid {f} {number} {start} {old} true front body h is long =
+patched_appended : {f : Format} {number start : ℕ} {old now : List ℕ} (fits : Bool) (front body : List ℕ)
+    → Patched f number start old now fits → old ≡ front ++ 0 ∷ 0 ∷ body → length front ≡ start → AppendsBytes fits front now (framed f number body)
+patched_appended {f} {number} {start} {old} true front body h is long =
     let less : nat_lt number (256 ^ 3) ≡ true = lt-ltb number (256 ^ 3) (h.holds.0 refl) in
     let before : take start old ≡ front = ap (λ o. take start o) is ∙ take_at front (0 ∷ 0 ∷ body) start long in
     let kept : length (front ++ 0 ∷ 0 ∷ []) ≡ start + 2 = length-append front (0 ∷ 0 ∷ []) ∙ ap (λ k. k + 2) long in
-    let behind : drop (start + 2) old ≡ body = ap (λ o. drop (start + 2) o) (is ∙ sym (append_assoc front (0 ∷ 0 ∷ []) body)) ∙ drop_at (front ++ 0 ∷ 0 ∷ []) body (start + 2) kept in
-    rw less (ap (λ o. Some o) (h.octets refl ∙ rw (before, behind) refl))
-patched_laid {f} {number} false front body h is long =
+    let subsequent : drop (start + 2) old ≡ body = ap (λ o. drop (start + 2) o) (is ∙ sym (append_assoc front (0 ∷ 0 ∷ []) body)) ∙ drop_at (front ++ 0 ∷ 0 ∷ []) body (start + 2) kept in
+    rw less (ap (λ o. Some o) (h.octets refl ∙ rw (before, subsequent) refl))
+patched_appended {f} {number} false front body h is long =
     let more : 256 ^ 3 ≤ number = grind (arith, h.holds.1) in
     rw (le-ltb number (256 ^ 3) more) refl
 
@@ -52,7 +52,7 @@ item_patched {f} {c} old from mid now fits start end h kept start_is end_is patc
     record {
       value = values h.held;
       leads = λ rules b where_. h.leads rules b;
-      lays = patched_laid fits old body patched parts (sym start_is) ∙ ap (λ n. option_map (λ o. old ++ o) (framed f n body)) size
+      appends_bytes = patched_appended fits old body patched parts (sym start_is) ∙ ap (λ n. option_map (λ o. old ++ o) (framed f n body)) size
           ∙ ap (λ g. option_map (λ o. old ++ o) (framed g (value_size g * count_of_values h.held) body)) (sym h.form);
     }
 
@@ -69,14 +69,14 @@ pub record ListedSoFar (depth : ℕ) (c : Option Count) (before after : List Pla
   pub elements : Elements
   pub leads : (rules : Rules) (b : Before) → Deep (1 + depth) rules b → walk rules (in_item b (record { count = c; so_far = list no_elements })) before ≡ walk rules (in_item b (record { count = c; so_far = list elements })) after
   pub counted : count elements ≡ number
-  pub lays : Lays fits (old ++ 0 ∷ 0 ∷ []) new (short_elements elements)
+  pub appends_bytes : AppendsBytes fits (old ++ 0 ∷ 0 ∷ []) new (short_elements elements)
 
 pub none_listed : (depth : ℕ) (c : Option Count) (before : List Placed) (old new : List ℕ) → new ≡ old ++ 0 ∷ 0 ∷ [] → ListedSoFar depth c before before true 0 old new
 none_listed depth c before old new is = record {
   elements = no_elements;
   leads = λ rules b deep. refl;
   counted = refl;
-  lays = ap (λ o. Some o) (is ∙ sym (append-nil (old ++ 0 ∷ 0 ∷ [])));
+  appends_bytes = ap (λ o. Some o) (is ∙ sym (append-nil (old ++ 0 ∷ 0 ∷ [])));
 }
 
 -- one more element
@@ -85,46 +85,46 @@ count-with no_elements v = refl
 count-with (element w es) v = ap suc (count-with es v)
 
 -- octets behind octets
-abbrev behind : Option (List ℕ) → Option (List ℕ) → Option (List ℕ)
-behind first others = option_and_then (λ f. option_map (λ o. f ++ o) others) first
+abbrev subsequent : Option (List ℕ) → Option (List ℕ) → Option (List ℕ)
+subsequent first others = option_and_then (λ f. option_map (λ o. f ++ o) others) first
 
-behind_none : (first : Option (List ℕ)) → behind first None ≡ None
-behind_none None = refl
-behind_none (Some f) = refl
+subsequent_none : (first : Option (List ℕ)) → subsequent first None ≡ None
+subsequent_none None = refl
+subsequent_none (Some f) = refl
 
-behind_nothing : (first : Option (List ℕ)) → behind first (Some []) ≡ first
-behind_nothing None = refl
-behind_nothing (Some f) = ap (λ o. Some o) (append-nil f)
+subsequent_nothing : (first : Option (List ℕ)) → subsequent first (Some []) ≡ first
+subsequent_nothing None = refl
+subsequent_nothing (Some f) = ap (λ o. Some o) (append-nil f)
 
-behind_both : (a b c : Option (List ℕ)) → behind (behind a b) c ≡ behind a (behind b c)
-behind_both None b c = refl
-behind_both (Some a) None c = refl
-behind_both (Some a) (Some b) None = refl
-behind_both (Some a) (Some b) (Some c) = ap (λ o. Some o) (append_assoc a b c)
+subsequent_both : (a b c : Option (List ℕ)) → subsequent (subsequent a b) c ≡ subsequent a (subsequent b c)
+subsequent_both None b c = refl
+subsequent_both (Some a) None c = refl
+subsequent_both (Some a) (Some b) None = refl
+subsequent_both (Some a) (Some b) (Some c) = ap (λ o. Some o) (append_assoc a b c)
 
-short-with : (es : Elements) (v : Value) → short_elements (with_element es v) ≡ behind (short_elements es) (short v)
-short-with no_elements v = behind_nothing (short v) ∙ same (short v)
+short-with : (es : Elements) (v : Value) → short_elements (with_element es v) ≡ subsequent (short_elements es) (short v)
+short-with no_elements v = subsequent_nothing (short v) ∙ same (short v)
   where
-    same : (r : Option (List ℕ)) → r ≡ behind (Some []) r
+    same : (r : Option (List ℕ)) → r ≡ subsequent (Some []) r
     same None = refl
     same (Some o) = refl
-short-with (element w es) v = ap (λ o. behind (short w) o) (short-with es v) ∙ sym (behind_both (short w) (short_elements es) (short v))
+short-with (element w es) v = ap (λ o. subsequent (short w) o) (short-with es v) ∙ sym (subsequent_both (short w) (short_elements es) (short v))
 
-lays_both : (first second : Bool) (old mid new : List ℕ) (a b : Option (List ℕ)) → Lays first old mid a → Lays second mid new b → Lays (first && second) old new (behind a b)
-lays_both true true old mid new (Some a) (Some b) e g =
+appends_both : (first second : Bool) (old mid new : List ℕ) (a b : Option (List ℕ)) → AppendsBytes first old mid a → AppendsBytes second mid new b → AppendsBytes (first && second) old new (subsequent a b)
+appends_both true true old mid new (Some a) (Some b) e g =
     let one : mid ≡ old ++ a = cc in
     let two : new ≡ mid ++ b = cc in
     ap (λ o. Some o) (two ∙ ap (λ o. o ++ b) one ∙ append_assoc old a b)
-lays_both true true old mid new (Some a) None e g = cc
-lays_both true true old mid new None b e g = cc
-lays_both true false old mid new (Some a) None e g = refl
-lays_both true false old mid new None None e g = refl
-lays_both true false old mid new a (Some b) e g = cc
-lays_both false second old mid new None b e g = refl
-lays_both false second old mid new (Some a) b e g = cc
+appends_both true true old mid new (Some a) None e g = cc
+appends_both true true old mid new None b e g = cc
+appends_both true false old mid new (Some a) None e g = refl
+appends_both true false old mid new None None e g = refl
+appends_both true false old mid new a (Some b) e g = cc
+appends_both false second old mid new None b e g = refl
+appends_both false second old mid new (Some a) b e g = cc
 
 pub element_listed : {depth : ℕ} {c : Option Count} {before after : List Placed} {fits : Bool} {number : ℕ} {old new : List ℕ} (at : ℕ) (from rest : List Placed) (done : Bool) (now : List ℕ)
-    → ListedSoFar depth c before after fits number old new → after ≡ record { at = at; token = math.less } ∷ from → Itemized (Deep depth) (λ b. type_wanted b at) from rest done new now
+    → ListedSoFar depth c before after fits number old new → after ≡ record { at = at; token = math.less } ∷ from → Itemized (Deep depth) (λ b. type_expected b at) from rest done new now
     → ListedSoFar depth c before rest (fits && done) (number + 1) old now
 element_listed {depth} {c} {fits = fits} {old = old} {new = new} at from rest done now h is item = record {
   elements = with_element h.elements item.value;
@@ -132,7 +132,7 @@ element_listed {depth} {c} {fits = fits} {old = old} {new = new} at from rest do
       let inner : Before = record b { lists = record { count = c; so_far = list h.elements } ∷ b.lists } in
       h.leads rules b deep ∙ ap (λ ps. walk rules (in_item b (record { count = c; so_far = list h.elements })) ps) is ∙ item.leads rules inner (let d : length b.lists + (1 + depth) ≡ rules.depth = deep in omega arith);
   counted = count-with h.elements item.value ∙ (let k = h.counted in omega arith);
-  lays = lays_both fits done (old ++ 0 ∷ 0 ∷ []) new now (short_elements h.elements) (short item.value) h.lays item.lays ∙ ap (λ s. option_map (λ o. (old ++ 0 ∷ 0 ∷ []) ++ o) s) (sym (short-with h.elements item.value));
+  appends_bytes = appends_both fits done (old ++ 0 ∷ 0 ∷ []) new now (short_elements h.elements) (short item.value) h.appends_bytes item.appends_bytes ∙ ap (λ s. option_map (λ o. (old ++ 0 ∷ 0 ∷ []) ++ o) s) (sym (short-with h.elements item.value));
 }
 
 -- ---- the end of a list
@@ -155,7 +155,7 @@ module _ {depth : ℕ} {c : Option Count} {before after : List Placed} {fits : B
   list_unfit now unfit right = record {
     value = list h.elements;
     leads = λ rules b deep. close rules b true deep right;
-    lays = by_elements (short_elements h.elements) (ap (λ d. laid d new) (sym unfit) ∙ h.lays);
+    appends_bytes = by_elements (short_elements h.elements) (ap (λ d. appended_text d new) (sym unfit) ∙ h.appends_bytes);
   }
     where
       by_elements : (s : Option (List ℕ)) → ◌≡◌ {A = Option (List ℕ)} None (option_map (λ o. (old ++ 0 ∷ 0 ∷ []) ++ o) s)
@@ -169,12 +169,12 @@ module _ {depth : ℕ} {c : Option Count} {before after : List Placed} {fits : B
   list_patched done start now fit right start_is patched = record {
     value = list h.elements;
     leads = λ rules b deep. close rules b true deep right;
-    lays = by_elements (short_elements h.elements) (ap (λ d. laid d new) (sym fit) ∙ h.lays);
+    appends_bytes = by_elements (short_elements h.elements) (ap (λ d. appended_text d new) (sym fit) ∙ h.appends_bytes);
   }
     where
       by_elements : (s : Option (List ℕ)) → ◌≡◌ {A = Option (List ℕ)} (Some new) (option_map (λ o. (old ++ 0 ∷ 0 ∷ []) ++ o) s)
-          → laid done now ≡ option_map (λ o. old ++ o) (option_and_then (λ body. framed format.List (count h.elements) body) s)
+          → appended_text done now ≡ option_map (λ o. old ++ o) (option_and_then (λ body. framed format.List (count h.elements) body) s)
       by_elements None e = cc
       by_elements (Some s) e =
           let parts : new ≡ (old ++ 0 ∷ 0 ∷ []) ++ s = cc in
-          patched_laid done old s patched (parts ∙ append_assoc old (0 ∷ 0 ∷ []) s) (sym start_is) ∙ ap (λ n. option_map (λ o. old ++ o) (framed format.List n s)) (sym h.counted)
+          patched_appended done old s patched (parts ∙ append_assoc old (0 ∷ 0 ∷ []) s) (sym start_is) ∙ ap (λ n. option_map (λ o. old ++ o) (framed format.List n s)) (sym h.counted)

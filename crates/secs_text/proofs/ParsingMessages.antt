@@ -5,14 +5,14 @@ use Rattle.secs_item.specs.Item.{Value}
 use Rattle.secs_text.specs.Content.{Content, AllWithin}
 use Rattle.secs_text.specs.Fault.{NotesFault}
 use Rattle.secs_text.specs.Notation.{Notations}
-use Rattle.secs_text.specs.Spellings.{laid, Lays, text_of, AllGiven}
+use Rattle.secs_text.specs.EncodedText.{appended_text, AppendsBytes, text_of, AllGiven}
 use Rattle.secs_text.specs.declared.fault.TextFault.{TextFault}
 use Rattle.secs_text.specs.declared.fault.TextFault.TheVariants as fault
-use Rattle.secs_text.proofs.Answered.{ok_all, ok_where_all, err_all, err_where_all}
+use Rattle.secs_text.proofs.Results.{ok_all, ok_where_all, err_all, err_where_all}
 
 -- a text as an answer to give
-pub is_spelled : (item : Option Value) (fits : Bool) (old octets : List ℕ) → old ≡ [] → Lays fits old octets (text_of item) → text_of item ≡ laid fits octets
-is_spelled item fits old octets none h = same (text_of item) ∙ ap (λ p. option_map (λ o. p ++ o) (text_of item)) (sym none) ∙ sym h
+pub is_encoded : (item : Option Value) (fits : Bool) (old octets : List ℕ) → old ≡ [] → AppendsBytes fits old octets (text_of item) → text_of item ≡ appended_text fits octets
+is_encoded item fits old octets none h = same (text_of item) ∙ ap (λ p. option_map (λ o. p ++ o) (text_of item)) (sym none) ∙ sym h
   where
     same : (r : Option (List ℕ)) → r ≡ option_map (λ o. [] ++ o) r
     same None = refl

@@ -10,17 +10,17 @@ use Rattle.secs_item.specs.Item.{Value, list, values, Elements, no_elements, ele
 use Rattle.secs_item.specs.declared.format.Format.{Format}
 use Rattle.secs_item.specs.declared.format.Format.TheVariants as format
 use Rattle.secs_text.specs.Octets.{is_quotable, is_digit, is_of_word}
-use Rattle.secs_text.specs.Body.{Spelling, Spelled, spelled, Body, in_text, in_words, body_of}
+use Rattle.secs_text.specs.Body.{WordEncoding, IsEncoded, encoded_bytes, Body, in_text, in_words, body_of}
 use Rattle.secs_text.specs.Content.{Content}
-use Rattle.secs_text.specs.Held.{IsOctets, Fits, BodyIsHeld, InnerIsHeld, AllHeld, IsHeld, IsHeldMessage}
+use Rattle.secs_text.specs.InRange.{IsOctets, Fits, BodyIsHeld, InnerIsHeld, AllHeld, IsHeld, IsHeldMessage}
 use Rattle.secs_text.specs.Notation.{InPieces, BodyTokens, Enclosed, ItemTokens, ElementTokens, OptionalItem, wait_word, wait_tokens, Notation}
 use Rattle.secs_text.specs.Printed.{hexadecimal, spaced, printed_text, written, printed_values, printed_opening, printed_body, printed_elements, printed_item, printed_optional, printed}
 use Rattle.secs_text.specs.Token.{Token, word, quoted, less, greater, bracket, bracket_end, stop, end, tokens}
 use Rattle.secs_text.specs.TypeName.{type_name, format_named}
 use Rattle.secs_text.specs.Words.{head, number_below, head_of_numbers, head_of_parts, head_word}
-use Rattle.secs_text.proofs.SoFar.{SoFar}
-use Rattle.secs_text.specs.AsPrinted.{IsWord}
-use Rattle.secs_text.proofs.AsPrinted.{name_word}
+use Rattle.secs_text.proofs.PartialTokens.{SoFar}
+use Rattle.secs_text.specs.CanonicalTokens.{IsWord}
+use Rattle.secs_text.proofs.CanonicalTokenLists.{name_word}
 use Rattle.secs_text.proofs.PrintedWords.{and_true, all_digits, decimal_digits, decimal_word, number_read, octet_word, octet_is_read, written_word, written_read}
 use Rattle.secs_text.proofs.Tokenized.{Prints, is_low, low_both, low_word, end_kinds, word_kinds, prefix_front, take_front, drop_front, prints_none, prints_along, prints_both, prints_word, prints_opening, prints_count, prints_close, prints_space, prints_stop, prints_quoted}
 
@@ -97,7 +97,7 @@ text_prints (c ∷ cs) h =
 
 -- ---- words
 
-words_print : (s : Spelling) (xs : List (Spelled s)) → AllByRecursion (Fits s) xs → Prints (spaced (written s) xs) (map word (map (written s) xs)) × (map (spelled s) (map (written s) xs) ≡ map (λ x. Some x) xs)
+words_print : (s : WordEncoding) (xs : List (IsEncoded s)) → AllByRecursion (Fits s) xs → Prints (spaced (written s) xs) (map word (map (written s) xs)) × (map (encoded_bytes s) (map (written s) xs) ≡ map (λ x. Some x) xs)
 words_print s [] h = (prints_none, refl)
 words_print s (x ∷ xs) h =
     let rest = words_print s xs h.1 in

@@ -8,11 +8,11 @@ use Rattle.std.specs.Str.Parse.{AllDigits, digits_value}
 use Rattle.std.proofs.lemmas.Fmt.{decimal_is_IsNumeral, decimal_digit, first_decimal}
 use Rattle.std.proofs.lemmas.Str.Parse.{digit_from_value}
 use Rattle.std.proofs.lemmas.Bool.{false_from_ne_true, leb-true, le-leb, eq-eqb, eqb-true, ltb-true, ltb-false}
-use Rattle.secs_text.specs.AsPrinted.{IsWord}
+use Rattle.secs_text.specs.CanonicalTokens.{IsWord}
 use Rattle.secs_text.specs.Octets.{is_digit, is_letter, is_of_word}
 use Rattle.secs_text.specs.Words.{is_numeral, number_below, signed_below, negative_of, hex_digit, octet_from, octet_of_digits, octet_then, hex_octets, octets_of, only, octet_of, sized, float_of, truth_of}
-use Rattle.secs_text.specs.Body.{Spelling, hex_octet, truth_letter, signed_number, unsigned_number, hex_float, Spelled, spelled}
-use Rattle.secs_text.specs.Held.{IsOctets, Fits}
+use Rattle.secs_text.specs.Body.{WordEncoding, hex_octet, truth_letter, signed_number, unsigned_number, hex_float, IsEncoded, encoded_bytes}
+use Rattle.secs_text.specs.InRange.{IsOctets, Fits}
 use Rattle.secs_text.specs.Printed.{two_digits, hexadecimal, truth_word, written}
 use Rattle.secs_text.proofs.Numbers.{just, take_all}
 
@@ -186,14 +186,14 @@ truth_is_word false = record { some = omega arith; all = refl }
 
 -- ---- values
 
-pub written_word : (s : Spelling) (x : Spelled s) → Fits s x → IsWord (written s x)
+pub written_word : (s : WordEncoding) (x : IsEncoded s) → Fits s x → IsWord (written s x)
 written_word hex_octet x h = octet_word x h
 written_word truth_letter x h = truth_is_word x
 written_word (signed_number half) x h = signed_word x (omega (arith, h.0, h.1))
 written_word (unsigned_number limit) x h = decimal_word x (omega (arith, h.0, h.1))
 written_word (hex_float size) x h = hexadecimal_word x h.1
 
-pub written_read : (s : Spelling) (x : Spelled s) → Fits s x → spelled s (written s x) ≡ Some x
+pub written_read : (s : WordEncoding) (x : IsEncoded s) → Fits s x → encoded_bytes s (written s x) ≡ Some x
 written_read hex_octet x h = octet_is_read x h
 written_read truth_letter x h = truth_is_read x
 written_read (signed_number half) x h = signed_read half x h.0 h.1

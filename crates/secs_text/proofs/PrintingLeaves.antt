@@ -7,13 +7,13 @@ use Rattle.std.proofs.Math.Nat.{div-le_self}
 use Rattle.secs_item.specs.declared.format.Format.{Format}
 use Rattle.secs_item.specs.Format.{is_list, value_size}
 use Rattle.secs_item.specs.Item.{Value, list, values, Values, binary, boolean, ascii, jis8, char2, i1, i2, i4, i8, u1, u2, u4, u8, f4, f8, format_of, format_of_values, count_of_values, ValuesInRange, count, view, views}
-use Rattle.secs_item.specs.Reading.{values_of}
-use Rattle.secs_item.specs.Short.{IsBodyOf, short_body}
+use Rattle.secs_item.specs.Decoding.{values_of}
+use Rattle.secs_item.specs.ShortestEncoding.{IsBodyOf, short_body}
 use Rattle.secs_item.proofs.Bodies.{body_reads}
 use Rattle.secs_item.proofs.Uniqueness.{body_short}
 use Rattle.secs_text.specs.Body.{signed_number, unsigned_number, hex_float, body_of}
-use Rattle.secs_text.specs.Held.{Fits, IsOctets, AllHeld, BodyIsHeld, IsHeld}
-use Rattle.secs_text.specs.Laid.{Puts, opening_of}
+use Rattle.secs_text.specs.InRange.{Fits, IsOctets, AllHeld, BodyIsHeld, IsHeld}
+use Rattle.secs_text.specs.BlockOutput.{Puts, opening_of}
 use Rattle.secs_text.specs.Printed.{printed_elements, printed_item, printed_values}
 use Rattle.secs_text.proofs.Blocks.{puts_same, puts_then}
 use Rattle.std.proofs.lemmas.List.{take_more, take_all}
@@ -61,8 +61,8 @@ pub leaf_puts : {G H : List ℕ → Type 0} {block now : List ℕ} {from at : �
     → Puts G block from H now at (codes " " ++ printed_item v)
 leaf_puts (list es) f octets lists is h p = absurd cc
 leaf_puts {G} {H} {block} {now} {from} {at} (values v) f octets lists is h p =
-    let spelled = body_short v h.1 in
-    let reads = body_reads v (short_body v) spelled.0 in
+    let encoded_bytes = body_short v h.1 in
+    let reads = body_reads v (short_body v) encoded_bytes.0 in
     let read : values_of f octets ≡ v = ap (λ o. values_of f o) h.0 ∙ ap (λ k. values_of k (short_body v)) is ∙ reads.read_is in
     puts_same (codes " " ++ printed_item (values v))
     (sym (printed_of_values f (length octets) octets (ap is_list is ∙ lists) refl) ∙ ap (λ w. codes " " ++ printed_item (values w)) read) p
@@ -70,8 +70,8 @@ leaf_puts {G} {H} {block} {now} {from} {at} (values v) f octets lists is h p =
 pub leaf_held : (v : Value) (octets : List ℕ) → is_list (format_of v) ≡ false → IsBodyOf v octets → length octets < 2 ^ 64 → IsHeld v
 leaf_held (list es) octets lists h few = absurd cc
 leaf_held (values v) octets lists h few =
-    let spelled = body_short v h.1 in
-    let reads = body_reads v (short_body v) spelled.0 in
+    let encoded_bytes = body_short v h.1 in
+    let reads = body_reads v (short_body v) encoded_bytes.0 in
     let n = counted (format_of_values v) octets lists in
     let read : values_of (format_of_values v) octets ≡ v = ap (values_of (format_of_values v)) h.0 ∙ reads.read_is in
     let size : count_of_values v ≡ length octets / value_size (format_of_values v) = ap count_of_values (sym read) ∙ n.1 in
@@ -79,10 +79,10 @@ leaf_held (values v) octets lists h few =
 
 -- ---- a list by its elements
 
-pub list_goes_on : {G H K : List ℕ → Type 0} {block mid now : List ℕ} {from at end : ℕ} (items : List Item) (i : ℕ) (item : Item) (opening : List ℕ) → i < length items → item ≡ get_or items i item
+pub list_continues : {G H K : List ℕ → Type 0} {block mid now : List ℕ} {from at end : ℕ} (items : List Item) (i : ℕ) (item : Item) (opening : List ℕ) → i < length items → item ≡ get_or items i item
     → Puts G block from H mid at (opening ++ printed_elements (views (take i items))) → Puts H mid at K now end (codes " " ++ printed_item (view item))
     → Puts G block from K now end (opening ++ printed_elements (views (take (i + 1) items)))
-list_goes_on {G} {H} {K} {block} {mid} {now} {from} {at} {end} items i item opening lt is before one =
+list_continues {G} {H} {K} {block} {mid} {now} {from} {at} {end} items i item opening lt is before one =
     puts_same (opening ++ printed_elements (views (take (i + 1) items)))
     (append_assoc opening (printed_elements (views (take i items))) (codes " " ++ printed_item (view item))
     ∙ ap (λ o. opening ++ o) (sym (printed_push (take i items) item))

@@ -3,9 +3,9 @@ use Rattle.std.proofs.Common.{◌≡◌, ℕ, zero, suc, ◌+◌, ◌*◌, ◌/�
 use Rattle.std.proofs.Math.Nat.{add-div_right, div-eq_of_lt}
 use Rattle.std.proofs.lemmas.List.{length-drop, nil_from_length, take-append-drop, take-append-le, drop-append-le}
 use Rattle.std.proofs.lemmas.List.Concat.{flat_map-cons}
-use Rattle.secs_item.specs.Reading.{each, unread}
-use Rattle.secs_text.specs.Laid.{Laid, Puts, words_of}
-use Rattle.secs_text.proofs.Blocks.{puts_laid, puts_room, puts_same}
+use Rattle.secs_item.specs.Decoding.{each, unread}
+use Rattle.secs_text.specs.BlockOutput.{AppendsText, Puts, words_of}
+use Rattle.secs_text.proofs.Blocks.{puts_appended, puts_room, puts_same}
 
 -- nothing is left of a value
 pub words_none : (word : List ℕ → List ℕ) (size : ℕ) (octets : List ℕ) → length octets < size → words_of word size octets ≡ []
@@ -38,25 +38,25 @@ words_split word size (suc n) xs ys some len =
 -- ---- laying them
 
 -- how far it came: what is laid, and the words of the octets that are left
-pub record LaysOn (old now : List ℕ) (from at : ℕ) (all left : List ℕ) : Type 0 where
+pub record AppendedSoFar (old now : List ℕ) (from at : ℕ) (all left : List ℕ) : Type 0 where
   pub octets : take at now ++ left ≡ take from old ++ all
   pub within : at ≤ length now
   pub size : length now ≡ length old
 
 module _ (word : List ℕ → List ℕ) (size : ℕ) (some : 1 ≤ size) (old : List ℕ) (from : ℕ) (all : List ℕ) where
   -- one more value
-  pub lays_next : (now new : List ℕ) (at end : ℕ) (rest first after : List ℕ) → LaysOn old now from at all (words_of word size rest) → size ≤ length rest → first ≡ take size rest → after ≡ drop size rest
-      → Laid now new at (codes " " ++ word first) end → end ≤ length now → LaysOn old new from end all (words_of word size after)
-  lays_next now new at end rest first after before enough first_is after_is laid within = record {
-    octets = ap (λ o. o ++ words_of word size after) (laid.octets ∙ ap (λ o. take at now ++ (codes " " ++ word o)) first_is) ∙ append_assoc (take at now) (codes " " ++ word (take size rest)) (words_of word size after)
+  pub appends_next : (now new : List ℕ) (at end : ℕ) (rest first after : List ℕ) → AppendedSoFar old now from at all (words_of word size rest) → size ≤ length rest → first ≡ take size rest → after ≡ drop size rest
+      → AppendsText now new at (codes " " ++ word first) end → end ≤ length now → AppendedSoFar old new from end all (words_of word size after)
+  appends_next now new at end rest first after before enough first_is after_is appended_text within = record {
+    octets = ap (λ o. o ++ words_of word size after) (appended_text.octets ∙ ap (λ o. take at now ++ (codes " " ++ word o)) first_is) ∙ append_assoc (take at now) (codes " " ++ word (take size rest)) (words_of word size after)
         ∙ ap (λ o. take at now ++ ((codes " " ++ word (take size rest)) ++ words_of word size o)) after_is ∙ ap (λ o. take at now ++ o) (sym (words_first word size rest some enough)) ∙ before.octets;
-    within = omega (arith, laid.size, within);
-    size = laid.size ∙ before.size;
+    within = omega (arith, appended_text.size, within);
+    size = appended_text.size ∙ before.size;
   }
 
   -- nothing is left
-  pub lays_all : (now : List ℕ) (at : ℕ) (rest : List ℕ) → from ≤ length old → LaysOn old now from at all (words_of word size rest) → length rest < size → Laid old now from all at
-  lays_all now at rest there before done =
+  pub appends_all : (now : List ℕ) (at : ℕ) (rest : List ℕ) → from ≤ length old → AppendedSoFar old now from at all (words_of word size rest) → length rest < size → AppendsText old now from all at
+  appends_all now at rest there before done =
       let whole : take at now ≡ take from old ++ all = sym (append-nil (take at now)) ∙ ap (λ o. take at now ++ o) (sym (words_none word size rest done)) ∙ before.octets in
       record {
         octets = whole;
@@ -76,16 +76,16 @@ module _ (G : List ℕ → Type 0) (block : List ℕ) (from : ℕ) (all : List �
   pub words_start : (H : List ℕ → Type 0) (at : ℕ) → Puts G block from H block at [] → WordsOn G block from H block at all all
   words_start H at room = record { done = []; puts = room; parts = refl }
 
-  pub words_chunk : (H K : List ℕ → Type 0) (now new : List ℕ) (at end place : ℕ) (left first after : List ℕ) → left ≡ first ++ after → Laid now new at first end → end ≤ 65536 → Puts H new end K new place []
+  pub words_chunk : (H K : List ℕ → Type 0) (now new : List ℕ) (at end place : ℕ) (left first after : List ℕ) → left ≡ first ++ after → AppendsText now new at first end → end ≤ 65536 → Puts H new end K new place []
       → WordsOn G block from H now at left all → WordsOn G block from K new place after all
-  words_chunk H K now new at end place left first after parts laid within room before = record {
+  words_chunk H K now new at end place left first after parts appended_text within room before = record {
     done = before.done ++ first;
-    puts = puts_room (puts_laid before.puts laid within) room;
+    puts = puts_room (puts_appended before.puts appended_text within) room;
     parts = append_assoc before.done first after ∙ ap (λ o. before.done ++ o) (sym parts) ∙ before.parts;
   }
 
-  pub words_end : (H : List ℕ → Type 0) (now new : List ℕ) (at end : ℕ) (left : List ℕ) → Laid now new at left end → end ≤ 65536 → WordsOn G block from H now at left all → Puts G block from H new end all
-  words_end H now new at end left laid within before = puts_same all before.parts (puts_laid before.puts laid within)
+  pub words_end : (H : List ℕ → Type 0) (now new : List ℕ) (at end : ℕ) (left : List ℕ) → AppendsText now new at left end → end ≤ 65536 → WordsOn G block from H now at left all → Puts G block from H new end all
+  words_end H now new at end left appended_text within before = puts_same all before.parts (puts_appended before.puts appended_text within)
 
 -- a chunk of 512 octets is whole values
 pub words_of_chunk : (word : List ℕ → List ℕ) (size n : ℕ) (left chunk after : List ℕ) → 1 ≤ size → 512 ≡ n * size → 512 < length left → chunk ≡ take 512 left → after ≡ drop 512 left

@@ -10,7 +10,7 @@ use Rattle.secs_text.specs.Token.{Token, word, quoted, less, greater, bracket, b
 use Rattle.secs_text.specs.TypeName.{format_named}
 use Rattle.secs_text.specs.Words.{HeadWord, head, bad_head, no_head, head_word, number_below, is_one}
 use Rattle.secs_text.specs.Fault.{one_message, any_messages, FirstFault, NoteFault, NotesFault}
-use Rattle.secs_text.specs.Places.{Rules, Count, Before, Place, Step, start, after_head, after_wait, type_wanted, after_type, count_wanted, after_count, in_item, stop_wanted, finished, step, is_empty, is_counted, count_place, closed, with_word, with_quoted, or_fault, after_head_word, after_name, after_number, at_in_item}
+use Rattle.secs_text.specs.ParserStates.{Rules, Count, Before, Place, Step, start, after_head, after_wait, type_expected, after_type, count_expected, after_count, in_item, stop_expected, finished, step, is_empty, is_counted, count_place, closed, with_word, with_quoted, or_fault, after_head_word, after_name, after_number, at_in_item}
 
 -- where a step leads, or the fault of a token
 abbrev IsTokenFault : Step → Type 0
@@ -58,8 +58,8 @@ step_fault rules (after_head ms m) at (word w) = either (is_one 0x57 w) (Ok (aft
 step_fault rules (after_head ms m) at t = tt
 step_fault rules (after_wait ms m) at less = tt
 step_fault rules (after_wait ms m) at t = tt
-step_fault rules (type_wanted b opening) at (word w) = name_fault rules b opening at (format_named w)
-step_fault rules (type_wanted b opening) at t = tt
+step_fault rules (type_expected b opening) at (word w) = name_fault rules b opening at (format_named w)
+step_fault rules (type_expected b opening) at t = tt
 step_fault rules (after_type b v) at bracket = tt
 step_fault rules (after_type b v) at (word w) = in_item_fault b None v at (word w)
 step_fault rules (after_type b v) at (quoted text) = in_item_fault b None v at (quoted text)
@@ -67,13 +67,13 @@ step_fault rules (after_type b v) at less = in_item_fault b None v at less
 step_fault rules (after_type b v) at greater = in_item_fault b None v at greater
 step_fault rules (after_type b (list es)) at t = tt
 step_fault rules (after_type b (values v)) at t = tt
-step_fault rules (count_wanted b v opening) at (word w) = number_fault b v opening at (number_below (2 ^ 64) w)
-step_fault rules (count_wanted b v opening) at t = tt
+step_fault rules (count_expected b v opening) at (word w) = number_fault b v opening at (number_below (2 ^ 64) w)
+step_fault rules (count_expected b v opening) at t = tt
 step_fault rules (after_count b v c) at bracket_end = tt
 step_fault rules (after_count b v c) at t = tt
 step_fault rules (in_item b o) at t = in_item_fault b o.count o.so_far at t
-step_fault rules (stop_wanted ms m) at stop = tt
-step_fault rules (stop_wanted ms m) at t = tt
+step_fault rules (stop_expected ms m) at stop = tt
+step_fault rules (stop_expected ms m) at t = tt
 step_fault rules (finished ms) at t = tt
 
 pub never_memory : (rules : Rules) (text : List ℕ) → FirstFault rules text fault.Memory → ⊥

@@ -7,18 +7,18 @@ use Rattle.std.proofs.lemmas.Bool.{leb-true, le-leb}
 use Rattle.std.proofs.lemmas.List.{drop-drop, take_more, length-take-le, get_or-drop}
 use Rattle.secs_item.specs.declared.format.Format.{Format}
 use Rattle.secs_item.specs.Format.{value_size}
-use Rattle.secs_item.specs.Short.{octet_alone, octet_of_truth}
-use Rattle.secs_text.specs.AsPrinted.{EndsWord}
+use Rattle.secs_item.specs.ShortestEncoding.{octet_alone, octet_of_truth}
+use Rattle.secs_text.specs.CanonicalTokens.{EndsWord}
 use Rattle.secs_text.specs.Octets.{is_of_word, is_digit, is_letter}
-use Rattle.secs_text.specs.Places.{Count}
-use Rattle.secs_text.specs.ShortWord.{IsShortWord, AreShortWords}
-use Rattle.secs_text.specs.Spellings.{word_octets, Lays, Gathered}
+use Rattle.secs_text.specs.ParserStates.{Count}
+use Rattle.secs_text.specs.ByteWord.{IsShortWord, AreShortWords}
+use Rattle.secs_text.specs.EncodedText.{word_octets, AppendsBytes, Collected}
 use Rattle.secs_text.specs.Token as math
 use Rattle.secs_text.specs.Token.{Placed, tokens_from}
 use Rattle.secs_text.specs.Words.{octet_of, octets_of, octet_of_digits, octet_from, hex_digit, truth_of}
-use Rattle.secs_text.proofs.AsPrinted.{white_here, ends_of}
-use Rattle.secs_text.proofs.Fronts.{both}
-use Rattle.secs_text.proofs.ParsingValues.{word_gathered}
+use Rattle.secs_text.proofs.CanonicalTokenLists.{white_here, ends_of}
+use Rattle.secs_text.proofs.Prefixes.{both}
+use Rattle.secs_text.proofs.ParsingValues.{word_collected}
 use Rattle.secs_text.proofs.Tokenized.{word_here, drop_front}
 
 -- a digit may stand in a word
@@ -63,9 +63,9 @@ two_digits (Some x) (Some y) octet e = (x, y, refl, refl)
 two_digits (Some x) None octet e = cc
 two_digits None b octet e = cc
 
-spells : (high low octet : ℕ) → octet_of_digits high low ≡ Some octet → octet_of (0x30 ∷ 0x78 ∷ high ∷ low ∷ []) ≡ Some octet
+encodes_to : (high low octet : ℕ) → octet_of_digits high low ≡ Some octet → octet_of (0x30 ∷ 0x78 ∷ high ∷ low ∷ []) ≡ Some octet
 unfolding octet_of octets_of
-spells high low octet e = rw e refl
+encodes_to high low octet e = rw e refl
 
 -- ---- one word
 
@@ -95,7 +95,7 @@ octet_short text octet long space zero_is x_is e =
     record {
       word = 0x30 ∷ 0x78 ∷ high ∷ low ∷ [];
       is_word = record { some = omega arith; all = rw (first, second) refl };
-      spells = ap (option_map octet_alone) (spells high low octet e);
+      encodes_to = ap (option_map octet_alone) (encodes_to high low octet e);
       parts = five_of text long ∙ rw (space, zero_is, x_is) refl;
     }
 
@@ -109,17 +109,17 @@ pub truth_short : (text : List ℕ) (letter octet : ℕ) → length text ≡ 2 �
 truth_short text letter octet long space letter_is is e = record {
   word = letter ∷ [];
   is_word = record { some = omega arith; all = rw is refl };
-  spells = e;
+  encodes_to = e;
   parts = two_of text long ∙ rw (space, letter_is) refl;
 }
 
-pub t_spells : option_map octet_of_truth (truth_of (0x54 ∷ [])) ≡ Some (1 ∷ [])
+pub t_encodes : option_map octet_of_truth (truth_of (0x54 ∷ [])) ≡ Some (1 ∷ [])
 unfolding truth_of
-t_spells = refl
+t_encodes = refl
 
-pub f_spells : option_map octet_of_truth (truth_of (0x46 ∷ [])) ≡ Some (0 ∷ [])
+pub f_encodes : option_map octet_of_truth (truth_of (0x46 ∷ [])) ≡ Some (0 ∷ [])
 unfolding truth_of
-f_spells = refl
+f_encodes = refl
 
 -- four octets of which no more is left than one octet behind the space, the zero and the x
 pub front_of_word : (a b c d n left : ℕ) → a < 256 → b < 256 → c < 256 → d < 256 → n ≡ a * 16777216 + b * 65536 + c * 256 + d → left ≡ (n + (2 ^ 32 - 0x20307800)) % 2 ^ 32 → left ≤ 255
@@ -184,10 +184,10 @@ module _ (reads : List ℕ → Option (List ℕ)) (size : ℕ) where
       (ap (λ k. drop k text) (sym none), subst (λ k. EndsWord (drop k text)) (sym none) (space_ends o h.0 h.1 text h.2 h.4))
   words_less (p ∷ os) o text rest h =
       let less = words_less os o h.1 rest h.5 in
-      let behind : drop (size * suc (length os)) text ≡ drop (size * length os) h.1 =
+      let subsequent : drop (size * suc (length os)) text ≡ drop (size * length os) h.1 =
       ap (λ k. drop k text) (times_more size (length os)) ∙ sym (drop-drop (size * length os) size text)
       ∙ ap (drop (size * length os)) (ap (λ t. drop size t) h.4 ∙ ap (λ k. drop k (h.0 ++ h.1)) (sym h.3) ∙ drop_front h.0 h.1) in
-      ((h.0, h.1, h.2, h.3, h.4, subst (λ r. AreShortWords reads size os h.1 r) (sym behind) less.0), subst (λ r. EndsWord r) (sym behind) less.1)
+      ((h.0, h.1, h.2, h.3, h.4, subst (λ r. AreShortWords reads size os h.1 r) (sym subsequent) less.0), subst (λ r. EndsWord r) (sym subsequent) less.1)
 
   pub all_but_one : (octets : List ℕ) (count : ℕ) (text rest : List ℕ) → 0 < count → count ≤ length octets → AreShortWords reads size (take count octets) text rest
       → AreShortWords reads size (take (count - 1) octets) text (drop (size * (count - 1)) text) × EndsWord (drop (size * (count - 1)) text)
@@ -205,13 +205,13 @@ pub ends_at : (text : List ℕ) (at : ℕ) → is_of_word (get_or text at 0) ≡
 ends_at text at e = ends_of (drop at text) (ap is_of_word (get_or-drop at text 0 0 ∙ ap (λ k. get_or text k 0) (omega arith)) ∙ e)
 
 -- what the words of a run spell is gathered
-pub run_gathered : (f : Format) (count : Option Count) (first : List Placed) (old : List ℕ) (reads : List ℕ → Option (List ℕ)) (size : ℕ) → ((w : List ℕ) → word_octets f w ≡ reads w) → value_size f ≡ 1
-    → (os : List ℕ) (at : ℕ) (text rest new : List ℕ) → AreShortWords reads size os text rest → EndsWord rest → Gathered f count first (tokens_from at text) old new
-    → Gathered f count first (tokens_from (at + size * length os) rest) old (new ++ os)
-run_gathered f count first old reads size spelled sized [] at text rest new h ends g =
+pub run_collected : (f : Format) (count : Option Count) (first : List Placed) (old : List ℕ) (reads : List ℕ → Option (List ℕ)) (size : ℕ) → ((w : List ℕ) → word_octets f w ≡ reads w) → value_size f ≡ 1
+    → (os : List ℕ) (at : ℕ) (text rest new : List ℕ) → AreShortWords reads size os text rest → EndsWord rest → Collected f count first (tokens_from at text) old new
+    → Collected f count first (tokens_from (at + size * length os) rest) old (new ++ os)
+run_collected f count first old reads size encoded_bytes sized [] at text rest new h ends g =
     let here : at ≡ at + size * 0 = omega arith in
-    subst (λ k. Gathered f count first (tokens_from k rest) old (new ++ [])) here (subst (λ r. Gathered f count first (tokens_from at r) old (new ++ [])) h (subst (λ o. Gathered f count first (tokens_from at text) old o) (sym (append-nil new)) g))
-run_gathered f count first old reads size spelled sized (o ∷ os) at text rest new h ends g =
+    subst (λ k. Collected f count first (tokens_from k rest) old (new ++ [])) here (subst (λ r. Collected f count first (tokens_from at r) old (new ++ [])) h (subst (λ o. Collected f count first (tokens_from at text) old o) (sym (append-nil new)) g))
+run_collected f count first old reads size encoded_bytes sized (o ∷ os) at text rest new h ends g =
     let is = h.2 in
     let w = is.word in
     let after = h.1 in
@@ -219,22 +219,22 @@ run_gathered f count first old reads size spelled sized (o ∷ os) at text rest 
     let next = at + 1 + length w in
     let parts : tokens_from at text ≡ record { at = at + 1; token = math.word w } ∷ tokens_from next after =
     ap (λ t. tokens_from at t) (h.4 ∙ ap (λ t. t ++ after) is.parts) ∙ white_here at 0x20 (w ++ after) refl ∙ word_here (at + 1) w after is.is_word ended in
-    let lays : Lays true new (new ++ o ∷ []) (word_octets f w) = ap (option_map (λ p. new ++ p)) (sym (spelled w ∙ is.spells)) in
+    let appends_bytes : AppendsBytes true new (new ++ o ∷ []) (word_octets f w) = ap (option_map (λ p. new ++ p)) (sym (encoded_bytes w ∙ is.encodes_to)) in
     let one : length (new ++ o ∷ []) ≡ length new + value_size f = length-append new (o ∷ []) ∙ ap (λ n. length new + n) (sym sized) in
-    let more = run_gathered f count first old reads size spelled sized os next after rest (new ++ o ∷ []) h.5 ends (word_gathered (at + 1) w (tokens_from next after) (new ++ o ∷ []) g parts true refl lays one) in
+    let more = run_collected f count first old reads size encoded_bytes sized os next after rest (new ++ o ∷ []) h.5 ends (word_collected (at + 1) w (tokens_from next after) (new ++ o ∷ []) g parts true refl appends_bytes one) in
     let long : suc (length w) ≡ size = sym (ap length is.parts) ∙ h.3 in
     let place : next + size * length os ≡ at + size * suc (length os) = omega (arith, long, times_more size (length os)) in
-    subst (λ k. Gathered f count first (tokens_from k rest) old (new ++ o ∷ os)) place (subst (λ p. Gathered f count first (tokens_from (next + size * length os) rest) old p) (append_assoc new (o ∷ []) os) more)
+    subst (λ k. Collected f count first (tokens_from k rest) old (new ++ o ∷ os)) place (subst (λ p. Collected f count first (tokens_from (next + size * length os) rest) old p) (append_assoc new (o ∷ []) os) more)
 
 -- a run at a place of a text
-pub run_gathered_at : (f : Format) (count : Option Count) (first : List Placed) (old : List ℕ) (reads : List ℕ → Option (List ℕ)) (size n place : ℕ) (octets text rest new now : List ℕ) → ((w : List ℕ) → word_octets f w ≡ reads w) → value_size f ≡ 1
-    → rest ≡ drop place text → n ≤ length octets → AreShortWords reads size (take n octets) rest (drop (size * n) rest) → EndsWord (drop (size * n) rest) → now ≡ new ++ take n octets → Gathered f count first (tokens_from place (drop place text)) old new
-    → Gathered f count first (tokens_from (place + size * n) (drop (place + size * n) text)) old now
-run_gathered_at f count first old reads size n place octets text rest new now spelled sized left within words ends pushed g =
+pub run_collected_at : (f : Format) (count : Option Count) (first : List Placed) (old : List ℕ) (reads : List ℕ → Option (List ℕ)) (size n place : ℕ) (octets text rest new now : List ℕ) → ((w : List ℕ) → word_octets f w ≡ reads w) → value_size f ≡ 1
+    → rest ≡ drop place text → n ≤ length octets → AreShortWords reads size (take n octets) rest (drop (size * n) rest) → EndsWord (drop (size * n) rest) → now ≡ new ++ take n octets → Collected f count first (tokens_from place (drop place text)) old new
+    → Collected f count first (tokens_from (place + size * n) (drop (place + size * n) text)) old now
+run_collected_at f count first old reads size n place octets text rest new now encoded_bytes sized left within words ends pushed g =
     let long : length (take n octets) ≡ n = length-take-le n octets within in
-    let behind : drop (size * n) rest ≡ drop (place + size * n) text = ap (drop (size * n)) left ∙ drop-drop (size * n) place text in
-    let here = subst (λ o. Gathered f count first (tokens_from place o) old new) (sym left) g in
-    let all = run_gathered f count first old reads size spelled sized (take n octets) place rest (drop (size * n) rest) new words ends here in
-    subst (λ o. Gathered f count first (tokens_from (place + size * n) (drop (place + size * n) text)) old o) (sym pushed)
-    (subst (λ o. Gathered f count first (tokens_from (place + size * n) o) old (new ++ take n octets)) behind
-    (subst (λ k. Gathered f count first (tokens_from (place + size * k) (drop (size * n) rest)) old (new ++ take n octets)) long all))
+    let subsequent : drop (size * n) rest ≡ drop (place + size * n) text = ap (drop (size * n)) left ∙ drop-drop (size * n) place text in
+    let here = subst (λ o. Collected f count first (tokens_from place o) old new) (sym left) g in
+    let all = run_collected f count first old reads size encoded_bytes sized (take n octets) place rest (drop (size * n) rest) new words ends here in
+    subst (λ o. Collected f count first (tokens_from (place + size * n) (drop (place + size * n) text)) old o) (sym pushed)
+    (subst (λ o. Collected f count first (tokens_from (place + size * n) o) old (new ++ take n octets)) subsequent
+    (subst (λ k. Collected f count first (tokens_from (place + size * k) (drop (size * n) rest)) old (new ++ take n octets)) long all))

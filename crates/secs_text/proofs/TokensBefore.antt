@@ -10,8 +10,8 @@ use Rattle.secs_text.specs.Token.{Token, word, quoted, less, greater, bracket, b
 use Rattle.secs_text.specs.TypeName.{format_named}
 use Rattle.secs_text.specs.Words.{HeadWord, head, bad_head, no_head, head_word, number_below, is_one}
 use Rattle.secs_text.specs.Notation.{ItemTokens, OptionalItem, wait_word, wait_tokens, MessageTokens, MessagesTokens}
-use Rattle.secs_text.specs.Places.{Rules, Count, Opened, Before, Place, Step, start, after_head, after_wait, type_wanted, after_type, count_wanted, after_count, in_item, stop_wanted, finished, step, is_empty, after_head_word, at_after_wait}
-use Rattle.secs_text.proofs.SoFar.{SoFar, OpenedTokens, IsList}
+use Rattle.secs_text.specs.ParserStates.{Rules, Count, Opened, Before, Place, Step, start, after_head, after_wait, type_expected, after_type, count_expected, after_count, in_item, stop_expected, finished, step, is_empty, after_head_word, at_after_wait}
+use Rattle.secs_text.proofs.PartialTokens.{SoFar, OpenedTokens, IsList}
 
 -- ---- what the tokens before a place are
 
@@ -76,24 +76,24 @@ pub record Finished (rules : Rules) (ms : List Content) (ts : List Token) : Type
   pub may : rules.several || not (is_empty ms) ≡ true
   pub parts : ts ≡ before ++ end ∷ []
 
-abbrev pub Stands : Rules → Place → List Token → Type 0
-Stands rules (start ms) ts = Whole rules ms ts
-Stands rules (after_head ms m) ts = Headed rules ms m.stream m.function m.wait ts × (m.item ≡ None) × (m.wait ≡ false)
-Stands rules (after_wait ms m) ts = Headed rules ms m.stream m.function m.wait ts × (m.item ≡ None)
-Stands rules (type_wanted b opening) ts = (outer : List Token) × Surrounded rules b.messages b.message b.lists outer × (length b.lists ≤ rules.depth) × (ts ≡ outer ++ less ∷ [])
-Stands rules (after_type b v) ts = Named rules b v [] ts
-Stands rules (count_wanted b v opening) ts = Named rules b v (bracket ∷ []) ts
-Stands rules (after_count b v c) ts = (w : List ℕ) × (number_below (2 ^ 64) w ≡ Some c.number) × Named rules b v (bracket ∷ word w ∷ []) ts
-Stands rules (in_item b o) ts = InItem rules b o.count o.so_far ts
-Stands rules (stop_wanted ms m) ts = Held rules ms m ts
-Stands rules (finished ms) ts = Finished rules ms ts
+abbrev pub StateInvariant : Rules → Place → List Token → Type 0
+StateInvariant rules (start ms) ts = Whole rules ms ts
+StateInvariant rules (after_head ms m) ts = Headed rules ms m.stream m.function m.wait ts × (m.item ≡ None) × (m.wait ≡ false)
+StateInvariant rules (after_wait ms m) ts = Headed rules ms m.stream m.function m.wait ts × (m.item ≡ None)
+StateInvariant rules (type_expected b opening) ts = (outer : List Token) × Surrounded rules b.messages b.message b.lists outer × (length b.lists ≤ rules.depth) × (ts ≡ outer ++ less ∷ [])
+StateInvariant rules (after_type b v) ts = Named rules b v [] ts
+StateInvariant rules (count_expected b v opening) ts = Named rules b v (bracket ∷ []) ts
+StateInvariant rules (after_count b v c) ts = (w : List ℕ) × (number_below (2 ^ 64) w ≡ Some c.number) × Named rules b v (bracket ∷ word w ∷ []) ts
+StateInvariant rules (in_item b o) ts = InItem rules b o.count o.so_far ts
+StateInvariant rules (stop_expected ms m) ts = Held rules ms m ts
+StateInvariant rules (finished ms) ts = Finished rules ms ts
 
 -- ---- steps
 
-pub arrives : (rules : Rules) (place next : Place) (ts : List Token) → Stands rules place ts → ◌≡◌ {A = Step} (Ok place) (Ok next) → Stands rules next ts
+pub arrives : (rules : Rules) (place next : Place) (ts : List Token) → StateInvariant rules place ts → ◌≡◌ {A = Step} (Ok place) (Ok next) → StateInvariant rules next ts
 arrives rules place next ts h e =
     let is : place ≡ next = cc in
-    let P : Place → Type 0 = λ o. Stands rules o ts in subst P is h
+    let P : Place → Type 0 = λ o. StateInvariant rules o ts in subst P is h
 
 pub chosen : (b : Bool) (r : Step) (f : TextFault) (next : Place) → (if b then r else Err f) ≡ Ok next → (b ≡ true) × (r ≡ Ok next)
 chosen true r f next e = (refl, e)
@@ -140,13 +140,13 @@ held_ends rules ms m ts h =
     let R : List Token → Type 0 = λ o. Whole rules (ms ++ m ∷ []) (o ++ stop ∷ []) in
     subst R (sym h.parts) (message_ends rules ms m h.outer h.inner h.headed (subst P (sym h.item) h.holds) (subst Q (sym h.item) h.shallow))
 
-pub head_step : (rules : Rules) (ms : List Content) (at : ℕ) (w : List ℕ) (ts : List Token) (next : Place) → Whole rules ms ts → rules.several || is_empty ms ≡ true → (h : HeadWord) → head_word w ≡ h → after_head_word ms at h ≡ Ok next → Stands rules next (ts ++ word w ∷ [])
+pub head_step : (rules : Rules) (ms : List Content) (at : ℕ) (w : List ℕ) (ts : List Token) (next : Place) → Whole rules ms ts → rules.several || is_empty ms ≡ true → (h : HeadWord) → head_word w ≡ h → after_head_word ms at h ≡ Ok next → StateInvariant rules next (ts ++ word w ∷ [])
 head_step rules ms at w ts next whole may (head stream function) is e =
     arrives rules _ next _ (record { before = ts; messages = whole.tokens; within = whole.within; may = may; name = w; named = is; parts = refl }, refl, refl) e
 head_step rules ms at w ts next whole may bad_head is e = cc
 head_step rules ms at w ts next whole may no_head is e = cc
 
-pub start_step : (rules : Rules) (ms : List Content) (at : ℕ) (t : Token) (ts : List Token) (next : Place) → Whole rules ms ts → step rules (start ms) at t ≡ Ok next → Stands rules next (ts ++ t ∷ [])
+pub start_step : (rules : Rules) (ms : List Content) (at : ℕ) (t : Token) (ts : List Token) (next : Place) → Whole rules ms ts → step rules (start ms) at t ≡ Ok next → StateInvariant rules next (ts ++ t ∷ [])
 start_step rules ms at (word w) ts next whole e =
     let c = chosen (rules.several || is_empty ms) (after_head_word ms at (head_word w)) (fault.Syntax at) next e in
     head_step rules ms at w ts next whole c.0 (head_word w) refl c.1
@@ -161,7 +161,7 @@ start_step rules ms at bracket_end ts next whole e = cc
 start_step rules ms at stop ts next whole e = cc
 start_step rules ms at broken ts next whole e = cc
 
-pub after_wait_step : (rules : Rules) (ms : List Content) (m : Content) (at : ℕ) (t : Token) (ts : List Token) (next : Place) → Headed rules ms m.stream m.function m.wait ts → m.item ≡ None → at_after_wait ms m at t ≡ Ok next → Stands rules next (ts ++ t ∷ [])
+pub after_wait_step : (rules : Rules) (ms : List Content) (m : Content) (at : ℕ) (t : Token) (ts : List Token) (next : Place) → Headed rules ms m.stream m.function m.wait ts → m.item ≡ None → at_after_wait ms m at t ≡ Ok next → StateInvariant rules next (ts ++ t ∷ [])
 after_wait_step rules ms m at less ts next h none e = arrives rules _ next _ (ts, h, omega arith, refl) e
 after_wait_step rules ms m at stop ts next h none e = arrives rules _ next _ (bare_ends rules ms m ts h none) e
 after_wait_step rules ms m at (word w) ts next h none e = cc
@@ -188,7 +188,7 @@ waits rules ms m w ts h no_wait is = record {
   parts = ap (λ o. o ++ word w ∷ []) (h.parts ∙ ap (λ b. h.before ++ (word h.name ∷ wait_tokens b)) no_wait) ∙ append_assoc h.before (word h.name ∷ []) (word w ∷ []) ∙ ap (λ o. h.before ++ (word h.name ∷ word o ∷ [])) is;
 }
 
-pub after_head_step : (rules : Rules) (ms : List Content) (m : Content) (at : ℕ) (t : Token) (ts : List Token) (next : Place) → Headed rules ms m.stream m.function m.wait ts → m.item ≡ None → m.wait ≡ false → step rules (after_head ms m) at t ≡ Ok next → Stands rules next (ts ++ t ∷ [])
+pub after_head_step : (rules : Rules) (ms : List Content) (m : Content) (at : ℕ) (t : Token) (ts : List Token) (next : Place) → Headed rules ms m.stream m.function m.wait ts → m.item ≡ None → m.wait ≡ false → step rules (after_head ms m) at t ≡ Ok next → StateInvariant rules next (ts ++ t ∷ [])
 after_head_step rules ms m at (word w) ts next h none no_wait e =
     let c = chosen (is_one 0x57 w) (Ok (after_wait ms (record m { wait = true }))) (fault.Syntax at) next e in
     arrives rules _ next _ (waits rules ms m w ts h no_wait (one_octet 0x57 w c.0), none) c.1

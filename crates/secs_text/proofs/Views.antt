@@ -2,7 +2,7 @@
 use Rattle.std.proofs.Common.{◌≡◌, ℕ, suc, List, [], ◌∷◌, length, refl, ap, ◌++◌, ◌∙◌, sym, append_assoc, append-nil, codes, ◌+◌, ◌<◌, get_or, take, subst}
 use Rattle.std.proofs.lemmas.List.{take_more}
 use Rattle.secs_item.specs.Item.{view, views, count, element, with_element}
-use Rattle.secs_text.specs.Held.{AllHeld, IsHeld}
+use Rattle.secs_text.specs.InRange.{AllHeld, IsHeld}
 use Rattle.secs_text.specs.Printed.{printed_elements, printed_item}
 use Rattle.secs_text.specs.View.{content, contents}
 use Rattle.secs_text.specs.declared.message.Message.{Message}
@@ -21,8 +21,8 @@ held_push : (items : List Item) (item : Item) → AllHeld (views items) → IsHe
 held_push [] item all one = (one.0, one.1, tt)
 held_push (i ∷ items) item all one = (all.0, all.1, held_push items item all.2 one)
 
-pub held_goes_on : (items : List Item) (i : ℕ) (item : Item) → i < length items → item ≡ get_or items i item → AllHeld (views (take i items)) → IsHeld (view item) → AllHeld (views (take (i + 1) items))
-held_goes_on items i item lt is all one =
+pub held_continues : (items : List Item) (i : ℕ) (item : Item) → i < length items → item ≡ get_or items i item → AllHeld (views (take i items)) → IsHeld (view item) → AllHeld (views (take (i + 1) items))
+held_continues items i item lt is all one =
     let more : take (i + 1) items ≡ take i items ++ item ∷ [] = take_more items i item lt ∙ ap (λ x. take i items ++ x ∷ []) (sym is) in
     let P : List Item → Type 0 = λ o. AllHeld (views o) in
     subst P (sym more) (held_push (take i items) item all one)

@@ -7,7 +7,7 @@ use Rattle.std.proofs.lemmas.Int.{to_z-of_z}
 use Rattle.std.specs.Int.{w64, cast_unsigned, byte_len}
 use Rattle.std.proofs.lemmas.Bool.{eqb-true}
 use Rattle.byteorder.specs.Endian.{big_bytes, big_number, low_bytes}
-use Rattle.secs_item.specs.Short.{octets_of_signed}
+use Rattle.secs_item.specs.ShortestEncoding.{octets_of_signed}
 use Rattle.secs_text.specs.Widths.{is_width, width_of, unsigned, octets_of_unsigned}
 use Rattle.secs_text.specs.Words.{signed_below}
 
@@ -68,15 +68,15 @@ signed_octets n z is small = ap (big_bytes n) (low_is n z is small) ∙ length_i
 
 module _ (n most : ℕ) (w : List ℕ) (greatest : most + 1 ≡ 2 ^ (8 * n - 1)) where
   -- the octets of a number that a word spells
-  pub signed_spelled : (z : ℤ) (zeros octets : List ℕ) → is_width n ≡ true → Some z ≡ signed_below (most + 1) w → mag z ≤ most → length zeros ≡ n → octets ≡ big_bytes n (low_bytes w64 n (to_z w64 (of_z w64 z))) ++ drop n zeros
+  pub signed_encoded : (z : ℤ) (zeros octets : List ℕ) → is_width n ≡ true → Some z ≡ signed_below (most + 1) w → mag z ≤ most → length zeros ≡ n → octets ≡ big_bytes n (low_bytes w64 n (to_z w64 (of_z w64 z))) ++ drop n zeros
       → Some octets ≡ option_map (octets_of_signed (width_of n)) (signed_below (2 ^ (8 * n - 1)) w)
-  signed_spelled z zeros octets is spelled within long laid =
+  signed_encoded z zeros octets is encoded_bytes within long appended_text =
       let small : mag z < 2 ^ (8 * n - 1) = omega (arith, within, greatest) in
       let fits : mag z < 9223372036854775808 = (let most_of_all = half_most n is in omega (arith, small, most_of_all)) in
       let none : drop n zeros ≡ [] = ap (λ k. drop k zeros) (sym long) ∙ drop-length zeros in
       let octets_are : octets ≡ octets_of_signed (width_of n) z =
-      laid ∙ ap (λ k. big_bytes n (low_bytes w64 n k) ++ drop n zeros) (to_z-of_z w64 z (record { sfits = fits })) ∙ ap (λ o. big_bytes n (low_bytes w64 n z) ++ o) none ∙ append-nil (big_bytes n (low_bytes w64 n z)) ∙ signed_octets n z is small in
-      ap (λ o. Some o) octets_are ∙ ap (option_map (octets_of_signed (width_of n))) (spelled ∙ ap (λ half. signed_below half w) greatest)
+      appended_text ∙ ap (λ k. big_bytes n (low_bytes w64 n k) ++ drop n zeros) (to_z-of_z w64 z (record { sfits = fits })) ∙ ap (λ o. big_bytes n (low_bytes w64 n z) ++ o) none ∙ append-nil (big_bytes n (low_bytes w64 n z)) ∙ signed_octets n z is small in
+      ap (λ o. Some o) octets_are ∙ ap (option_map (octets_of_signed (width_of n))) (encoded_bytes ∙ ap (λ half. signed_below half w) greatest)
 
   pub signed_refused : None ≡ signed_below (most + 1) w → ◌≡◌ {A = Option (List ℕ)} None (option_map (octets_of_signed (width_of n)) (signed_below (2 ^ (8 * n - 1)) w))
   signed_refused refused = ap (option_map (octets_of_signed (width_of n))) (refused ∙ ap (λ half. signed_below half w) greatest)

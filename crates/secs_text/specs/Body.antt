@@ -6,36 +6,36 @@ use Rattle.secs_item.specs.Item.{Value, list, values, Values, binary, boolean, a
 use Rattle.secs_text.specs.Words.{number_below, signed_below, octet_of, float_of, truth_of}
 
 -- how a word spells a value
-pub data Spelling : Type 0 where
-  hex_octet : Spelling
-  truth_letter : Spelling
+pub data WordEncoding : Type 0 where
+  hex_octet : WordEncoding
+  truth_letter : WordEncoding
   -- at least `-half`, and below `half`
-  signed_number : ℕ → Spelling
+  signed_number : ℕ → WordEncoding
   -- below a limit
-  unsigned_number : ℕ → Spelling
+  unsigned_number : ℕ → WordEncoding
   -- of so many octets
-  hex_float : ℕ → Spelling
+  hex_float : ℕ → WordEncoding
 
 -- what such a word spells
-abbrev pub Spelled : Spelling → Type 0
-Spelled hex_octet = ℕ
-Spelled truth_letter = Bool
-Spelled (signed_number half) = ℤ
-Spelled (unsigned_number limit) = ℕ
-Spelled (hex_float size) = List ℕ
+abbrev pub IsEncoded : WordEncoding → Type 0
+IsEncoded hex_octet = ℕ
+IsEncoded truth_letter = Bool
+IsEncoded (signed_number half) = ℤ
+IsEncoded (unsigned_number limit) = ℕ
+IsEncoded (hex_float size) = List ℕ
 
 -- the value that a word spells, if it is one
-abbrev pub spelled : (s : Spelling) → List ℕ → Option (Spelled s)
-spelled hex_octet w = octet_of w
-spelled truth_letter w = truth_of w
-spelled (signed_number half) w = signed_below half w
-spelled (unsigned_number limit) w = number_below limit w
-spelled (hex_float size) w = float_of size w
+abbrev pub encoded_bytes : (s : WordEncoding) → List ℕ → Option (IsEncoded s)
+encoded_bytes hex_octet w = octet_of w
+encoded_bytes truth_letter w = truth_of w
+encoded_bytes (signed_number half) w = signed_below half w
+encoded_bytes (unsigned_number limit) w = number_below limit w
+encoded_bytes (hex_float size) w = float_of size w
 
 -- octets of text, or values each of which is one word
 pub data Body : Type 0 where
   in_text : List ℕ → Body
-  in_words : (s : Spelling) → List (Spelled s) → Body
+  in_words : (s : WordEncoding) → List (IsEncoded s) → Body
 
 abbrev pub body_of : Values → Body
 body_of (binary xs) = in_words hex_octet xs

@@ -2,7 +2,7 @@
 use Rattle.std.specs.Prelude.{◌≡◌, ℕ, true, false, Ok, Err, List, [], ◌∷◌, ◌++◌}
 use Rattle.secs_text.specs.declared.fault.TextFault.{TextFault}
 use Rattle.secs_text.specs.Token.{Placed, tokens}
-use Rattle.secs_text.specs.Places.{Rules, Place, start, step, walk}
+use Rattle.secs_text.specs.ParserStates.{Rules, Place, start, step, walk}
 
 -- the text is one message
 abbrev pub one_message : ℕ → Rules

@@ -4,9 +4,9 @@ use Rattle.secs_text.specs.declared.fault.TextFault.{TextFault}
 use Rattle.secs_text.specs.declared.fault.TextFault.TheVariants.{Memory}
 use Rattle.secs_text.specs.Content.{Content, IsWithin, AllWithin}
 use Rattle.secs_text.specs.Fault.{NoteFault, NotesFault, one_message, any_messages}
-use Rattle.secs_text.specs.Held.{IsHeldMessage}
+use Rattle.secs_text.specs.InRange.{IsHeldMessage}
 use Rattle.secs_text.specs.Notation.{Notation, Notations}
-use Rattle.secs_text.specs.Places.{reading, finished}
+use Rattle.secs_text.specs.ParserStates.{reading, finished}
 use Rattle.secs_text.specs.Printed.{printed}
 
 -- ---- the table of places and the notation

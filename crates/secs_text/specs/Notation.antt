@@ -1,7 +1,7 @@
 -- Which texts are the notation of a message: this project's own.
 use Rattle.std.specs.Prelude.{◌≡◌, ◌^◌, ◌⊎◌, ℕ, Bool, true, false, List, [], ◌∷◌, ◌++◌, map, Option, Some, None}
 use Rattle.secs_item.specs.Item.{Value, list, values, Elements, no_elements, element, format_of, count_of}
-use Rattle.secs_text.specs.Body.{Body, in_text, in_words, spelled, body_of}
+use Rattle.secs_text.specs.Body.{Body, in_text, in_words, encoded_bytes, body_of}
 use Rattle.secs_text.specs.Content.{Content}
 use Rattle.secs_text.specs.Token.{Token, word, quoted, less, greater, bracket, bracket_end, stop, end, tokens}
 use Rattle.secs_text.specs.TypeName.{format_named}
@@ -26,7 +26,7 @@ InPieces (t ∷ ts) octets = (first rest : List ℕ) × IsPiece t first × InPie
 
 abbrev pub BodyTokens : Body → List Token → Type 0
 BodyTokens (in_text octets) ts = InPieces ts octets
-BodyTokens (in_words s xs) ts = InWords (spelled s) xs ts
+BodyTokens (in_words s xs) ts = InWords (encoded_bytes s) xs ts
 
 -- ---- items
 

@@ -3,7 +3,7 @@ use Rattle.std.specs.Prelude.{ℕ, ◌/◌, ◌%◌, Bool, true, false, if◌the
 use Rattle.std.specs.List.{flat_map}
 use Rattle.std.specs.Fmt.{decimal, signed_decimal, digit_glyph}
 use Rattle.secs_item.specs.Item.{Value, list, values, Elements, no_elements, element, format_of, count_of}
-use Rattle.secs_text.specs.Body.{Spelling, hex_octet, truth_letter, signed_number, unsigned_number, hex_float, Spelled, Body, in_text, in_words, body_of}
+use Rattle.secs_text.specs.Body.{WordEncoding, hex_octet, truth_letter, signed_number, unsigned_number, hex_float, IsEncoded, Body, in_text, in_words, body_of}
 use Rattle.secs_text.specs.Content.{Content}
 use Rattle.secs_text.specs.Octets.{is_quotable}
 use Rattle.secs_text.specs.TypeName.{type_name}
@@ -36,7 +36,7 @@ printed_text quoted [] = if quoted then codes "\"" else []
 printed_text quoted (c ∷ cs) = printed_octet quoted c ++ printed_text (is_quotable c) cs
 
 -- the word that is written for a value
-abbrev pub written : (s : Spelling) → Spelled s → List ℕ
+abbrev pub written : (s : WordEncoding) → IsEncoded s → List ℕ
 written hex_octet x = hexadecimal (x ∷ [])
 written truth_letter x = truth_word x
 written (signed_number half) x = signed_decimal x

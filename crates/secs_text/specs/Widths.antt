@@ -2,8 +2,8 @@
 use Rattle.std.specs.Prelude.{ℕ, Bool, ◌==◌, ◌||◌, if◌then◌else◌, List}
 use Rattle.std.specs.Int.{Width, w8, w16, w32, w64}
 use Rattle.byteorder.specs.Endian.{big_bytes, big_number}
-use Rattle.secs_item.specs.Reading.{octet}
-use Rattle.secs_item.specs.Short.{octet_alone}
+use Rattle.secs_item.specs.Decoding.{octet}
+use Rattle.secs_item.specs.ShortestEncoding.{octet_alone}
 
 -- a value has one, two, four or eight octets
 abbrev pub is_width : ℕ → Bool

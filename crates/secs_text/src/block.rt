@@ -1,9 +1,9 @@
 //! A block of octets on their way to an output.
 
 ghost use Rattle.std.specs.Prelude.{◌≡◌, ◌≤◌, ◌+◌, ◌++◌, ℕ, List, [], length, take, IfOk};
-ghost use Rattle.secs_text.specs.Laid.{IsPlace, Lays, Puts};
+ghost use Rattle.secs_text.specs.BlockOutput.{IsPlace, AppendsBytes, Puts};
 
-use crate::laying::{lay_slice, lay_word};
+use crate::block_copy::{append_slice, append_word};
 use std::alloc::{AllocError, Global};
 use std::marker::Model;
 
@@ -61,33 +61,33 @@ impl Block {
 
     /// Lays octets behind its own. Where there is no room for them, an output is given its own first.
     #[inline(always)]
-    pub fn lay<O: Output>(&mut self, out: &mut O, octets: &[u8])
-        ensures { Lays (O.Given out.old) self.old (O.Given out.new) self.new octets.now }
+    pub fn append_chunk<O: Output>(&mut self, out: &mut O, octets: &[u8])
+        ensures { AppendsBytes (O.Given out.old) self.old (O.Given out.new) self.new octets.now }
     {
         if octets.len() <= SIZE - self.used {
-            self.used = lay_slice(self.octets.as_mut_slice(), self.used, octets);
+            self.used = append_slice(self.octets.as_mut_slice(), self.used, octets);
         } else {
-            self.give_behind(out, octets);
+            self.write_after(out, octets);
         }
     }
 
-    /// Lays the octets of an array, as [`lay`](Block::lay) does, by loads and stores of its size.
+    /// Lays the octets of an array, as [`append_chunk`](Block::lay) does, by loads and stores of its size.
     #[inline(always)]
-    pub fn lay_array<const N: usize, O: Output>(&mut self, out: &mut O, octets: &[u8; N])
-        ensures { Lays (O.Given out.old) self.old (O.Given out.new) self.new octets.now }
+    pub fn append_array<const N: usize, O: Output>(&mut self, out: &mut O, octets: &[u8; N])
+        ensures { AppendsBytes (O.Given out.old) self.old (O.Given out.new) self.new octets.now }
     {
         if N <= SIZE - self.used {
-            self.used = lay_word::<N>(self.octets.as_mut_slice(), self.used, octets, N);
+            self.used = append_word::<N>(self.octets.as_mut_slice(), self.used, octets, N);
         } else {
-            self.give_behind(out, octets);
+            self.write_after(out, octets);
         }
     }
 
     // Gives an output all octets, and then these.
     #[cold]
     #[inline(never)]
-    fn give_behind<O: Output>(&mut self, out: &mut O, octets: &[u8])
-        ensures { Lays (O.Given out.old) self.old (O.Given out.new) self.new octets.now }
+    fn write_after<O: Output>(&mut self, out: &mut O, octets: &[u8])
+        ensures { AppendsBytes (O.Given out.old) self.old (O.Given out.new) self.new octets.now }
     {
         self.give_all(out);
         out.give(octets);

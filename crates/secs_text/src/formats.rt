@@ -2,15 +2,17 @@
 
 ghost use Rattle.std.specs.Prelude.{◌≡◌, ◌≤◌, ◌<◌, ◌-◌, ◌+◌, ◌*◌, ◌^◌, ◌++◌, ℕ, List, [], ◌∷◌, Option, true, length, codes, option_map, IfSome};
 ghost use Rattle.std.specs.Fmt.{decimal, signed_decimal};
-ghost use Rattle.secs_item.specs.Reading.{octet, truth, signed};
-ghost use Rattle.secs_item.specs.Short.{octet_alone, octet_of_truth, octets_of_signed};
-ghost use Rattle.secs_text.specs.Laid.{Laid};
+ghost use Rattle.secs_item.specs.Decoding.{octet, truth, signed};
+ghost use Rattle.secs_item.specs.ShortestEncoding.{octet_alone, octet_of_truth, octets_of_signed};
+ghost use Rattle.secs_text.specs.BlockOutput.{AppendsText};
 ghost use Rattle.secs_text.specs.Printed.{hexadecimal, truth_word};
-ghost use Rattle.secs_text.specs.ShortWord.{IsShortWord};
+ghost use Rattle.secs_text.specs.ByteWord.{IsShortWord};
 ghost use Rattle.secs_text.specs.Widths.{is_width, width_of, unsigned, octets_of_unsigned};
 ghost use Rattle.secs_text.specs.Words.{number_below, signed_below, octet_of, float_of, truth_of};
 
-use crate::laying::{lay_byte, lay_digits, lay_natural, lay_number, lay_octet, lay_slice};
+use crate::block_copy::{
+    append_byte, append_digits, append_natural, append_number, append_octet, append_slice,
+};
 use crate::word::{float_of, number_at_most, octet_of_digits, signed_at_most};
 use byteorder::{BigEndian, ByteOrder};
 
@@ -20,19 +22,19 @@ pub trait WordFormat<const N: usize> {
     ghost printed: { List ℕ → List ℕ };
 
     /// The octets of the value that a word spells, if it spells one.
-    ghost spelled: { List ℕ → Option (List ℕ) };
+    ghost encoded_bytes: { List ℕ → Option (List ℕ) };
 
     /// Lays the word of a value, after a space.
-    fn lay(block: &mut [u8], at: usize, octets: &[u8; N]) -> usize
+    fn append_chunk(block: &mut [u8], at: usize, octets: &[u8; N]) -> usize
         requires width { is_width N ≡ true }
         requires room { at + 48 ≤ length block.old }
-        ensures laid { Laid block.old block.new at (codes " " ++ printed octets.now) result }
+        ensures appended_text { AppendsText block.old block.new at (codes " " ++ printed octets.now) result }
         ensures near { result ≤ at + 48 };
 
     /// The octets of the value that a word spells, if it spells one.
     fn parse(word: &[u8]) -> Option<[u8; N]>
         requires { is_width N ≡ true }
-        ensures { result ≡ spelled word.now };
+        ensures { result ≡ encoded_bytes word.now };
 }
 
 /// A format whose values are single octets, each spelled by a word that has `N` octets with the space before it.
@@ -51,10 +53,10 @@ pub struct Octets;
 impl WordFormat<1> for Octets {
     ghost printed = { λ o. hexadecimal (octet o ∷ []) };
 
-    ghost spelled = { λ w. option_map octet_alone (octet_of w) };
+    ghost encoded_bytes = { λ w. option_map octet_alone (octet_of w) };
 
-    fn lay(block: &mut [u8], at: usize, octets: &[u8; 1]) -> usize {
-        lay_octet(block, at, octets[0])
+    fn append_chunk(block: &mut [u8], at: usize, octets: &[u8; 1]) -> usize {
+        append_octet(block, at, octets[0])
     }
 
     #[tactic(auto, using(crate::proofs::Hexadecimal::one_octet))]
@@ -84,11 +86,11 @@ pub struct Truths;
 impl WordFormat<1> for Truths {
     ghost printed = { λ o. truth_word (truth o) };
 
-    ghost spelled = { λ w. option_map octet_of_truth (truth_of w) };
+    ghost encoded_bytes = { λ w. option_map octet_of_truth (truth_of w) };
 
-    fn lay(block: &mut [u8], at: usize, octets: &[u8; 1]) -> usize {
-        let at = lay_byte(block, at, b' ');
-        lay_byte(block, at, if octets[0] != 0 { b'T' } else { b'F' })
+    fn append_chunk(block: &mut [u8], at: usize, octets: &[u8; 1]) -> usize {
+        let at = append_byte(block, at, b' ');
+        append_byte(block, at, if octets[0] != 0 { b'T' } else { b'F' })
     }
 
     #[tactic(auto, unfolding(crate::specs::Words::truth_of))]
@@ -120,11 +122,11 @@ pub struct Unsigned;
 impl<const N: usize> WordFormat<N> for Unsigned {
     ghost printed = { λ o. decimal (unsigned N o) };
 
-    ghost spelled = { λ w. option_map (octets_of_unsigned N) (number_below (2 ^ (8 * N)) w) };
+    ghost encoded_bytes = { λ w. option_map (octets_of_unsigned N) (number_below (2 ^ (8 * N)) w) };
 
-    fn lay(block: &mut [u8], at: usize, octets: &[u8; N]) -> usize {
-        let at = lay_byte(block, at, b' ');
-        lay_natural(block, at, BigEndian::read_uint(octets, N))
+    fn append_chunk(block: &mut [u8], at: usize, octets: &[u8; N]) -> usize {
+        let at = append_byte(block, at, b' ');
+        append_natural(block, at, BigEndian::read_uint(octets, N))
     }
 
     fn parse(word: &[u8]) -> Option<[u8; N]> {
@@ -155,15 +157,15 @@ pub struct Signed;
 impl<const N: usize> WordFormat<N> for Signed {
     ghost printed = { λ o. signed_decimal (signed (width_of N) o) };
 
-    ghost spelled = { λ w. option_map (octets_of_signed (width_of N)) (signed_below (2 ^ (8 * N - 1)) w) };
+    ghost encoded_bytes = { λ w. option_map (octets_of_signed (width_of N)) (signed_below (2 ^ (8 * N - 1)) w) };
 
-    fn lay(block: &mut [u8], at: usize, octets: &[u8; N]) -> usize {
-        let at = lay_byte(block, at, b' ');
+    fn append_chunk(block: &mut [u8], at: usize, octets: &[u8; N]) -> usize {
+        let at = append_byte(block, at, b' ');
         let number = signed_of(octets);
         if number >= 0 {
-            lay_natural(block, at, number as u64)
+            append_natural(block, at, number as u64)
         } else {
-            lay_number(block, at, number)
+            append_number(block, at, number)
         }
     }
 
@@ -181,12 +183,12 @@ pub struct Floats;
 impl<const N: usize> WordFormat<N> for Floats {
     ghost printed = { hexadecimal };
 
-    ghost spelled = { float_of N };
+    ghost encoded_bytes = { float_of N };
 
-    fn lay(block: &mut [u8], at: usize, octets: &[u8; N]) -> usize {
-        let mut end = lay_slice(block, at, b" 0x");
+    fn append_chunk(block: &mut [u8], at: usize, octets: &[u8; N]) -> usize {
+        let mut end = append_slice(block, at, b" 0x");
         for octet in octets {
-            end = lay_digits(block, end, *octet);
+            end = append_digits(block, end, *octet);
         }
         end
     }

@@ -3,7 +3,7 @@
 //!
 //! [`print`] gives the one printed form of a message, [`read`] and [`read_all`] read every text that is
 //! the notation of messages, and tell any other text's fault with its place. With no message made,
-//! [`print_text`] prints one from the octets of its text, and [`spell_all`] reads messages onto octets.
+//! [`print_text`] prints one from the octets of its text, and [`encode_texts`] reads messages onto octets.
 //!
 //! A text is read as one message or as several, and a message is printed:
 //!
@@ -15,29 +15,29 @@
 //! ```
 #![tactic(auto)]
 
-mod as_printed;
 mod block;
+mod block_copy;
+mod byte_class;
+mod canonical_tokens;
 mod fault;
 mod formats;
+mod item_header;
 pub mod laws;
-mod laying;
 mod message;
-mod octet;
-mod opening;
 mod parsing;
 mod printing;
 mod quotable;
 mod reading;
-mod tables;
 mod token;
 mod tokens;
 mod type_name;
 mod word;
+mod word_tables;
 
 pub use block::{Block, Output};
 pub use fault::TextFault;
 pub use message::Message;
-pub use parsing::{Receiver, spell_all};
+pub use parsing::{Receiver, encode_texts};
 pub use printing::messages::{Head, print_text};
 pub use printing::print;
 pub use reading::{read, read_all};

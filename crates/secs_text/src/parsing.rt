@@ -9,14 +9,14 @@ ghost use Rattle.std.specs.Result.{IsErrAnd};
 ghost use Rattle.secs_item.specs.Item.{Value};
 ghost use Rattle.secs_text.specs.Content.{Content, AllWithin};
 ghost use Rattle.secs_text.specs.Fault.{any_messages, NotesFault};
-ghost use Rattle.secs_text.specs.Left.{left, octets_left};
+ghost use Rattle.secs_text.specs.RemainingTokens.{left, octets_left};
 ghost use Rattle.secs_text.specs.Notation.{Notations};
-ghost use Rattle.secs_text.specs.Places.{walk, start, after_head};
-ghost use Rattle.secs_text.specs.Reads.{Reads};
-ghost use Rattle.secs_text.specs.Spellings.{AllGiven, MessageRead, IsSpelled, headed_by, named, named_by};
+ghost use Rattle.secs_text.specs.ParserStates.{walk, start, after_head};
+ghost use Rattle.secs_text.specs.ParseSteps.{Reads};
+ghost use Rattle.secs_text.specs.EncodedText.{AllGiven, MessageRead, IsEncoded, headed_by, named, named_by};
 ghost use Rattle.secs_text.specs.declared.fault.TextFault.{TextFault};
 
-use crate::as_printed::next_head;
+use crate::canonical_tokens::next_head;
 use crate::fault::TextFault;
 use crate::parsing::items::item;
 use crate::printing::messages::Head;
@@ -42,7 +42,7 @@ pub trait Receiver {
     /// Where there is no memory.
     fn take(&mut self, head: Head, text: Option<&[u8]>) -> Result<(), AllocError>
         requires { head.stream < 128 }
-        ensures { OnOk result ((kept : Self.Kept) (item : Option Value) (given : List Content) → IsSpelled item text.entry
+        ensures { OnOk result ((kept : Self.Kept) (item : Option Value) (given : List Content) → IsEncoded item text.entry
             → Given kept self.old given → Given kept self.new (given ++ headed_by head item ∷ [])) };
 }
 
@@ -97,7 +97,7 @@ fn message(
 }
 
 /// Gives a receiver the messages of a text, place by place.
-fn spell_several<R: Receiver>(
+fn encode_several<R: Receiver>(
     alloc: Global,
     text: &[u8],
     depth: u8,
@@ -106,14 +106,14 @@ fn spell_several<R: Receiver>(
     ensures { AllGiven {K = R.Kept} depth result text.now (λ kept. R.Given kept receiver.old) (λ kept. R.Given kept receiver.new) }
 {
     let mut tokens = Tokens::new(text);
-    let mut spelling = Vec::new(alloc);
+    let mut encoded_form = Vec::new(alloc);
     loop {
         let Some((stream, function)) = next_name(&mut tokens)? else {
             return Ok(());
         };
-        spelling.clear();
-        let (head, fits) = message(&mut spelling, &mut tokens, stream, function, depth)?;
-        let octets = spelling.as_slice();
+        encoded_form.clear();
+        let (head, fits) = message(&mut encoded_form, &mut tokens, stream, function, depth)?;
+        let octets = encoded_form.as_slice();
         receiver.take(head, if fits { Some(octets) } else { None })?;
     }
 }
@@ -127,7 +127,7 @@ fn spell_several<R: Receiver>(
 ///
 /// As for [`read_all`](crate::read_all); also `Memory`, where the receiver has no memory. The messages before were
 /// given.
-pub fn spell_all<R: Receiver>(
+pub fn encode_texts<R: Receiver>(
     alloc: Global,
     text: &[u8],
     depth: u8,
@@ -143,5 +143,5 @@ pub fn spell_all<R: Receiver>(
     ensures err_where { (f : TextFault) → NotesFault text.now depth f
         → IsErrAnd result (λ e. (e ≡ f) ⊎ (e ≡ TextFault.Memory)) }
 {
-    spell_several(alloc, text, depth, receiver)
+    encode_several(alloc, text, depth, receiver)
 }

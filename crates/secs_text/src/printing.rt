@@ -7,8 +7,8 @@ mod values;
 
 ghost use Rattle.std.specs.Prelude.{◌≡◌, ◌≤◌, ◌++◌, true, length, codes, string_bytes, IfOk, IfErr, OnOk};
 ghost use Rattle.secs_item.specs.Item.{view};
-ghost use Rattle.secs_text.specs.Held.{IsHeld, IsHeldMessage};
-ghost use Rattle.secs_text.specs.Laid.{IsPlace, Puts};
+ghost use Rattle.secs_text.specs.InRange.{IsHeld, IsHeldMessage};
+ghost use Rattle.secs_text.specs.BlockOutput.{IsPlace, Puts};
 ghost use Rattle.secs_text.specs.Notation.{Notation};
 ghost use Rattle.secs_text.specs.Printed.{printed_item, printed};
 ghost use Rattle.secs_text.specs.View.{content};
@@ -24,12 +24,12 @@ use std::alloc::{AllocError, Global};
 
 /// The octets of a notation, unless memory was wanting for them.
 #[derive(Drop)]
-struct Gathered {
+struct Collected {
     octets: Vec<u8>,
     is_whole: bool,
 }
 
-impl Output for Gathered {
+impl Output for Collected {
     ghost Given = { λ g given. g.is_whole ≡ true → g.octets.items ≡ given };
 
     fn give(&mut self, octets: &[u8]) {
@@ -99,7 +99,7 @@ pub fn print(alloc: Global, message: &Message) -> Result<String, TextFault>
     ensures held { OnOk result (IsHeldMessage (content message.now)) }
     ensures memory { IfErr result (λ f. f ≡ Memory) }
 {
-    let mut out = Gathered {
+    let mut out = Collected {
         octets: Vec::new(alloc),
         is_whole: true,
     };

@@ -5,7 +5,7 @@ ghost use Rattle.std.specs.List.{prefix_len};
 ghost use Rattle.std.specs.Simd.Lanes.{mask_l};
 ghost use Rattle.secs_text.specs.Octets.{is_quotable};
 
-use crate::octet::is_quotable;
+use crate::byte_class::is_quotable;
 use std::simd::prelude::*;
 
 /// A bit for each of sixteen octets, the lowest for the first. It is set where the octet may not stand between quotes.

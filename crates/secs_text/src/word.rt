@@ -6,13 +6,13 @@ ghost use Rattle.std.specs.Str.Parse.{digits_value};
 ghost use Rattle.secs_text.specs.Octets.{is_digit};
 ghost use Rattle.std.specs.Int.Signed.{mag};
 ghost use Rattle.secs_text.specs.Words.{is_numeral, number_below, signed_below, octet_of_digits, hex_octets, sized, float_of, head_of_parts, head_word, bad_head, no_head};
-ghost use Rattle.secs_text.specs.SeenWord.{head_seen, IsStream};
+ghost use Rattle.secs_text.specs.HeadWordView.{head_seen, IsStream};
 
-use crate::octet::{all_digits, is_digit};
+use crate::byte_class::{all_digits, is_digit};
 
 /// The digits at the front of octets: how many they are, and the number that they spell, modulo 2^64.
 #[inline(always)]
-#[tactic(auto, using(crate::proofs::Fronts::front_ends, crate::proofs::Fronts::front_is_whole))]
+#[tactic(auto, using(crate::proofs::Prefixes::front_ends, crate::proofs::Prefixes::front_is_whole))]
 pub fn leading_number(octets: &[u8]) -> (usize, u64)
     ensures length { result.0 ≡ prefix_len is_digit octets.now }
     ensures within { result.0 ≤ length octets.now }

@@ -2,13 +2,13 @@
 
 ghost use Rattle.std.specs.Prelude.{◌≡◌, ◌≤◌, ◌+◌};
 ghost use Rattle.secs_item.specs.Item.{list, no_elements};
-ghost use Rattle.secs_text.specs.Left.{left, octets_left};
-ghost use Rattle.secs_text.specs.Places.{type_wanted, in_item};
-ghost use Rattle.secs_text.specs.Reads.{count_seen};
-ghost use Rattle.secs_text.specs.Spellings.{ItemRead, Deep};
+ghost use Rattle.secs_text.specs.RemainingTokens.{left, octets_left};
+ghost use Rattle.secs_text.specs.ParserStates.{type_expected, in_item};
+ghost use Rattle.secs_text.specs.ParseSteps.{count_seen};
+ghost use Rattle.secs_text.specs.EncodedText.{ItemRead, Deep};
 
 use crate::fault::TextFault;
-use crate::opening::{check_count, format_and_count};
+use crate::item_header::{check_count, format_and_count};
 use crate::parsing::values::parse_values;
 use crate::token::{Count, Token};
 use crate::tokens::Tokens;
@@ -59,7 +59,7 @@ pub fn item(
     opening: usize,
     depth: u8,
 ) -> Result<bool, TextFault>
-    ensures reads { ItemRead (Deep depth) (λ b. type_wanted b opening) result
+    ensures reads { ItemRead (Deep depth) (λ b. type_expected b opening) result
         (left tokens.old) (left tokens.new) out.old.items out.new.items }
     ensures no_longer { octets_left tokens.new ≤ octets_left tokens.old }
 {

@@ -2,13 +2,13 @@
 
 ghost use Rattle.std.specs.Prelude.{◌≡◌, ◌≤◌, ◌<◌, ◌+◌, ◌*◌, ◌/◌, ℕ, List, length, take, drop, OnOk};
 ghost use Rattle.secs_item.specs.Format.{value_size};
-ghost use Rattle.secs_text.specs.AsPrinted.{EndsWord};
-ghost use Rattle.secs_text.specs.Left.{left, octets_left};
-ghost use Rattle.secs_text.specs.ShortWord.{AreShortWords};
-ghost use Rattle.secs_text.specs.Spellings.{GathersMore, word_octets};
+ghost use Rattle.secs_text.specs.CanonicalTokens.{EndsWord};
+ghost use Rattle.secs_text.specs.RemainingTokens.{left, octets_left};
+ghost use Rattle.secs_text.specs.ByteWord.{AreShortWords};
+ghost use Rattle.secs_text.specs.EncodedText.{CollectsMore, word_octets};
 
+use crate::byte_class::is_of_word;
 use crate::formats::ShortWord;
-use crate::octet::is_of_word;
 use crate::tokens::Tokens;
 use secs_item::Format;
 use std::alloc::AllocError;
@@ -86,9 +86,9 @@ pub fn parse_run<const N: usize, W: ShortWord<N>>(
 ) -> Result<(), AllocError>
     requires some { 0 < N }
     requires small { N < 256 }
-    requires spelled { (w : List ℕ) → word_octets format w ≡ W.reads w }
+    requires encoded_bytes { (w : List ℕ) → word_octets format w ≡ W.reads w }
     requires sized { value_size format ≡ 1 }
-    ensures gathered { OnOk result (GathersMore format (left tokens.old) (left tokens.new) out.old.items out.new.items) }
+    ensures collected { OnOk result (CollectsMore format (left tokens.old) (left tokens.new) out.old.items out.new.items) }
     ensures no_longer { octets_left tokens.new ≤ octets_left tokens.old }
 {
     let (_, rest) = tokens.text.split_at(tokens.place);

@@ -2,14 +2,14 @@
 
 ghost use Rattle.std.specs.Prelude.{◌≡◌, ◌≤◌, ◌+◌, true, false, length, IfOk, OnOk};
 ghost use Rattle.secs_item.specs.Format.{is_list, value_size};
-ghost use Rattle.secs_text.specs.Left.{left, octets_left};
-ghost use Rattle.secs_text.specs.Reads.{count_seen};
-ghost use Rattle.secs_text.specs.Spellings.{GathersMore, Lays, ValuesRead, word_octets};
+ghost use Rattle.secs_text.specs.RemainingTokens.{left, octets_left};
+ghost use Rattle.secs_text.specs.ParseSteps.{count_seen};
+ghost use Rattle.secs_text.specs.EncodedText.{CollectsMore, AppendsBytes, ValuesRead, word_octets};
 ghost use Rattle.secs_text.specs.Widths.{is_width};
 
 use crate::fault::TextFault;
 use crate::formats::{Floats, Octets, Signed, Truths, Unsigned, WordFormat};
-use crate::opening::check_count;
+use crate::item_header::check_count;
 use crate::parsing::runs::parse_run;
 use crate::token::{Count, Token};
 use crate::tokens::Tokens;
@@ -23,7 +23,7 @@ fn push_word<const N: usize, W: WordFormat<N>>(
     word: &[u8],
 ) -> Result<bool, AllocError>
     requires { is_width N ≡ true }
-    ensures octets { IfOk result (λ is_value. Lays is_value out.old.items out.new.items (W.spelled word.now)) }
+    ensures octets { IfOk result (λ is_value. AppendsBytes is_value out.old.items out.new.items (W.encoded_bytes word.now)) }
     ensures size { IfOk result (λ is_value. is_value ≡ true → length out.new.items ≡ length out.old.items + N) }
 {
     let Some(octets) = W::parse(word) else {
@@ -36,7 +36,7 @@ fn push_word<const N: usize, W: WordFormat<N>>(
 /// Adds the octets of the value that a word spells in an item of this format, if it spells one.
 #[inline(always)]
 fn push_value(out: &mut Vec<u8>, format: Format, word: &[u8]) -> Result<bool, AllocError>
-    ensures octets { IfOk result (λ is_value. Lays is_value out.old.items out.new.items (word_octets format word.now)) }
+    ensures octets { IfOk result (λ is_value. AppendsBytes is_value out.old.items out.new.items (word_octets format word.now)) }
     ensures size { IfOk result (λ is_value. is_value ≡ true → length out.new.items ≡ length out.old.items + value_size format) }
 {
     match format {
@@ -61,7 +61,7 @@ fn push_value(out: &mut Vec<u8>, format: Format, word: &[u8]) -> Result<bool, Al
 /// Adds the octets of the values that come next, where a value of this format is one octet, as far as their words stand
 /// as they are printed.
 fn parse_printed(out: &mut Vec<u8>, tokens: &mut Tokens, format: Format) -> Result<(), AllocError>
-    ensures gathered { OnOk result (GathersMore format (left tokens.old) (left tokens.new) out.old.items out.new.items) }
+    ensures collected { OnOk result (CollectsMore format (left tokens.old) (left tokens.new) out.old.items out.new.items) }
     ensures no_longer { octets_left tokens.new ≤ octets_left tokens.old }
 {
     match format {

@@ -5,30 +5,30 @@ ghost use Rattle.std.specs.Prelude.{◌≡◌, ◌≤◌, ◌<◌, ◌+◌, ◌-
 ghost use Rattle.secs_item.specs.declared.format.Format.TheVariants.{Ascii};
 ghost use Rattle.secs_item.specs.Format.{is_list, value_size};
 ghost use Rattle.secs_item.specs.Item.{Value, Elements};
-ghost use Rattle.secs_item.specs.Reading.{item_at, elements_by, values_of};
+ghost use Rattle.secs_item.specs.Decoding.{item_at, elements_by, values_of};
 ghost use Rattle.secs_text.specs.Body.{body_of};
-ghost use Rattle.secs_text.specs.Laid.{Laid, IsPlace, Puts, opening_of, words_of};
+ghost use Rattle.secs_text.specs.BlockOutput.{AppendsText, IsPlace, Puts, opening_of, words_of};
 ghost use Rattle.secs_text.specs.Printed.{printed_elements, printed_item, printed_values};
 ghost use Rattle.secs_text.specs.Widths.{is_width};
 
 use crate::block::{Output, room};
+use crate::block_copy::{append_byte, append_number, append_small, append_word};
 use crate::formats::{Floats, Octets, Signed, Truths, Unsigned, WordFormat};
-use crate::laying::{lay_byte, lay_number, lay_small, lay_word};
 use crate::printing::values::{put_text, put_words};
 use crate::type_name::opening_word;
 use secs_item::{Format, MAX_DEPTH, read_header};
 
 /// Lays a number.
 #[inline(always)]
-fn lay_count(block: &mut [u8], at: usize, count: usize) -> usize
+fn append_count(block: &mut [u8], at: usize, count: usize) -> usize
     requires { at + 40 ≤ length block.old }
-    ensures laid { Laid block.old block.new at (decimal count) result }
+    ensures appended_text { AppendsText block.old block.new at (decimal count) result }
     ensures near { result ≤ at + 40 }
 {
     if count < 256 {
-        lay_small(block, at, count as u8)
+        append_small(block, at, count as u8)
     } else {
-        lay_number(block, at, count)
+        append_number(block, at, count)
     }
 }
 
@@ -47,9 +47,9 @@ pub fn put_opening<O: Output>(
 {
     let at = room(out, block, from);
     let (word, length) = opening_word(format);
-    let at = lay_word::<16>(block, at, word.as_slice(), length);
-    let at = lay_count(block, at, body_length / format.size());
-    lay_byte(block, at, b']')
+    let at = append_word::<16>(block, at, word.as_slice(), length);
+    let at = append_count(block, at, body_length / format.size());
+    append_byte(block, at, b']')
 }
 
 /// Puts what ends an item.
@@ -59,7 +59,7 @@ pub fn put_end<O: Output>(out: &mut O, block: &mut [u8], from: usize) -> usize
     ensures { Puts (O.Given out.old) block.old from (O.Given out.new) block.new result (codes ">") }
 {
     let at = room(out, block, from);
-    lay_byte(block, at, b'>')
+    append_byte(block, at, b'>')
 }
 
 /// Puts an item of values that are single words, with this body, after a space.

@@ -1,15 +1,15 @@
 //! Printing messages straight from their octets.
 
 ghost use Rattle.std.specs.Prelude.{◌≡◌, ◌≤◌, ◌++◌, ℕ, List, [], Option, Err, length, codes, decimal, if◌then◌else◌, IsOk, IfErr, OnOk, OnErr};
-ghost use Rattle.secs_item.specs.Fault.{TextFaults, IsTold, fault_at};
+ghost use Rattle.secs_item.specs.Fault.{TextFaults, IsReported, fault_at};
 ghost use Rattle.secs_item.specs.Header.{Reason};
 ghost use Rattle.secs_item.specs.Item.{Value};
-ghost use Rattle.secs_item.specs.Spelling.{IsText, IsTextOf};
-ghost use Rattle.secs_text.specs.Laid.{IsPlace, Puts};
+ghost use Rattle.secs_item.specs.Encoding.{IsText, IsTextOf};
+ghost use Rattle.secs_text.specs.BlockOutput.{IsPlace, Puts};
 ghost use Rattle.secs_text.specs.Printed.{printed};
 
 use crate::block::{Block, Output, room};
-use crate::laying::{lay_byte, lay_slice, lay_small};
+use crate::block_copy::{append_byte, append_slice, append_small};
 use crate::printing::items::put_item;
 use secs_item::{ItemFault, measure_text};
 
@@ -31,12 +31,12 @@ pub fn put_head<O: Output>(out: &mut O, block: &mut [u8], from: usize, head: Hea
         (codes "S" ++ decimal head.stream ++ codes "F" ++ decimal head.function ++ (if head.wait then codes " W" else [])) }
 {
     let at = room(out, block, from);
-    let at = lay_byte(block, at, b'S');
-    let at = lay_small(block, at, head.stream);
-    let at = lay_byte(block, at, b'F');
-    let at = lay_small(block, at, head.function);
+    let at = append_byte(block, at, b'S');
+    let at = append_small(block, at, head.stream);
+    let at = append_byte(block, at, b'F');
+    let at = append_small(block, at, head.function);
     if head.wait {
-        lay_slice(block, at, b" W")
+        append_slice(block, at, b" W")
     } else {
         at
     }
@@ -48,7 +48,7 @@ pub fn put_stop<O: Output>(out: &mut O, block: &mut [u8], from: usize) -> usize
     ensures { Puts (O.Given out.old) block.old from (O.Given out.new) block.new result (codes " .") }
 {
     let at = room(out, block, from);
-    lay_slice(block, at, b" .")
+    append_slice(block, at, b" .")
 }
 
 /// Puts a message with this text, which was measured.
@@ -95,7 +95,7 @@ pub fn print_text<O: Output>(
         × ((given : List ℕ) → O.Given out.old given → (now : List ℕ) × O.Given out.new now × (now ++ block.new ≡ given ++ block.old
         ++ printed (record { stream = head.stream; function = head.function; wait = head.wait; item = item })))) }
     ensures ok_where { IsText depth text.now → IsOk result }
-    ensures err { IfErr result (IsTold (TextFaults depth text.now)) }
+    ensures err { IfErr result (IsReported (TextFaults depth text.now)) }
     ensures err_where { (at : ℕ) (reason : Reason) → TextFaults depth text.now at reason
         → result ≡ Err (fault_at at reason) }
     ensures nothing { OnErr result ((out.new ≡ out.old) × (block.new ≡ block.old)) }

@@ -1,30 +1,34 @@
 //! Printing the values of an item straight from its body.
 
 ghost use Rattle.std.specs.Prelude.{◌≡◌, ◌≤◌, ◌+◌, ◌*◌, false, true, length};
-ghost use Rattle.secs_text.specs.Laid.{Laid, IsPlace, Puts, words_of};
+ghost use Rattle.secs_text.specs.BlockOutput.{AppendsText, IsPlace, Puts, words_of};
 ghost use Rattle.secs_text.specs.Printed.{printed_text};
 ghost use Rattle.secs_text.specs.Widths.{is_width};
 
 use crate::block::{Output, room};
+use crate::block_copy::append_byte;
 use crate::formats::WordFormat;
-use crate::laying::lay_byte;
-use crate::printing::text::lay_text;
+use crate::printing::text::append_text;
 
 /// How many octets of a body are laid at a time.
 const CHUNK: usize = 512;
 
 /// Lays the words of values, each after a space. What is left over behind whole values isn't looked at.
-fn lay_words<const N: usize, W: WordFormat<N>>(block: &mut [u8], at: usize, octets: &[u8]) -> usize
+fn append_words<const N: usize, W: WordFormat<N>>(
+    block: &mut [u8],
+    at: usize,
+    octets: &[u8],
+) -> usize
     requires width { is_width N ≡ true }
     requires room { at + 48 * length octets.now ≤ length block.old }
-    ensures laid { Laid block.old block.new at (words_of W.printed N octets.now) result }
+    ensures appended_text { AppendsText block.old block.new at (words_of W.printed N octets.now) result }
     ensures within { result ≤ length block.old }
     ensures size { length block.new ≡ length block.old }
 {
     let mut end = at;
     let mut rest = octets;
     while let Some((first, after)) = rest.split_first_chunk::<N>() {
-        end = W::lay(block, end, first);
+        end = W::append_chunk(block, end, first);
         rest = after;
     }
     end
@@ -45,11 +49,11 @@ pub fn put_words<const N: usize, W: WordFormat<N>, O: Output>(
     let mut rest = octets;
     while rest.len() > CHUNK {
         let (chunk, after) = rest.split_at(CHUNK);
-        at = lay_words::<N, W>(block, at, chunk);
+        at = append_words::<N, W>(block, at, chunk);
         at = room(out, block, at);
         rest = after;
     }
-    lay_words::<N, W>(block, at, rest)
+    append_words::<N, W>(block, at, rest)
 }
 
 /// Puts octets of text.
@@ -63,14 +67,14 @@ pub fn put_text<O: Output>(out: &mut O, block: &mut [u8], from: usize, octets: &
     let mut rest = octets;
     while rest.len() > CHUNK {
         let (chunk, after) = rest.split_at(CHUNK);
-        let (end, quoted) = lay_text(block, at, in_quotes, chunk);
+        let (end, quoted) = append_text(block, at, in_quotes, chunk);
         at = room(out, block, end);
         in_quotes = quoted;
         rest = after;
     }
-    let (end, quoted) = lay_text(block, at, in_quotes, rest);
+    let (end, quoted) = append_text(block, at, in_quotes, rest);
     if quoted {
-        lay_byte(block, end, b'"')
+        append_byte(block, end, b'"')
     } else {
         end
     }

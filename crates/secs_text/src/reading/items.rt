@@ -2,12 +2,12 @@
 
 ghost use Rattle.std.specs.Prelude.{◌≡◌, ◌≤◌, ◌+◌, length};
 ghost use Rattle.secs_item.specs.Item.{view, views, list, no_elements};
-ghost use Rattle.secs_text.specs.Left.{left, octets_left};
-ghost use Rattle.secs_text.specs.Places.{Rules, Before, walk, type_wanted, in_item, closed};
-ghost use Rattle.secs_text.specs.Reads.{Reads, count_seen};
+ghost use Rattle.secs_text.specs.RemainingTokens.{left, octets_left};
+ghost use Rattle.secs_text.specs.ParserStates.{Rules, Before, walk, type_expected, in_item, closed};
+ghost use Rattle.secs_text.specs.ParseSteps.{Reads, count_seen};
 
 use crate::fault::TextFault;
-use crate::opening::{check_count, format_and_count};
+use crate::item_header::{check_count, format_and_count};
 use crate::parsing::values::parse_values;
 use crate::token::{Count, Token};
 use crate::tokens::Tokens;
@@ -50,7 +50,7 @@ pub fn item(
     depth: u8,
 ) -> Result<Item, TextFault>
     ensures reads { (rules : Rules) (b : Before) → length b.lists + depth ≡ rules.depth
-        → Reads result (walk rules (type_wanted b opening) (left tokens.old))
+        → Reads result (walk rules (type_expected b opening) (left tokens.old))
         (λ i. walk rules (closed b.lists b (view i)) (left tokens.new)) }
     ensures no_longer { octets_left tokens.new ≤ octets_left tokens.old }
 {

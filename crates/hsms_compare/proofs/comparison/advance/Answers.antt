@@ -1,5 +1,5 @@
 use Rattle.std.proofs.Common.{arith}
-use Rattle.hsms_compare.proofs.Numbered.{goes_on, waits_there, differs_there, step_as}
+use Rattle.hsms_compare.proofs.Numbered.{can_continue, waits_there, differs_there, step_as}
 use Rattle.hsms_compare.proofs.comparison.advance.Goals as goal
 
 pub returns-in-NoneInFlight-clause-stops : goal.returns-in-NoneInFlight-clause-stops
@@ -16,6 +16,6 @@ pub loop-i-preserved : goal.loop-i-preserved
 loop-i-preserved c = record {
   since = omega arith;
   merged = λ other s.
-      goes_on c.args.end c.args.log.now other c.loop-i.i (omega arith) c.index-log-i.result c.index-log-i.is c.loop-i.merge c.add.new.self
+      can_continue c.args.end c.args.log.now other c.loop-i.i (omega arith) c.index-log-i.result c.index-log-i.is c.loop-i.merge c.add.new.self
       (step_as _ _ _ _ _ _ _ _ c.in-Merged.is (c.in_ok-add.ensures.step _ _ (c.loop-i.invariant.merged other s)));
 }

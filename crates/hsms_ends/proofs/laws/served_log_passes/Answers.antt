@@ -1,4 +1,4 @@
-use Rattle.hsms_ends.proofs.Passing.{served_passes}
+use Rattle.hsms_ends.proofs.PassingLogs.{served_passes}
 use Rattle.hsms_ends.proofs.laws.served_log_passes.Goals as goal
 
 pub returns : goal.returns

@@ -3,8 +3,8 @@ use Rattle.std.specs.Prelude.{All}
 use Rattle.std.proofs.lemmas.List.{take_all}
 use Rattle.std.proofs.lemmas.List.Elements.{All-append, All-cons, All-nil}
 use Rattle.hsms_machine.specs.declared.entry.Entry.{Entry}
-use Rattle.hsms_log.specs.Spelling.{IsEntry}
-use Rattle.hsms_ends.proofs.Puttings.{taken_next}
+use Rattle.hsms_log.specs.LineFormat.{IsEntry}
+use Rattle.hsms_ends.proofs.OutputSteps.{taken_next}
 use Rattle.hsms_ends.proofs.output.entries_are_in_range.Goals as goal
 
 pub loop-place-init : goal.loop-place-init

@@ -1,6 +1,6 @@
 use Rattle.std.proofs.Common.{length, ◌-◌, ◌≤◌, take}
 use Rattle.std.specs.Prelude.{All}
-use Rattle.hsms_log.specs.Spelling.{IsEntry}
+use Rattle.hsms_log.specs.LineFormat.{IsEntry}
 use Rattle.hsms_ends.proofs.output.entries_are_in_range.Given as goal
 
 -- the entries that were passed are in range

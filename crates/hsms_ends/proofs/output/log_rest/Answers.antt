@@ -1,6 +1,6 @@
 use Rattle.std.proofs.Common.{◌++◌, ◌+◌, [], ◌∷◌, take, drop, Ok, Err, sym, arith}
-use Rattle.hsms_frame.specs.Device.{SinkState}
-use Rattle.hsms_ends.proofs.Puttings.{logs_then, logs_first, logs_along, logs_none, logs_one, fails_in_one, taken_next, parted_at}
+use Rattle.hsms_frame.specs.Io.{SinkState}
+use Rattle.hsms_ends.proofs.OutputSteps.{logs_then, logs_first, logs_along, logs_none, logs_one, fails_in_one, taken_next, parted_at}
 use Rattle.hsms_ends.proofs.output.log_rest.Goals as goal
 
 pub loop-place-init : goal.loop-place-init

@@ -1,5 +1,5 @@
 use Rattle.std.proofs.Common.{length, ◌-◌, ◌≡◌, ◌≤◌, None, get_or, Vec, Global, ℕ, List}
-use Rattle.hsms_ends.specs.Script.{given_of, left_of, pass_over, wait_octets}
+use Rattle.hsms_ends.specs.ScriptedLink.{given_of, left_of, pass_over, wait_octets}
 use Rattle.hsms_ends.proofs.peer.next_wait.Given as goal
 
 -- what was given and what is left is the same, and the place is one of the waits or behind them

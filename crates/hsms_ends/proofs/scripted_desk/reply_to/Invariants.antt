@@ -1,7 +1,7 @@
 use Rattle.std.proofs.Common.{◌≡◌, drop, filter, option_map}
 use Rattle.secs_text.specs.View.{content}
-use Rattle.hsms_ends.specs.Scripted.{in_turn, is_reply_to}
-use Rattle.hsms_ends.proofs.InTurn.{unless_later}
+use Rattle.hsms_ends.specs.ScriptedDesk.{in_turn, is_reply_to}
+use Rattle.hsms_ends.proofs.TurnOrder.{unless_later}
 use Rattle.hsms_ends.proofs.scripted_desk.reply_to.Given as goal
 
 abbrev pub invariant-loop-reply : goal.invariant-loop-reply

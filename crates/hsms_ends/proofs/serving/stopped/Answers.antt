@@ -1,14 +1,14 @@
 use Rattle.std.proofs.Common.{List, Some, None, refl, sym, ◌∙◌, subst}
 use Rattle.std.specs.Prelude.{All}
-use Rattle.hsms_frame.specs.Device.{SinkState}
+use Rattle.hsms_frame.specs.Io.{SinkState}
 use Rattle.hsms_machine.specs.declared.entry.Entry.{Entry}
-use Rattle.hsms_log.specs.Spelling.{IsEntry}
+use Rattle.hsms_log.specs.LineFormat.{IsEntry}
 use Rattle.std.proofs.lemmas.List.Elements.{All-nil}
 use Rattle.hsms_ends.specs.declared.output.Stop.{Stop}
 use Rattle.hsms_ends.specs.declared.fault.ServeFault.TheVariants as serve
-use Rattle.hsms_ends.specs.Outcome.{StoppedAs}
-use Rattle.hsms_ends.proofs.Hearing.{grows_none}
-use Rattle.hsms_ends.proofs.Ending.{closed_by, lost_goes, left_itself}
+use Rattle.hsms_ends.specs.ServeSteps.{StoppedAs}
+use Rattle.hsms_ends.proofs.ReceivedBytes.{grows_none}
+use Rattle.hsms_ends.proofs.Ending.{closed_by, lost_finishes, left_itself}
 use Rattle.hsms_ends.proofs.serving.stopped.Goals as goal
 
 pub returns-in-Ok : goal.returns-in-Ok
@@ -22,7 +22,7 @@ returns-in-Ok g c =
       end' = c.lost-answer.new.self;
       is_lost = (sym c.has_gone.ensures ∙ c.if-has_gone.false, c.in-Ok.ensures);
       closed = closed_by c.close_rest.result c.lost-answer.new.self c.in-Ok.entries.items log log' (rw c.deref-in-Ok.ensures.value at c.close_rest.ensures)
-          (lost_goes g.D.TurnDesk.answers_after c.args.end.now c.lost-answer.new.self c.in-Ok.entries.items c.in-Ok.ensures);
+          (lost_finishes g.D.TurnDesk.answers_after c.args.end.now c.lost-answer.new.self c.in-Ok.entries.items c.in-Ok.ensures);
       in_range = let P : List Entry → Type 0 = λ l. All IsEntry l in subst P c.deref.ensures.value c.entries_are_in_range.ensures;
       left = left_itself g.D.TurnDesk.answers_after c.close_rest.result c.lost-answer.new.self;
     })

@@ -1,13 +1,13 @@
 use Rattle.std.proofs.Common.{[], inr, refl, sym, subst}
 use Rattle.std.specs.Prelude.{List}
-use Rattle.hsms_frame.specs.Device.{SinkState}
+use Rattle.hsms_frame.specs.Io.{SinkState}
 use Rattle.hsms_machine.specs.declared.entry.Entry.{Entry}
-use Rattle.hsms_ends.specs.Outcome.{called}
-use Rattle.hsms_ends.specs.PutOut.{AllFitLengthField}
-use Rattle.hsms_ends.specs.Link.{nothing_heard}
+use Rattle.hsms_ends.specs.ServeSteps.{called}
+use Rattle.hsms_ends.specs.Output.{AllFitLengthField}
+use Rattle.hsms_ends.specs.Link.{processed_nothing}
 use Rattle.hsms_ends.proofs.Readiness.{fits}
-use Rattle.hsms_ends.proofs.Turning.{takes_by, leads_itself}
-use Rattle.hsms_ends.proofs.Yielding.{yields_as, yields_memory, yields_nothing}
+use Rattle.hsms_ends.proofs.TurnSteps.{takes_by, leads_itself}
+use Rattle.hsms_ends.proofs.TurnResults.{yields_as, yields_memory, yields_nothing}
 use Rattle.hsms_ends.proofs.turns.hand.Goals as goal
 
 pub deliver-requires : goal.deliver-requires
@@ -17,7 +17,7 @@ deliver-requires g c =
 
 pub returns-in-Ok : goal.returns-in-Ok
 returns-in-Ok g c =
-    let told = g.L.Link.told in
+    let link_state = g.L.Link.link_state in
     let log : SinkState = g.W.Sink.state c.args.log.now in
     let log' : SinkState = g.W.Sink.state c.deliver.new.log in
     record {
@@ -25,17 +25,17 @@ returns-in-Ok g c =
       end' = c.make-answer.new.end;
       takes = takes_by g.D.TurnDesk.answers_after c.deliver.result c.args.end.now (called c.args.call) c.in-Ok.entries.items c.make-answer.new.end c.in-Ok.ensures;
       leads = leads_itself c.deliver.result c.make-answer.new.end;
-      yields = yields_as c.deliver.result log log' (told c.args.link.now) (told c.deliver.new.link) c.args.count.now c.deliver.new.count _ _ nothing_heard c.deref.ensures.value c.deliver.ensures;
+      yields = yields_as c.deliver.result log log' (link_state c.args.link.now) (link_state c.deliver.new.link) c.args.count.now c.deliver.new.count _ _ processed_nothing c.deref.ensures.value c.deliver.ensures;
     }
 
 pub returns-in-Err : goal.returns-in-Err
 returns-in-Err g c =
-    let told = g.L.Link.told in
+    let link_state = g.L.Link.link_state in
     let log : SinkState = g.W.Sink.state c.args.log.now in
     record {
       entries = [];
       end' = c.args.end.now;
       takes = inr (refl, refl);
       leads = tt;
-      yields = yields_memory log log (told c.args.link.now) (told c.args.link.now) c.args.count.now c.args.count.now [] [] nothing_heard (yields_nothing log (told c.args.link.now) c.args.count.now);
+      yields = yields_memory log log (link_state c.args.link.now) (link_state c.args.link.now) c.args.count.now c.args.count.now [] [] processed_nothing (yields_nothing log (link_state c.args.link.now) c.args.count.now);
     }

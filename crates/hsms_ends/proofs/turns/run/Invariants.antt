@@ -1,5 +1,5 @@
 use Rattle.std.proofs.Common.{◌-◌, ◌<◌, ◌≤◌, drop, length}
-use Rattle.hsms_ends.specs.Outcome.{IsReady, TurnsSoFar}
+use Rattle.hsms_ends.specs.ServeSteps.{IsReady, TurnsSoFar}
 use Rattle.hsms_ends.proofs.turns.run.Given as goal
 
 -- the turns so far are whole, the end is ready for the next, and there is room for what comes
@@ -7,7 +7,7 @@ abbrev pub invariant-loop-done : goal.invariant-loop-done
 invariant-loop-done g l =
     (l.done ≤ l.turns) × IsReady l.end
     × TurnsSoFar g.D.TurnDesk.answers_after l.pause l.initial.end l.end (drop l.initial.progress.place l.script) (drop l.progress.place l.script)
-    (g.W.Sink.state l.initial.log) (g.W.Sink.state l.log) (g.L.Link.told l.initial.link) (g.L.Link.told l.link)
+    (g.W.Sink.state l.initial.log) (g.W.Sink.state l.log) (g.L.Link.link_state l.initial.link) (g.L.Link.link_state l.link)
     l.initial.progress.entries l.progress.entries l.initial.progress.refused l.progress.refused l.done
     × (0 < length l.into)
 

@@ -1,6 +1,6 @@
 use Rattle.std.proofs.Common.{◌≡◌, ◌∙◌, ◌+◌, ◌-◌, ◌++◌, take, drop, ap, arith}
 use Rattle.std.proofs.lemmas.Result.{err_from_is_err_and}
-use Rattle.hsms_frame.proofs.Fronts.{not_empty, whole_at_front, whole_unread}
+use Rattle.hsms_frame.proofs.Prefixes.{not_empty, whole_at_front, whole_unread}
 use Rattle.hsms_frame.proofs.framer.front_frame.Goals as goal
 
 pub returns-in_err-text-clause-answer : goal.returns-in_err-text-clause-answer

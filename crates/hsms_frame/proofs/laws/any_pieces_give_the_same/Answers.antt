@@ -1,4 +1,4 @@
-use Rattle.hsms_frame.proofs.Pieces.{any_pieces, gives_what_was_pushed}
+use Rattle.hsms_frame.proofs.Chunks.{any_pieces, gives_what_was_pushed}
 use Rattle.hsms_frame.proofs.laws.any_pieces_give_the_same.Goals as goal
 
 pub returns-clause-pushed : goal.returns-clause-pushed

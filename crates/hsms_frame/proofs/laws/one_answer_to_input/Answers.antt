@@ -1,4 +1,4 @@
-use Rattle.hsms_frame.proofs.Answered.{some_answer, no_other}
+use Rattle.hsms_frame.proofs.Results.{some_answer, no_other}
 use Rattle.hsms_frame.proofs.laws.one_answer_to_input.Goals as goal
 
 pub returns-clause-some : goal.returns-clause-some

@@ -1,4 +1,4 @@
-use Rattle.hsms_frame.proofs.Answered.{some_framed, no_other_framed}
+use Rattle.hsms_frame.proofs.Results.{some_framed, no_other_framed}
 use Rattle.hsms_frame.proofs.laws.one_answer_to_pending.Goals as goal
 
 pub returns-clause-some : goal.returns-clause-some

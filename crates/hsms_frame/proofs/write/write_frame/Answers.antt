@@ -1,7 +1,7 @@
 use Rattle.std.proofs.Common.{◌∙◌, ap, ℕ, List, subst, arith}
 use Rattle.std.proofs.lemmas.Result.{err_from_is_err_and}
 use Rattle.hsms_frame.specs.Frame.{Frame}
-use Rattle.hsms_frame.specs.Device.{Grows, GrowsByFront}
+use Rattle.hsms_frame.specs.Io.{Grows, GrowsByFront}
 use Rattle.hsms_frame.proofs.WrittenParts.{before_text, wrote_all, wrote_front, wrote_part}
 use Rattle.hsms_frame.proofs.write.write_frame.Goals as goal
 

@@ -2,7 +2,7 @@ use Rattle.std.proofs.Common.{◌≡◌, ◌<◌, ◌≤◌, length, take, refl,
 use Rattle.std.proofs.lemmas.Grind.{common_steps}
 use Rattle.std.proofs.lemmas.List.{length-take}
 use Rattle.std.proofs.lemmas.Result.{err_from_is_err_and}
-use Rattle.hsms_frame.specs.Count.{next_count}
+use Rattle.hsms_frame.specs.CallCounts.{next_count}
 use Rattle.hsms_log.specs.Auditing.{HasEnded}
 use Rattle.hsms_log.proofs.Uniqueness.{RunLaws}
 use Rattle.hsms_log.proofs.Audits.{reads_more, stops, ends, fails, ends_same, ends_found, uses_failing}
@@ -12,8 +12,8 @@ pub returns-in_err-count-clause-answer : goal.returns-in_err-count-clause-answer
 returns-in_err-count-clause-answer g c =
     let laws : RunLaws = record { next = c.front_of_run_is_run.ensures.next; one = c.each_entry_has_one_answer.ensures.one } in
     let p = err_from_is_err_and c.from_residual.result c.from_residual.ensures.1 in
-    λ input told. rw (p.1, p.2) (stops laws (g.R.Source.state c.args.source.now).left (g.R.Source.state c.loop.source).left (g.R.Source.state c.pull.new.self).left
-    c.loop.reader c.loop.invariant.0 c.in_err-count.ensures.none_lost input told)
+    λ input found_fact. rw (p.1, p.2) (stops laws (g.R.Source.state c.args.source.now).left (g.R.Source.state c.loop.source).left (g.R.Source.state c.pull.new.self).left
+    c.loop.reader c.loop.invariant.0 c.in_err-count.ensures.none_lost input found_fact)
 
 pub returns-then-count-eq0-clause-answer : goal.returns-then-count-eq0-clause-answer
 returns-then-count-eq0-clause-answer g c =
@@ -53,13 +53,13 @@ pub loop-preserved : goal.loop-preserved
 loop-preserved g c =
     let inv = c.loop.invariant in
     let counted = c.in_ok-count.ensures.counts in
-    let stands = rw c.in_default.is at c.in_ok-failure.ensures.stands in
+    let consistent = rw c.in_default.is at c.in_ok-failure.ensures.consistent in
     let room = rw c.in_default.is at c.in_ok-failure.ensures.room in
     let size : length c.pull.new.into ≡ 4096 = search rules in
     let lines = room refl in
     let one = counted.pulls in (
       reads_more (g.R.Source.state c.args.source.now).left (g.R.Source.state c.loop.source).left (g.R.Source.state c.pull.new.self).left c.in_ok-count.count
-          c.pull.new.into c.loop.reader c.take.new.self inv.0 c.in_ok-count.ensures.octets (stands refl),
+          c.pull.new.into c.loop.reader c.take.new.self inv.0 c.in_ok-count.ensures.octets (consistent refl),
       omega (arith, inv.1, lines, length-take c.in_ok-count.count c.pull.new.into, size),
       λ below. omega (arith, inv.2, inv.3, one),
       omega (arith, inv.3, one),
@@ -72,4 +72,4 @@ pub returns-clause-answer : goal.returns-clause-answer
 returns-clause-answer g c =
     let laws : RunLaws = record { next = c.front_of_run_is_run.ensures.next; one = c.each_entry_has_one_answer.ensures.one } in
     let left = (g.R.Source.state c.loop.source).left in
-    stops laws (g.R.Source.state c.args.source.now).left left left c.loop.reader c.loop.invariant.0 (λ octets told. told)
+    stops laws (g.R.Source.state c.args.source.now).left left left c.loop.reader c.loop.invariant.0 (λ octets found_fact. found_fact)

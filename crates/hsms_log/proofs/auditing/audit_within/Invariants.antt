@@ -8,7 +8,7 @@ invariant-loop g l =
     let old = g.R.Source.state l.initial.source in
     let now = g.R.Source.state l.source in
     HasRead old.left l.reader now.left
-    × (l.reader.judge.tally.lines ≤ 4096 * l.counter)
+    × (l.reader.line_checker.tally.lines ≤ 4096 * l.counter)
     × RisesBy old.pulls now.pulls l.counter
     × (now.pulls ≤ old.pulls + l.counter)
     × (now.ends ≡ old.ends)

@@ -1,7 +1,7 @@
 use Rattle.std.proofs.Common.{cond, ltb, refl}
 use Rattle.std.proofs.lemmas.Simd.{length-chunk}
 use lib.Lanes.{chunk}
-use Rattle.hsms_log.proofs.Decoding.{lanes_of_two, lanes_of_one, lanes_loaded, lanes_chosen, lanes_as_many, values_told}
+use Rattle.hsms_log.proofs.Decoding.{lanes_of_two, lanes_of_one, lanes_loaded, lanes_chosen, lanes_as_many, values_decoded}
 use Rattle.hsms_log.proofs.digits.values_at.Goals as goal
 
 pub returns-clause-sixteen : goal.returns-clause-sixteen
@@ -28,4 +28,4 @@ returns-clause-values c =
     let from_a = lanes_of_two _ _ _ v (lanes_of_two _ _ _ v (lanes_loaded v) (lanes_of_one v 16 0x20 long)) (lanes_of_one v 16 0x61 long) in
     let most = lanes_of_one v 16 245 long in
     let letter = lanes_of_two _ _ _ v (lanes_chosen _ _ _ v (lanes_of_two (λ x y. cond (ltb x y) 255 0) _ _ v from_a most) from_a most) ten in
-    values_told _ c.args.digits.now _ c.args.place c.requires c.type_inv.digits (lanes_chosen _ _ _ v (lanes_of_two (λ x y. cond (ltb x y) 255 0) _ _ v decimal letter) decimal letter) refl
+    values_decoded _ c.args.digits.now _ c.args.place c.requires c.type_inv.digits (lanes_chosen _ _ _ v (lanes_of_two (λ x y. cond (ltb x y) 255 0) _ _ v decimal letter) decimal letter) refl

@@ -1,7 +1,7 @@
 use Rattle.std.proofs.Common.{◌≡◌, ◌++◌, ◌∷◌, ◌*◌, ℕ, [], length, take, codes, sym, ap, ◌∙◌, subst}
 use Rattle.hex.specs.Hex.{encode_lower}
 use Rattle.hsms_machine.specs.declared.entry.Event.{Event}
-use Rattle.hsms_log.specs.Spelling.{system_octets, event_text}
+use Rattle.hsms_log.specs.LineFormat.{system_octets, event_text}
 use Rattle.hsms_log.proofs.Parts.{writes_along}
 use Rattle.hsms_log.proofs.writing.put_event.Goals as goal
 

@@ -3,7 +3,7 @@ use Rattle.std.proofs.lemmas.Result.{err_from_is_err_and}
 use Rattle.hex.specs.Hex.{encode_lower}
 use Rattle.hsms_frame.specs.Frame.{Frame}
 use Rattle.hsms_frame.specs.Header.{header_octets}
-use Rattle.hsms_log.specs.Spelling.{message_octets}
+use Rattle.hsms_log.specs.LineFormat.{message_octets}
 use Rattle.hsms_log.proofs.Parts.{failed_first, failed_second, failed_along, writes_then, writes_along, writes_err, message_digits}
 use Rattle.hsms_log.proofs.writing.put_message.Goals as goal
 

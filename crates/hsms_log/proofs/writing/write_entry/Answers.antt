@@ -1,9 +1,9 @@
 use Rattle.std.proofs.Common.{◌++◌, ◌∷◌, [], append_assoc, sym}
 use Rattle.std.specs.Prelude.{decimal}
 use Rattle.std.proofs.lemmas.Result.{err_from_is_err_and}
-use Rattle.hsms_frame.specs.Device.{SinkState}
+use Rattle.hsms_frame.specs.Io.{SinkState}
 use Rattle.hsms_machine.specs.declared.entry.Entry.{Entry}
-use Rattle.hsms_log.specs.Spelling.{entry_line, event_text}
+use Rattle.hsms_log.specs.LineFormat.{entry_line, event_text}
 use Rattle.hsms_log.specs.Writing.{HasFailed, HasWritten, Writes}
 use Rattle.std.specs.Prelude.{Result}
 use Rattle.hsms_log.proofs.Parts.{failed_first, failed_along, writes_then, writes_along, writes_err, writes_failures, writes_puts}
@@ -56,8 +56,8 @@ returns-clause-failures g c =
     (time_written c.put_event.result (g.W.Sink.state c.args.sink.now) (g.W.Sink.state c.put_number.new.sink) (g.W.Sink.state c.put_event.new.sink) c.args.entry.now
     c.in_ok-put_number.ensures c.put_event.ensures)
 
-pub returns-in_err-put_number-clause-spelled : goal.returns-in_err-put_number-clause-spelled
-returns-in_err-put_number-clause-spelled g c = entry_written c.args.entry.now c.entry_is_in_range.ensures
+pub returns-in_err-put_number-clause-encoded_bytes : goal.returns-in_err-put_number-clause-encoded_bytes
+returns-in_err-put_number-clause-encoded_bytes g c = entry_written c.args.entry.now c.entry_is_in_range.ensures
 
-pub returns-clause-spelled : goal.returns-clause-spelled
-returns-clause-spelled g c = entry_written c.args.entry.now c.entry_is_in_range.ensures
+pub returns-clause-encoded_bytes : goal.returns-clause-encoded_bytes
+returns-clause-encoded_bytes g c = entry_written c.args.entry.now c.entry_is_in_range.ensures

@@ -2,9 +2,9 @@ use Rattle.std.proofs.Common.{◌++◌, ◌∷◌, []}
 use Rattle.std.specs.Prelude.{Result}
 use Rattle.std.specs.List.{flat_map}
 use Rattle.std.proofs.lemmas.Result.{err_from_is_err_and}
-use Rattle.hsms_frame.specs.Device.{SinkState}
+use Rattle.hsms_frame.specs.Io.{SinkState}
 use Rattle.hsms_machine.specs.Settings.{Parameters}
-use Rattle.hsms_log.specs.Spelling.{settings_line}
+use Rattle.hsms_log.specs.LineFormat.{settings_line}
 use Rattle.hsms_log.specs.Writing.{HasFailed, HasWritten, Writes, spaced, opening_of, numbers_of}
 use Rattle.hsms_log.proofs.Parts.{failed_first, failed_along, writes_then, writes_along, writes_err, writes_failures, writes_puts, line_parts}
 use Rattle.hsms_log.proofs.Written.{settings_written}
@@ -53,8 +53,8 @@ returns-clause-failures g c =
     (opening_written c.put_numbers.result (g.W.Sink.state c.args.sink.now) (g.W.Sink.state c.put_opening.new.sink) (g.W.Sink.state c.put_numbers.new.sink)
     c.args.settings.now c.in_ok-put_opening.ensures last)
 
-pub returns-in_err-put_opening-clause-spelled : goal.returns-in_err-put_opening-clause-spelled
-returns-in_err-put_opening-clause-spelled g c = settings_written c.args.settings.now c.settings_are_in_range.ensures
+pub returns-in_err-put_opening-clause-encoded_bytes : goal.returns-in_err-put_opening-clause-encoded_bytes
+returns-in_err-put_opening-clause-encoded_bytes g c = settings_written c.args.settings.now c.settings_are_in_range.ensures
 
-pub returns-clause-spelled : goal.returns-clause-spelled
-returns-clause-spelled g c = settings_written c.args.settings.now c.settings_are_in_range.ensures
+pub returns-clause-encoded_bytes : goal.returns-clause-encoded_bytes
+returns-clause-encoded_bytes g c = settings_written c.args.settings.now c.settings_are_in_range.ensures

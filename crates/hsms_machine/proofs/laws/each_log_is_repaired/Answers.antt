@@ -1,5 +1,5 @@
 use Rattle.secs_item.proofs.Texts.{some_text_answer, not_both_of_text}
-use Rattle.hsms_machine.proofs.Mended.{each_repaired, repaired_alone}
+use Rattle.hsms_machine.proofs.RepairedLogs.{each_repaired, repaired_alone}
 use Rattle.hsms_machine.proofs.laws.each_log_is_repaired.Goals as goal
 
 pub returns-clause-some : goal.returns-clause-some

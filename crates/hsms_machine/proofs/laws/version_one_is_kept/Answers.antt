@@ -1,4 +1,4 @@
-use Rattle.hsms_machine.proofs.OneConnection.{keeps_runs, keeps_answers, is_one_connection}
+use Rattle.hsms_machine.proofs.SingleConnections.{keeps_runs, keeps_answers, is_one_connection}
 use Rattle.hsms_machine.proofs.laws.version_one_is_kept.Goals as goal
 
 pub returns-clause-runs : goal.returns-clause-runs

@@ -1,9 +1,9 @@
 use Rattle.std.proofs.Common.{◌≡◌, ℕ, ◌+◌, ◌-◌, ◌%◌, [], ◌∷◌, ◌++◌, true, false, map, length, take, drop, refl, sym, ap, ◌∙◌, rules, arith}
 use Rattle.std.proofs.lemmas.List.{map_push, length-take, length-drop}
 use Rattle.secs_item.specs.Format.{is_list, value_size}
-use Rattle.secs_item.specs.Reading.{item_at, values_of}
+use Rattle.secs_item.specs.Decoding.{item_at, values_of}
 use Rattle.secs_item.specs.Item.{values, view, views}
-use Rattle.secs_item.proofs.Building.{starts_building, next_measured, goes_on_building, ends_building}
+use Rattle.secs_item.proofs.Building.{starts_building, next_measured, continues_building, ends_building}
 use Rattle.secs_item.proofs.Lengths.{header_measured, elements_measured, list_is, values_are}
 use Rattle.secs_item.proofs.Views.{view-List}
 use Rattle.secs_item.proofs.decode.+build.Goals as goal
@@ -19,7 +19,7 @@ build_elements-build_item-requires t c =
 pub build_elements-loop-preserved : goal.build_elements-loop-preserved
 build_elements-loop-preserved t c =
     let pushed : map view c.push.new.self.items ≡ map view c.loop.elements.items ++ view c.in_ok-element.element ∷ [] = rw c.in_ok-push.ensures.items (map_push view c.loop.elements.items c.in_ok-element.element) in
-    rw pushed (goes_on_building c.args.depth c.args.octets.now c.args.place c.args.count c.loop.counter c.loop.end c.in_ok-element.after (map view c.loop.elements.items) (view c.in_ok-element.element) (λ i. omega (arith, c.type_inv.octets i)) c.loop-test.true c.loop.invariant c.in_ok-element.ensures)
+    rw pushed (continues_building c.args.depth c.args.octets.now c.args.place c.args.count c.loop.counter c.loop.end c.in_ok-element.after (map view c.loop.elements.items) (view c.in_ok-element.element) (λ i. omega (arith, c.type_inv.octets i)) c.loop-test.true c.loop.invariant c.in_ok-element.ensures)
 
 pub build_elements-returns : goal.build_elements-returns
 build_elements-returns t c = ends_building (item_at c.args.depth) c.args.octets.now c.args.place c.args.count c.loop.counter c.loop.end (map view c.loop.elements.items) c.loop-test.false c.loop.invariant

@@ -1,6 +1,6 @@
 use Rattle.std.proofs.Common.{arith}
 use Rattle.secs_item.specs.Item.{view}
-use Rattle.secs_item.proofs.Fronts.{front_measured, front_built, front_one}
+use Rattle.secs_item.proofs.Prefixes.{front_measured, front_built, front_one}
 use Rattle.secs_item.proofs.decode.build_front.Goals as goal
 
 pub build_item-requires-clause-measured : goal.build_item-requires-clause-measured

@@ -1,6 +1,6 @@
 use Rattle.std.proofs.Common.{arith}
 use Rattle.secs_item.specs.Item.{view}
-use Rattle.secs_item.proofs.Fronts.{text_measured, text_built}
+use Rattle.secs_item.proofs.Prefixes.{text_measured, text_built}
 use Rattle.secs_item.proofs.decode.build_text.Goals as goal
 
 pub build_item-requires-clause-measured : goal.build_item-requires-clause-measured

@@ -1,6 +1,6 @@
 use Rattle.std.proofs.Common.{arith}
 use Rattle.std.proofs.lemmas.Bool.Decides.{nat_tests}
-use Rattle.secs_item.proofs.Fronts.{text_none}
+use Rattle.secs_item.proofs.Prefixes.{text_none}
 use Rattle.secs_item.proofs.decode.decode_text.Goals as goal
 
 pub returns-then-is_empty-clause-ok_where : goal.returns-then-is_empty-clause-ok_where

@@ -1,6 +1,6 @@
 use Rattle.std.proofs.Common.{ap}
 use Rattle.secs_item.specs.Item.{values, binary, boolean, ascii, jis8, char2, i1, i2, i4, i8, u2, u4, u8, f4, f8}
-use Rattle.secs_item.specs.Reading.{values_of}
+use Rattle.secs_item.specs.Decoding.{values_of}
 use Rattle.secs_item.specs.declared.item.Item.{Binary as item_binary, Boolean as item_boolean, Ascii as item_ascii, Jis8 as item_jis8, Char2 as item_char2, I1 as item_i1, I2 as item_i2, I4 as item_i4, I8 as item_i8, U2 as item_u2, U4 as item_u4, U8 as item_u8, F4 as item_f4, F8 as item_f8}
 use Rattle.secs_item.proofs.Views.{made_as, view-Binary, view-Boolean, view-Ascii, view-Jis8, view-Char2, view-I1, view-I2, view-I4, view-I8, view-U2, view-U4, view-U8, view-F4, view-F8}
 use Rattle.secs_item.proofs.decode.item_of_values.Goals as goal

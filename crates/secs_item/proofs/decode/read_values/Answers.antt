@@ -1,6 +1,6 @@
 use Rattle.std.proofs.Common.{◌/◌, ◌+◌, ℕ, length, take, drop, sym, ap, ◌∙◌}
-use Rattle.secs_item.specs.Reading.{each}
-use Rattle.secs_item.proofs.Bodies.{pieces_go_on, pieces_to_read, pieces_done, all_left, piece_there, left_behind}
+use Rattle.secs_item.specs.Decoding.{each}
+use Rattle.secs_item.proofs.Bodies.{pieces_go_on, pieces_to_read, pieces_done, all_left, piece_there, remains_after}
 use Rattle.secs_item.proofs.decode.read_values.Goals as goal
 
 pub loop-preserved : goal.loop-preserved
@@ -9,7 +9,7 @@ loop-preserved g c =
     let count = length c.args.body.now / c.args.size in
     record {
       count = c.loop.invariant.count;
-      left = left_behind size count c.loop.counter (length c.loop.rest.now) (length c.split_at.result.1.now) c.loop-test.true c.loop.invariant.left (ap (λ (n : ℕ). length c.split_at.result.1.now + n) (sym c.requires.size) ∙ c.split_at.ensures.back_len);
+      left = remains_after size count c.loop.counter (length c.loop.rest.now) (length c.split_at.result.1.now) c.loop-test.true c.loop.invariant.left (ap (λ (n : ℕ). length c.split_at.result.1.now + n) (sym c.requires.size) ∙ c.split_at.ensures.back_len);
       parts = rw c.in_ok-push.ensures.items (pieces_go_on g.V.Value.codec.value_of size count c.loop.counter c.loop.values.items c.loop.rest.now c.split_at.result.0.now c.split_at.result.1.now c.from_octets.result (each g.V.Value.codec.value_of size c.args.body.now) c.loop-test.true (c.split_at.ensures.front ∙ ap (λ (n : ℕ). take n c.loop.rest.now) c.requires.size) (c.split_at.ensures.back ∙ ap (λ (n : ℕ). drop n c.loop.rest.now) c.requires.size) c.from_octets.ensures c.loop.invariant.parts);
     }
 

@@ -1,5 +1,5 @@
 use Rattle.std.proofs.Common.{◌≡◌, ◌/◌, length, ◌++◌, ◌-◌, ◌*◌}
-use Rattle.secs_item.specs.Reading.{pieces, each}
+use Rattle.secs_item.specs.Decoding.{pieces, each}
 use Rattle.secs_item.proofs.decode.read_values.Given as goal
 
 abbrev pub invariant-loop : goal.invariant-loop

@@ -1,8 +1,8 @@
 use Rattle.std.proofs.Common.{◌≡◌, drop}
 use Rattle.std.specs.Prelude.{is_some}
 use Rattle.secs_item.specs.Item.{views}
-use Rattle.secs_item.specs.Short.{short_elements}
-use Rattle.secs_item.proofs.encoding.+has_spelling.Given as goal
+use Rattle.secs_item.specs.ShortestEncoding.{short_elements}
+use Rattle.secs_item.proofs.encoding.+has_encoding.Given as goal
 
 abbrev pub invariant-loop-element : goal.invariant-loop-element
 invariant-loop-element l =

@@ -5,10 +5,10 @@ use Rattle.std.specs.Prelude.{is_some}
 use Rattle.secs_item.specs.Item.{list, view, views, InRange, ElementsInRange, format_of, count_of}
 use Rattle.secs_item.specs.declared.format.Format.TheVariants as format
 use Rattle.secs_item.specs.Format.{is_list, value_size}
-use Rattle.secs_item.specs.Spelling.{header}
-use Rattle.secs_item.specs.Short.{field_of, short}
+use Rattle.secs_item.specs.Encoding.{header}
+use Rattle.secs_item.specs.ShortestEncoding.{field_of, short}
 use Rattle.secs_item.proofs.Views.{view-List, views_from, views_done}
-use Rattle.secs_item.proofs.Shorts.{within, front_of, front_of_list, values_written, values_in_range, starts_writing, goes_on_writing, ends_writing}
+use Rattle.secs_item.proofs.ShortestEncodings.{within, front_of, front_of_list, values_written, values_in_range, starts_writing, continues_writing, ends_writing}
 use Rattle.secs_item.proofs.encoding.+push_item.Goals as goal
 
 pub push_header-requires : goal.push_header-requires
@@ -33,7 +33,7 @@ pub loop-element-preserved : goal.loop-element-preserved
 loop-element-preserved t c =
     let items = c.deref-element-items.result.now in
     record {
-      written = goes_on_writing items c.loop-element.element-index (c.args.octets.now.items ++ header format.List (field_of (length items)) (length items)) c.loop-element.octets.items c.push_item.new.octets.items c.element-item.result c.loop-element-test.true c.element-item.is c.loop-element.invariant.written c.in_ok-push_item.ensures.octets;
+      written = continues_writing items c.loop-element.element-index (c.args.octets.now.items ++ header format.List (field_of (length items)) (length items)) c.loop-element.octets.items c.push_item.new.octets.items c.element-item.result c.loop-element-test.true c.element-item.is c.loop-element.invariant.written c.in_ok-push_item.ensures.octets;
       in_range = λ rest. c.loop-element.invariant.in_range (subst ElementsInRange (sym (views_from items c.loop-element.element-index c.element-item.result c.loop-element-test.true c.element-item.is)) (c.in_ok-push_item.ensures.in_range, rest));
     }
 

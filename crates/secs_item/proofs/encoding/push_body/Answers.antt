@@ -2,7 +2,7 @@ use Rattle.std.proofs.Common.{◌≡◌, sym, ap, ◌∙◌}
 use Rattle.std.proofs.lemmas.Result.{on_ok_weaker}
 use Rattle.secs_item.specs.Item.{values, u2, u4, u8, f4, f8, view}
 use Rattle.secs_item.proofs.Views.{view-U2, view-U4, view-U8, view-F4, view-F8}
-use Rattle.secs_item.proofs.Shorts.{is_body}
+use Rattle.secs_item.proofs.ShortestEncodings.{is_body}
 use Rattle.secs_item.proofs.encoding.push_body.Goals as goal
 
 pub returns-in-U2-clause-in_range : goal.returns-in-U2-clause-in_range

@@ -7,7 +7,7 @@ use Rattle.secs_item.specs.declared.item.Item.{List as item_list, Binary as item
 use Rattle.secs_item.proofs.Views.{view-List, view-Binary, view-Boolean, view-Ascii, view-Char2, view-I1, view-I2, view-I4, view-I8, view-U1, view-U2, view-U4, view-U8, view-F4, view-F8}
 use Rattle.secs_item.proofs.Variants.{other_variant}
 use Rattle.secs_item.proofs.Equals.{same_by, same_lists}
-use Rattle.secs_item.proofs.Shorts.{count-views}
+use Rattle.secs_item.proofs.ShortestEncodings.{count-views}
 use Rattle.secs_item.proofs.item.+same.Goals as goal
 
 pub same_item-returns-in-List-other : goal.same_item-returns-in-List-other

@@ -3,7 +3,7 @@ use Rattle.std.proofs.lemmas.Bool.Decides.{nat_tests}
 use Rattle.std.proofs.lemmas.Result.{err_from_is_err_and}
 use Rattle.secs_item.specs.declared.fault.ItemFault.{ItemFault}
 use Rattle.secs_item.specs.Header.{trailing}
-use Rattle.secs_item.proofs.Fronts.{has_trailing, text_fails, text_trails, text_item, whole_front, front_whole}
+use Rattle.secs_item.proofs.Prefixes.{has_trailing, text_fails, text_trails, text_item, whole_front, front_whole}
 use Rattle.secs_item.proofs.measure.measure_text.Goals as goal
 
 pub returns-in_err-end-clause-err_where : goal.returns-in_err-end-clause-err_where

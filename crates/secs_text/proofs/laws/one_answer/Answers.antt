@@ -1,4 +1,4 @@
-use Rattle.secs_text.proofs.Answered.{message_or_fault, not_both, one_fault}
+use Rattle.secs_text.proofs.Results.{message_or_fault, not_both, one_fault}
 use Rattle.secs_text.proofs.laws.one_answer.Goals as goal
 
 pub returns : goal.returns

@@ -1,4 +1,4 @@
-use Rattle.secs_text.proofs.Answered.{one_message_law, one_list_law}
+use Rattle.secs_text.proofs.Results.{one_message_law, one_list_law}
 use Rattle.secs_text.proofs.laws.one_message.Goals as goal
 
 pub returns : goal.returns

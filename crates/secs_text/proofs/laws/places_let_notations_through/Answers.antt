@@ -1,4 +1,4 @@
-use Rattle.secs_text.proofs.MessageLeads.{let_through, all_let_through}
+use Rattle.secs_text.proofs.MessagePrefixes.{let_through, all_let_through}
 use Rattle.secs_text.proofs.Soundness.{is_notation, all_are_notations}
 use Rattle.secs_text.proofs.laws.places_let_notations_through.Goals as goal
 

@@ -1,5 +1,5 @@
 use Rattle.secs_text.specs.Printed.{printed}
-use Rattle.secs_text.proofs.MessageLeads.{let_through}
+use Rattle.secs_text.proofs.MessagePrefixes.{let_through}
 use Rattle.secs_text.proofs.PrintedNotation.{printed_is_notation}
 use Rattle.secs_text.proofs.laws.printed_is_read.Goals as goal
 

@@ -2,10 +2,10 @@ use Rattle.std.proofs.Common.{◌∙◌, ap, refl, arith}
 use Rattle.std.specs.Prelude.{Some}
 use Rattle.secs_text.specs.Content.{Content}
 use Rattle.secs_text.specs.Fault.{any_messages}
-use Rattle.secs_text.specs.Left.{left}
-use Rattle.secs_text.specs.Places.{Rules, walk, after_wait, stop_wanted, before_item}
-use Rattle.secs_text.specs.Seen.{seen, then_tokens}
-use Rattle.secs_text.specs.Spellings.{named_by}
+use Rattle.secs_text.specs.RemainingTokens.{left}
+use Rattle.secs_text.specs.ParserStates.{Rules, walk, after_wait, stop_expected, before_item}
+use Rattle.secs_text.specs.TokenView.{seen, then_tokens}
+use Rattle.secs_text.specs.EncodedText.{named_by}
 use Rattle.secs_text.proofs.parsing.message.Goals as goal
 
 pub returns-in-Stop-token-clause-reads : goal.returns-in-Stop-token-clause-reads
@@ -21,7 +21,7 @@ returns-in-Stop-token-clause-reads c =
           c.optional_wait-wait.ensures.reads rules ms head refl
           ∙ ap (λ t. walk rules (after_wait ms waited) (then_tokens (record { at = next.at; token = seen t }) (left c.optional_wait-wait.new.tokens))) c.in-Less.is
           ∙ item.leads rules (before_item ms waited) (omega arith)
-          ∙ ap (λ ps. walk rules (stop_wanted ms (record waited { item = Some item.value })) ps)
+          ∙ ap (λ ps. walk rules (stop_expected ms (record waited { item = Some item.value })) ps)
           (c.next-next.ensures.tokens ∙ ap (λ t. then_tokens (record { at = c.next-next.result.at; token = seen t }) (left c.next-next.new.self)) c.in-Stop-token.is);
-      lays = item.lays;
+      appends_bytes = item.appends_bytes;
     }

@@ -3,12 +3,12 @@ use Rattle.secs_item.specs.declared.format.Format.TheVariants as format
 use Rattle.secs_item.specs.declared.item.Item.{the_lemmas}
 use Rattle.secs_item.specs.Format.{is_list}
 use Rattle.secs_item.specs.Item.{format_of, list, view, views}
-use Rattle.secs_item.specs.Short.{IsBodyOf}
+use Rattle.secs_item.specs.ShortestEncoding.{IsBodyOf}
 use Rattle.secs_item.proofs.Views.{view-List}
-use Rattle.secs_text.specs.Held.{IsHeld}
-use Rattle.secs_text.specs.Laid.{opening_of}
-use Rattle.secs_text.proofs.PrintingLeaves.{leaf_held, leaf_puts, list_ends, list_goes_on, list_held}
-use Rattle.secs_text.proofs.Views.{held_goes_on}
+use Rattle.secs_text.specs.InRange.{IsHeld}
+use Rattle.secs_text.specs.BlockOutput.{opening_of}
+use Rattle.secs_text.proofs.PrintingLeaves.{leaf_held, leaf_puts, list_ends, list_continues, list_held}
+use Rattle.secs_text.proofs.Views.{held_continues}
 use Rattle.secs_text.proofs.printing.+put_tree.Goals as goal
 
 pub returns-in_default-clause-puts : goal.returns-in_default-clause-puts
@@ -29,8 +29,8 @@ loop-element-preserved g t c =
     let items = c.deref-element-items.result.now in
     let i = c.loop-element.element-index in
     record {
-      puts = list_goes_on items i c.element-item.result (opening_of format.List (length items)) c.loop-element-test.true c.element-item.is c.loop-element.invariant.puts c.in_ok-at.ensures.puts;
-      held = held_goes_on items i c.element-item.result c.loop-element-test.true c.element-item.is c.loop-element.invariant.held c.in_ok-at.ensures.held;
+      puts = list_continues items i c.element-item.result (opening_of format.List (length items)) c.loop-element-test.true c.element-item.is c.loop-element.invariant.puts c.in_ok-at.ensures.puts;
+      held = held_continues items i c.element-item.result c.loop-element-test.true c.element-item.is c.loop-element.invariant.held c.in_ok-at.ensures.held;
     }
 
 pub returns-clause-puts : goal.returns-clause-puts

@@ -2,10 +2,10 @@ use Rattle.std.proofs.Common.{◌∙◌, ap, arith, refl, sym, false, [], ◌++�
 use Rattle.std.specs.Prelude.{Some, None}
 use Rattle.secs_item.specs.Item.{view}
 use Rattle.secs_text.specs.Content.{Content}
-use Rattle.secs_text.specs.Left.{left}
-use Rattle.secs_text.specs.Places.{walk, start, after_wait, stop_wanted, before_item}
-use Rattle.secs_text.specs.Seen.{seen, then_tokens}
-use Rattle.secs_text.proofs.Walks.{no_stop, no_text_wanted}
+use Rattle.secs_text.specs.RemainingTokens.{left}
+use Rattle.secs_text.specs.ParserStates.{walk, start, after_wait, stop_expected, before_item}
+use Rattle.secs_text.specs.TokenView.{seen, then_tokens}
+use Rattle.secs_text.proofs.TokenSteps.{no_stop, no_text_expected}
 use Rattle.secs_text.proofs.reading.message.Goals as goal
 
 pub returns-in-Stop-clause-reads : goal.returns-in-Stop-clause-reads
@@ -28,7 +28,7 @@ returns-clause-reads c = λ rules ms deep may last.
     ∙ c.optional_wait-wait.ensures.reads rules ms head refl
     ∙ ap (λ t. walk rules (after_wait ms waited) (then_tokens (record { at = next.at; token = seen t }) (left c.optional_wait-wait.new.tokens))) c.in-Less.is
     ∙ c.in_ok-item-in-Less.ensures.reads rules (before_item ms waited) (omega arith)
-    ∙ ap (λ ps. walk rules (stop_wanted ms (record waited { item = Some item })) ps)
+    ∙ ap (λ ps. walk rules (stop_expected ms (record waited { item = Some item })) ps)
     (c.next-next.ensures.tokens ∙ ap (λ t. then_tokens (record { at = c.next-next.result.at; token = seen t }) (left c.next-next.new.self)) c.in-Stop-token.is)
     ∙ ap (λ m. walk rules (start (ms ++ m ∷ [])) (left c.next-next.new.self)) (sym c.new-message.ensures)
 
@@ -39,7 +39,7 @@ returns-in_default c = record {
       let head : Content = record { stream = c.in_ok-stream.stream; function = c.in_ok-stream.function; wait = false; item = None } in
       c.in_ok-stream.ensures.reads rules ms (left c.args.tokens.now) may last
       ∙ c.optional_wait-wait.ensures.reads rules ms head refl
-      ∙ no_text_wanted rules ms (record head { wait = c.optional_wait-wait.result.0 }) next.at next.token (left c.optional_wait-wait.new.tokens) c.in_default.not-Stop c.in_default.not-Less;
+      ∙ no_text_expected rules ms (record head { wait = c.optional_wait-wait.result.0 }) next.at next.token (left c.optional_wait-wait.new.tokens) c.in_default.not-Stop c.in_default.not-Less;
   no_longer = c.optional_wait-wait.ensures.no_longer;
   started = tt;
 }
@@ -55,7 +55,7 @@ returns-in_default-token c = record {
       ∙ c.optional_wait-wait.ensures.reads rules ms head refl
       ∙ ap (λ t. walk rules (after_wait ms waited) (then_tokens (record { at = next.at; token = seen t }) (left c.optional_wait-wait.new.tokens))) c.in-Less.is
       ∙ c.in_ok-item-in-Less.ensures.reads rules (before_item ms waited) (omega arith)
-      ∙ ap (λ ps. walk rules (stop_wanted ms whole) ps) c.next-next.ensures.tokens
+      ∙ ap (λ ps. walk rules (stop_expected ms whole) ps) c.next-next.ensures.tokens
       ∙ no_stop rules ms whole c.next-next.result.at c.next-next.result.token (left c.next-next.new.self) c.in_default-token.not-Stop;
   no_longer = omega arith;
   started = tt;

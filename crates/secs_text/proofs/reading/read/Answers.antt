@@ -1,4 +1,4 @@
-use Rattle.secs_text.proofs.Answered.{ok_one, ok_where_one, err_one, err_where_one}
+use Rattle.secs_text.proofs.Results.{ok_one, ok_where_one, err_one, err_where_one}
 use Rattle.secs_text.proofs.reading.read.Goals as goal
 
 pub returns : goal.returns

@@ -1,5 +1,5 @@
 use Rattle.secs_text.specs.View.{contents}
-use Rattle.secs_text.proofs.Answered.{ok_all, ok_where_all, err_all, err_where_all}
+use Rattle.secs_text.proofs.Results.{ok_all, ok_where_all, err_all, err_where_all}
 use Rattle.secs_text.proofs.reading.read_all.Goals as goal
 
 pub returns : goal.returns

@@ -3,7 +3,7 @@ use Rattle.std.specs.Prelude.{Some}
 use Rattle.std.proofs.Math.ListN.{length-set, length-replicate}
 use Rattle.std.proofs.lemmas.List.{take_more_set}
 use Rattle.secs_text.specs.Words.{octet_of_digits, hex_octets}
-use Rattle.secs_text.proofs.Hexadecimal.{nothing_yet, octet_goes_on, other_length}
+use Rattle.secs_text.proofs.Hexadecimal.{nothing_yet, octet_continues, other_length}
 use Rattle.secs_text.proofs.word.sized_octets.Goals as goal
 
 pub returns-then-digits : goal.returns-then-digits
@@ -21,5 +21,5 @@ loop-i-preserved g c =
     let is : octet_of_digits (get_or digits (2 * i) 0) (get_or digits (2 * i + 1) 0) ≡ Some c.in_ok-octets.field-0 = sym c.octet_of_digits.ensures ∙ c.in_ok-octets.was in
     record {
       length = length-set c.loop-i.octets i c.in_ok-octets.field-0 ∙ c.loop-i.invariant.length;
-      read = octet_goes_on digits _ _ i c.in_ok-octets.field-0 more is (take_more_set c.loop-i.octets i c.in_ok-octets.field-0 room) c.loop-i.invariant.read;
+      read = octet_continues digits _ _ i c.in_ok-octets.field-0 more is (take_more_set c.loop-i.octets i c.in_ok-octets.field-0 room) c.loop-i.invariant.read;
     }

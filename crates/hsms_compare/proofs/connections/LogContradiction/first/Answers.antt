@@ -3,12 +3,12 @@ use Rattle.std.specs.Prelude.{Option}
 use Rattle.std.proofs.lemmas.Bool.Decides.{nat_tests}
 use Rattle.hsms_compare.specs.declared.contradiction.Contradiction.{Contradiction}
 use Rattle.hsms_compare.specs.Agreement.{FirstContradiction}
-use Rattle.hsms_compare.proofs.Connected.{after_more, all_gone, is_first_in, one_gone}
+use Rattle.hsms_compare.proofs.Connected.{after_more, all_consumed, is_first_in, one_consumed}
 use Rattle.hsms_compare.proofs.connections.LogContradiction.first.Goals as goal
 
 pub loop-host_left-preserved : goal.loop-host_left-preserved
 loop-host_left-preserved c = record {
-  gone = one_gone c.args.host.now c.args.equipment.now c.loop-host_left.host_left.now c.loop-host_left.equipment_left.now
+  gone = one_consumed c.args.host.now c.args.equipment.now c.loop-host_left.host_left.now c.loop-host_left.equipment_left.now
       c.split_at.result.0.now c.split_at-in-loop-host_left.result.0.now c.split_at.result.1.now c.split_at-in-loop-host_left.result.1.now
       c.is_open_last.result c.is_open_last-in-loop-host_left.result c.loop-host_left.invariant.gone
       (record {
@@ -53,7 +53,7 @@ returns-else-not-is_empty c =
     let a = c.is_empty-in-loop-host_left.ensures in
     let b = c.if-not-is_empty.false in
     let none : length equipment_left ≡ 0 = grind (arith, nat_tests) in
-    all_gone c.args.host.now c.args.equipment.now host_left equipment_left c.loop-host_left.invariant.gone (inr none)
+    all_consumed c.args.host.now c.args.equipment.now host_left equipment_left c.loop-host_left.invariant.gone (inr none)
 
 pub returns-after-loop-host_left : goal.returns-after-loop-host_left
 returns-after-loop-host_left c =
@@ -62,4 +62,4 @@ returns-after-loop-host_left c =
     let a = c.is_empty.ensures in
     let b = c.loop-host_left-test.false in
     let none : length host_left ≡ 0 = grind (arith, nat_tests) in
-    all_gone c.args.host.now c.args.equipment.now host_left equipment_left c.loop-host_left.invariant.gone (inl none)
+    all_consumed c.args.host.now c.args.equipment.now host_left equipment_left c.loop-host_left.invariant.gone (inl none)

@@ -1,5 +1,5 @@
 use Rattle.std.proofs.Common.{subst}
-use Rattle.hsms_machine.specs.Step.{IsInOrder}
+use Rattle.hsms_machine.specs.ViewRules.{IsInOrder}
 use Rattle.hsms_machine.proofs.Mapped.{ordered}
 use Rattle.hsms_machine.proofs.tracker.Tracker.keeps_order.Goals as goal
 

@@ -14,8 +14,8 @@ returns-in-NotSelected c =
     let e1 = least_in-append (replies ++ responses) (option_to_list selection) in
     let e2 = least_in-append replies responses in
     let e3 = least_in-option selection in
-    let told : c.earlier.result ≡ next_due_of view = rw (c.in-NotSelected.is, e1, e2, e3) (cc) in
-    told ∙ ap (λ (w : View). next_due_of w) c.self.view_is
+    let named_rule : c.earlier.result ≡ next_due_of view = rw (c.in-NotSelected.is, e1, e2, e3) (cc) in
+    named_rule ∙ ap (λ (w : View). next_due_of w) c.self.view_is
 
 pub returns-in-Selected : goal.returns-in-Selected
 returns-in-Selected c =
@@ -23,5 +23,5 @@ returns-in-Selected c =
     let replies = due_times view.settings.t3 view.sent_data in
     let responses = due_times view.settings.t6 view.sent_control in
     let e2 = least_in-append replies responses in
-    let told : c.earlier-requests.result ≡ next_due_of view = rw (c.in-Selected.is, e2) (cc) in
-    told ∙ ap (λ (w : View). next_due_of w) c.self.view_is
+    let named_rule : c.earlier-requests.result ≡ next_due_of view = rw (c.in-Selected.is, e2) (cc) in
+    named_rule ∙ ap (λ (w : View). next_due_of w) c.self.view_is

@@ -1,10 +1,10 @@
 use Rattle.std.proofs.Common.{◌≡◌, ◌∙◌, ap, subst, true, None, is_none, rules}
 use Rattle.hsms_machine.specs.declared.entry.Entry.{Entry}
 use Rattle.hsms_machine.specs.View.{IsBrokenAfter}
-use Rattle.hsms_machine.specs.Step.{view_after, IsUntil, IsBrokenAt}
-use Rattle.hsms_machine.specs.Act.{entry_of}
+use Rattle.hsms_machine.specs.ViewRules.{view_after, IsUntil, IsBrokenAt}
+use Rattle.hsms_machine.specs.EventParts.{entry_of}
 use Rattle.hsms_machine.proofs.Parts.{after_at, fresh_at}
-use Rattle.hsms_machine.proofs.Runs.{told_for_each, told_by, after_for_each, kept_run, stepped_run, lawful_none, on_err}
+use Rattle.hsms_machine.proofs.Runs.{derived_for_each, derived_from, after_for_each, kept_run, stepped_run, valid_none, on_err}
 use Rattle.hsms_machine.proofs.Timely.{not_past, view_until-le, until_after, kept_until}
 use Rattle.hsms_machine.proofs.tracker.Tracker.step_ref.Goals as goal
 
@@ -14,11 +14,11 @@ take_in-requires c =
     let act = c.parts-time.result.1.now in
     let text = c.parts-time.result.2.now in
     let none : is_none c.first_broken-broken.result ≡ true = search rules in
-    let lawful : IsBrokenAt c.self.inside.view (entry_of time act text) None =
-    lawful_none c.self.inside.view (entry_of time act text) c.first_broken-broken.result none c.first_broken-broken.ensures in
+    let is_valid : IsBrokenAt c.self.inside.view (entry_of time act text) None =
+    valid_none c.self.inside.view (entry_of time act text) c.first_broken-broken.result none c.first_broken-broken.ensures in
     record {
-      fresh = fresh_at c.self.inside.view time act text lawful;
-      until = view_until-le c.self.inside.view.last_time time (not_past c.self.inside.view (entry_of time act text) lawful) c.self.inside.view c.self.invariant.1;
+      fresh = fresh_at c.self.inside.view time act text is_valid;
+      until = view_until-le c.self.inside.view.last_time time (not_past c.self.inside.view (entry_of time act text) is_valid) c.self.inside.view c.self.invariant.1;
     }
 
 pub invariant_of-self : goal.invariant_of-self
@@ -27,12 +27,12 @@ invariant_of-self c =
     let act = c.parts-time.result.1.now in
     let text = c.parts-time.result.2.now in
     let none : is_none c.first_broken-broken.result ≡ true = search rules in
-    let lawful : IsBrokenAt c.self.inside.view (entry_of time act text) None =
-    lawful_none c.self.inside.view (entry_of time act text) c.first_broken-broken.result none c.first_broken-broken.ensures in
+    let is_valid : IsBrokenAt c.self.inside.view (entry_of time act text) None =
+    valid_none c.self.inside.view (entry_of time act text) c.first_broken-broken.result none c.first_broken-broken.ensures in
     let until : IsUntil time c.self.inside.view =
-    view_until-le c.self.inside.view.last_time time (not_past c.self.inside.view (entry_of time act text) lawful) c.self.inside.view c.self.invariant.1 in
+    view_until-le c.self.inside.view.last_time time (not_past c.self.inside.view (entry_of time act text) is_valid) c.self.inside.view c.self.invariant.1 in
     let after = c.in_ok-take_in.ensures.ok ∙ after_at c.self.inside.view time act text in (
-      stepped_run c.self.inside.view c.take_in.new.self (entry_of time act text) lawful after c.self.invariant.0,
+      stepped_run c.self.inside.view c.take_in.new.self (entry_of time act text) is_valid after c.self.invariant.0,
       until_after c.self.inside.view c.take_in.new.self (entry_of time act text) until after,
     )
 
@@ -42,44 +42,44 @@ invariant_of-self-in_err-take_in c = (
   kept_until c.self.inside.view c.take_in.new.self c.in_err-take_in.ensures.err c.self.invariant.1,
 )
 
-pub returns-in_err-take_in-clause-err_lawful : goal.returns-in_err-take_in-clause-err_lawful
-returns-in_err-take_in-clause-err_lawful c =
+pub returns-in_err-take_in-clause-err_valid : goal.returns-in_err-take_in-clause-err_valid
+returns-in_err-take_in-clause-err_valid c =
     let entry = c.args.entry.now in
     let none : is_none c.first_broken-broken.result ≡ true = search rules in
-    let told : IsBrokenAt c.self.inside.view entry c.first_broken-broken.result =
+    let named_rule : IsBrokenAt c.self.inside.view entry c.first_broken-broken.result =
     subst (λ (x : Entry). IsBrokenAt c.self.inside.view x c.first_broken-broken.result) c.parts-time.ensures c.first_broken-broken.ensures in
     on_err (IsBrokenAfter c.args.self.now entry None) c.from_residual.result
-    (told_for_each c.self.inside.view c.args.self.now c.self.view_is entry None
-    (lawful_none c.self.inside.view entry c.first_broken-broken.result none told))
+    (derived_for_each c.self.inside.view c.args.self.now c.self.view_is entry None
+    (valid_none c.self.inside.view entry c.first_broken-broken.result none named_rule))
 
 pub returns-in_ok-take_in-clause-answer : goal.returns-in_ok-take_in-clause-answer
 returns-in_ok-take_in-clause-answer c =
-    told_for_each c.self.inside.view c.args.self.now c.self.view_is c.args.entry.now c.first_broken-broken.result
+    derived_for_each c.self.inside.view c.args.self.now c.self.view_is c.args.entry.now c.first_broken-broken.result
     (subst (λ (x : Entry). IsBrokenAt c.self.inside.view x c.first_broken-broken.result) c.parts-time.ensures c.first_broken-broken.ensures)
 
-pub returns-in_ok-take_in-clause-told : goal.returns-in_ok-take_in-clause-told
-returns-in_ok-take_in-clause-told c =
-    told_by c.self.inside.view c.args.self.now c.self.view_is c.args.entry.now c.first_broken-broken.result
+pub returns-in_ok-take_in-clause-named_rule : goal.returns-in_ok-take_in-clause-named_rule
+returns-in_ok-take_in-clause-named_rule c =
+    derived_from c.self.inside.view c.args.self.now c.self.view_is c.args.entry.now c.first_broken-broken.result
     (subst (λ (x : Entry). IsBrokenAt c.self.inside.view x c.first_broken-broken.result) c.parts-time.ensures c.first_broken-broken.ensures)
 
 pub returns-else-is_none-clause-answer : goal.returns-else-is_none-clause-answer
 returns-else-is_none-clause-answer c =
-    told_for_each c.self.inside.view c.args.self.now c.self.view_is c.args.entry.now c.first_broken-broken.result
+    derived_for_each c.self.inside.view c.args.self.now c.self.view_is c.args.entry.now c.first_broken-broken.result
     (subst (λ (x : Entry). IsBrokenAt c.self.inside.view x c.first_broken-broken.result) c.parts-time.ensures c.first_broken-broken.ensures)
 
-pub returns-else-is_none-clause-told : goal.returns-else-is_none-clause-told
-returns-else-is_none-clause-told c =
-    told_by c.self.inside.view c.args.self.now c.self.view_is c.args.entry.now c.first_broken-broken.result
+pub returns-else-is_none-clause-named_rule : goal.returns-else-is_none-clause-named_rule
+returns-else-is_none-clause-named_rule c =
+    derived_from c.self.inside.view c.args.self.now c.self.view_is c.args.entry.now c.first_broken-broken.result
     (subst (λ (x : Entry). IsBrokenAt c.self.inside.view x c.first_broken-broken.result) c.parts-time.ensures c.first_broken-broken.ensures)
 
-pub returns-in_ok-take_in-clause-lawful : goal.returns-in_ok-take_in-clause-lawful
-returns-in_ok-take_in-clause-lawful c = λ e.
+pub returns-in_ok-take_in-clause-is_valid : goal.returns-in_ok-take_in-clause-is_valid
+returns-in_ok-take_in-clause-is_valid c = λ e.
     let entry = c.args.entry.now in
     let none : is_none c.first_broken-broken.result ≡ true = search rules in
-    let told : IsBrokenAt c.self.inside.view entry c.first_broken-broken.result =
+    let named_rule : IsBrokenAt c.self.inside.view entry c.first_broken-broken.result =
     subst (λ (x : Entry). IsBrokenAt c.self.inside.view x c.first_broken-broken.result) c.parts-time.ensures c.first_broken-broken.ensures in
     after_for_each c.self.inside.view c.args.self.now c.take_in.new.self c.self.view_is entry
-    (lawful_none c.self.inside.view entry c.first_broken-broken.result none told)
+    (valid_none c.self.inside.view entry c.first_broken-broken.result none named_rule)
     (c.in_ok-take_in.ensures.ok ∙ after_at c.self.inside.view c.parts-time.result.0 c.parts-time.result.1.now c.parts-time.result.2.now
     ∙ ap (view_after c.self.inside.view) c.parts-time.ensures)
 

@@ -1,7 +1,7 @@
 use Rattle.std.proofs.Common.{◌≡◌, is_none, false, true, rules, ap, sym, ◌∙◌, refl, inr}
 use Rattle.hsms_machine.specs.declared.phase.Phase.TheVariants.{Over}
-use Rattle.hsms_machine.specs.Act.{frame_of}
-use Rattle.hsms_machine.specs.Step.{facts_of}
+use Rattle.hsms_machine.specs.EventParts.{frame_of}
+use Rattle.hsms_machine.specs.ViewRules.{facts_of}
 use Rattle.hsms_machine.proofs.Steps.{no_cause_iff}
 use Rattle.hsms_machine.proofs.view.View.broken_discard.Goals as goal
 use Rattle.hsms_machine.proofs.view.View.broken_discard.Goals.{else-ne-via-then-ne+else-is_none, else-ne-via-else-ne}

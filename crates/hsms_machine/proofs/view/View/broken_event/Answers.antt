@@ -1,6 +1,6 @@
 use Rattle.std.proofs.Common.{ap, sym, subst}
-use Rattle.hsms_machine.specs.Act.{event_of, entry_of, frame_of}
-use Rattle.hsms_machine.specs.Step.{facts_of}
+use Rattle.hsms_machine.specs.EventParts.{event_of, entry_of, frame_of}
+use Rattle.hsms_machine.specs.ViewRules.{facts_of}
 use Rattle.hsms_machine.proofs.Steps.{sent_first, taken_first, discard_first, EventFirst}
 use Rattle.hsms_machine.proofs.view.View.broken_event.Goals as goal
 

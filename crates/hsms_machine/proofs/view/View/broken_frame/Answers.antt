@@ -1,7 +1,7 @@
 use Rattle.std.proofs.Common.{◌≡◌, false, is_some}
-use Rattle.hsms_machine.specs.Act.{frame_of}
+use Rattle.hsms_machine.specs.EventParts.{frame_of}
 use Rattle.hsms_machine.specs.Rule.{FrameBreaks, format_rules, transaction_rules}
-use Rattle.hsms_machine.specs.Step.{facts_of}
+use Rattle.hsms_machine.specs.ViewRules.{facts_of}
 use Rattle.hsms_machine.proofs.First.{first_after}
 use Rattle.hsms_machine.proofs.view.View.broken_frame.Goals as goal
 

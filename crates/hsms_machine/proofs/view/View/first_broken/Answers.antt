@@ -1,8 +1,8 @@
 use Rattle.std.proofs.Common.{◌≡◌, ◌++◌, ◌∷◌, [], false, is_some}
 use Rattle.hsms_machine.specs.declared.rule.Rule.TheVariants.{NoCause}
-use Rattle.hsms_machine.specs.Act.{entry_of}
+use Rattle.hsms_machine.specs.EventParts.{entry_of}
 use Rattle.hsms_machine.specs.Rule.{Breaks, order_rules, timer_rules, format_rules, transaction_rules}
-use Rattle.hsms_machine.specs.Step.{facts_of}
+use Rattle.hsms_machine.specs.ViewRules.{facts_of}
 use Rattle.hsms_machine.proofs.First.{first_after}
 use Rattle.hsms_machine.proofs.Parts.{order_at, timer_at}
 use Rattle.hsms_machine.proofs.view.View.first_broken.Goals as goal

@@ -1,7 +1,7 @@
 use Rattle.std.proofs.Common.{◌≡◌, ap, ◌∙◌, arith}
 use Rattle.secs_item.specs.Item.{list, view, views}
 use Rattle.secs_item.proofs.Views.{view-List}
-use Rattle.secs_item.proofs.Shorts.{count-views}
+use Rattle.secs_item.proofs.ShortestEncodings.{count-views}
 use Rattle.secs_item.proofs.item.Item.count.Goals as goal
 
 pub returns-in-List : goal.returns-in-List

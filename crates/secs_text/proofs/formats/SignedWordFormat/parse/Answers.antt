@@ -1,6 +1,6 @@
 use Rattle.std.proofs.Common.{◌∙◌}
 use Rattle.std.proofs.Math.ListN.{length-replicate}
-use Rattle.secs_text.proofs.Widths.{most_signed, signed_spelled, signed_refused}
+use Rattle.secs_text.proofs.Widths.{most_signed, signed_encoded, signed_refused}
 use Rattle.secs_text.proofs.formats.SignedWordFormat.parse.Goals as goal
 
 pub returns-in_err-number : goal.returns-in_err-number
@@ -9,5 +9,5 @@ returns-in_err-number g c =
 
 pub returns : goal.returns
 returns g c =
-    signed_spelled g.row.N _ c.args.word.now (most_signed g.row.N c.requires) c.in_ok-number.number _ c.write_int.new.buf c.requires
+    signed_encoded g.row.N _ c.args.word.now (most_signed g.row.N c.requires) c.in_ok-number.number _ c.write_int.new.buf c.requires
     c.in_ok-number.ensures.value c.in_ok-number.ensures.within (length-replicate g.row.N 0) c.write_int.ensures

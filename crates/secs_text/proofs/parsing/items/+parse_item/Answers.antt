@@ -1,7 +1,7 @@
 use Rattle.std.proofs.Common.{◌∙◌, ap, arith, rules}
-use Rattle.secs_text.specs.Left.{left}
-use Rattle.secs_text.specs.Reads.{count_seen}
-use Rattle.secs_text.specs.Seen.{seen, then_tokens}
+use Rattle.secs_text.specs.RemainingTokens.{left}
+use Rattle.secs_text.specs.ParseSteps.{count_seen}
+use Rattle.secs_text.specs.TokenView.{seen, then_tokens}
 use Rattle.secs_text.proofs.ParsingItems.{none_listed, element_listed, list_unfit, list_patched, two_kept, item_patched}
 use Rattle.secs_text.proofs.parsing.items.+parse_item.Goals as goal
 
@@ -53,5 +53,5 @@ item-returns-in_default-clause-reads t c =
     record {
       value = item.value;
       leads = λ rules b deep. c.in_ok-format.ensures.reads rules b deep ∙ item.leads rules b tt;
-      lays = item.lays;
+      appends_bytes = item.appends_bytes;
     }

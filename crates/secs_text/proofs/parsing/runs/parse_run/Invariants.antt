@@ -1,11 +1,11 @@
 use Rattle.std.proofs.Common.{◌≤◌}
-use Rattle.secs_text.specs.Left.{left, octets_left}
-use Rattle.secs_text.specs.Spellings.{GathersMore}
+use Rattle.secs_text.specs.RemainingTokens.{left, octets_left}
+use Rattle.secs_text.specs.EncodedText.{CollectsMore}
 use Rattle.secs_text.proofs.parsing.runs.parse_run.Given as goal
 
 abbrev pub invariant-loop-octets : goal.invariant-loop-octets
 invariant-loop-octets g l = record {
-  gathered : GathersMore l.fn.format (left l.initial.tokens) (left l.tokens) l.initial.out.items l.out.items;
+  collected : CollectsMore l.fn.format (left l.initial.tokens) (left l.tokens) l.initial.out.items l.out.items;
   no_longer : octets_left l.tokens ≤ octets_left l.initial.tokens;
 }
 

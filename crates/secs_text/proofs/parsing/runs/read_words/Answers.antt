@@ -1,6 +1,6 @@
 use Rattle.std.proofs.Common.{◌≡◌, ◌<◌, ◌≤◌, ◌+◌, ◌-◌, ◌*◌, ◌/◌, ◌++◌, length, take, drop, get_or, slice_set, sym, ap, ap₂, ◌∙◌, subst, arith}
 use Rattle.std.proofs.lemmas.List.{drop-drop, get_or-drop, get_or-take, length-drop, length-set, length-take-le, take-append-drop, take_more_set}
-use Rattle.secs_text.specs.ShortWord.{AreShortWords}
+use Rattle.secs_text.specs.ByteWord.{AreShortWords}
 use Rattle.secs_text.proofs.ShortWords.{part_at, part_within, parts_within, words_more, times_next}
 use Rattle.secs_text.proofs.parsing.runs.read_words.Goals as goal
 
@@ -21,8 +21,8 @@ loop-i-preserved g c =
     let there : get_or (drop c.args.from words) k.i first ≡ get_or words count first = get_or-drop c.args.from words k.i first ∙ ap (λ n. get_or words n first) (omega arith) in
     let is : first ≡ take size rest = c.index-part-i.is ∙ get_or-take (c.args.to - c.args.from) (drop c.args.from words) k.i first own ∙ there
     ∙ ap (λ ws. get_or ws count first) c.as_chunks.ensures.front ∙ part_at size (length text / size) text first count less in
-    let behind : drop size rest ≡ after = drop-drop size (size * count) text ∙ ap (λ n. drop n text) (sym (times_next size count)) in
-    let parts : rest ≡ first ++ after = sym (take-append-drop size rest) ∙ ap₂ (λ a b. a ++ b) (sym is) behind in
+    let subsequent : drop size rest ≡ after = drop-drop size (size * count) text ∙ ap (λ n. drop n text) (sym (times_next size count)) in
+    let parts : rest ≡ first ++ after = sym (take-append-drop size rest) ∙ ap₂ (λ a b. a ++ b) (sym is) subsequent in
     let long : length first ≡ size = ap length is ∙ length-take-le size rest (omega (arith, length-drop (size * count) text, within)) in
     let more = words_more g.W.ShortWord.reads size (take count k.octets) c.in-Some.octet text rest first after k.invariant.words c.in-Some.ensures long parts in
     let room : count < length k.octets = omega (arith, k.invariant.room, before, c.requires.few) in

@@ -1,12 +1,12 @@
 use Rattle.std.proofs.Common.{◌≤◌}
-use Rattle.secs_text.specs.Left.{left, octets_left}
-use Rattle.secs_text.specs.Reads.{count_seen}
-use Rattle.secs_text.specs.Spellings.{Gathered}
+use Rattle.secs_text.specs.RemainingTokens.{left, octets_left}
+use Rattle.secs_text.specs.ParseSteps.{count_seen}
+use Rattle.secs_text.specs.EncodedText.{Collected}
 use Rattle.secs_text.proofs.parsing.values.parse_values.Given as goal
 
 abbrev pub invariant-loop-word : goal.invariant-loop-word
 invariant-loop-word l = record {
-  gathered : Gathered l.format (count_seen l.count) (left l.fn.tokens) (left l.tokens) l.fn.out.items l.out.items;
+  collected : Collected l.format (count_seen l.count) (left l.fn.tokens) (left l.tokens) l.fn.out.items l.out.items;
   no_longer : octets_left l.tokens ≤ octets_left l.fn.tokens;
 }
 

@@ -1,6 +1,6 @@
 use Rattle.std.proofs.Common.{arith}
 use Rattle.std.proofs.lemmas.Bool.Decides.{nat_tests}
-use Rattle.secs_item.proofs.Fronts.{text_measured}
+use Rattle.secs_item.proofs.Prefixes.{text_measured}
 use Rattle.secs_text.proofs.PrintingMessages.{no_item, with_item}
 use Rattle.secs_text.proofs.printing.messages.put_message.Goals as goal
 

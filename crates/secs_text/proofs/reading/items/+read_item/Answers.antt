@@ -1,12 +1,12 @@
 use Rattle.std.proofs.Common.{◌∙◌, ◌%◌, ◌∷◌, List, ℕ, ap, sym, length, arith}
 use Rattle.secs_item.specs.Format.{value_size}
 use Rattle.secs_item.specs.Item.{list, values, views}
-use Rattle.secs_item.specs.Reading.{values_of}
-use Rattle.secs_text.specs.Left.{left}
-use Rattle.secs_text.specs.Places.{Before, walk, in_item, closed}
-use Rattle.secs_text.specs.Reads.{count_seen}
-use Rattle.secs_text.specs.Seen.{seen, then_tokens}
-use Rattle.secs_text.proofs.ReadingValues.{gathered_whole, gathered_values}
+use Rattle.secs_item.specs.Decoding.{values_of}
+use Rattle.secs_text.specs.RemainingTokens.{left}
+use Rattle.secs_text.specs.ParserStates.{Before, walk, in_item, closed}
+use Rattle.secs_text.specs.ParseSteps.{count_seen}
+use Rattle.secs_text.specs.TokenView.{seen, then_tokens}
+use Rattle.secs_text.proofs.ReadingValues.{collected_complete, collected_values}
 use Rattle.secs_text.proofs.Views.{views_push}
 use Rattle.secs_text.proofs.reading.items.+read_item.Goals as goal
 
@@ -29,7 +29,7 @@ elements-loop-items-preserved t c =
 pub item-item_of_values-requires-clause-whole : goal.item-item_of_values-requires-clause-whole
 item-item_of_values-requires-clause-whole t c =
     ap (λ (o : List ℕ). length o % value_size c.in_ok-format.format) c.deref.ensures.value
-    ∙ gathered_whole c.in_ok-parse_values.ensures.values c.new-body.ensures.items
+    ∙ collected_complete c.in_ok-parse_values.ensures.values c.new-body.ensures.items
 
 pub item-returns-in_default-clause-reads : goal.item-returns-in_default-clause-reads
 item-returns-in_default-clause-reads t c = λ rules b deep.
@@ -37,4 +37,4 @@ item-returns-in_default-clause-reads t c = λ rules b deep.
     c.in_ok-format.ensures.reads rules b deep
     ∙ h.leads rules b
     ∙ ap (λ v. walk rules (closed b.lists b v) (left c.parse_values.new.tokens))
-    (sym (c.in_ok-item_of_values.ensures ∙ ap (λ v. values v) (ap (λ (o : List ℕ). values_of c.in_ok-format.format o) c.deref.ensures.value ∙ gathered_values h c.new-body.ensures.items)))
+    (sym (c.in_ok-item_of_values.ensures ∙ ap (λ v. values v) (ap (λ (o : List ℕ). values_of c.in_ok-format.format o) c.deref.ensures.value ∙ collected_values h c.new-body.ensures.items)))

@@ -1,0 +1,5 @@
+mod LoggedEvents
+mod Logs
+mod Addresses
+mod ByteBuffers
+mod WrittenLogs

@@ -1,0 +1,6 @@
+pub mod ByteBuffer
+pub mod SocketPair
+pub mod AuditedLog
+pub mod BothLogs
+pub mod WrittenLog
+pub mod Stop

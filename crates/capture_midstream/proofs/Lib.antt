@@ -1,0 +1,13 @@
+pub mod Rows
+pub mod Unique
+pub mod Unbroken
+pub mod Staying
+pub mod Found
+pub mod Messages
+pub mod PiecesFrom
+pub mod Places
+pub mod CurrentState
+pub mod Holding
+pub mod Starts
+pub mod Spots
+pub mod Keeping

@@ -1,0 +1,11 @@
+use Rattle.std.proofs.Common.{◌≡◌, ◌≤◌, length, map}
+use Rattle.capture_tcp.specs.declared.packet.Side.{Side}
+use Rattle.capture_midstream.specs.BufferedPacket.{lowest, midst, placed_by}
+use Rattle.capture_midstream.proofs.chunk_map.lowest.Given as goal
+
+abbrev pub invariant-loop-piece : goal.invariant-loop-piece
+invariant-loop-piece l =
+    ((side : Side) → lowest l.low (map (placed_by side) l.rest) ≡ lowest midst (map (placed_by side) l.pieces)) × (l.low ≤ midst)
+
+abbrev pub decreases-loop-piece : goal.decreases-loop-piece
+decreases-loop-piece l = length l.rest

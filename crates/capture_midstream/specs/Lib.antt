@@ -1,0 +1,9 @@
+pub mod SyncPoint
+pub mod MessageCheck
+pub mod BufferedPacket
+pub mod PacketBuffer
+pub mod SyntheticHandshake
+pub mod Laws
+pub mod Requests
+pub mod Assumption
+pub mod SequenceNumbers

@@ -1,0 +1,6 @@
+mod Options
+mod AfterPackets
+mod UniqueReading
+mod ReaderSteps
+mod UnchangedBlocks
+mod BlockSteps

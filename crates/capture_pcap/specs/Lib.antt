@@ -1,0 +1,6 @@
+pub mod ByteOrder
+pub mod NextBlock
+pub mod Segment
+pub mod File
+pub mod Laws
+pub mod BlockReader

@@ -1,0 +1,230 @@
+//! A capture file that is read in blocks, a packet at a time.
+
+ghost use Rattle.std.specs.Prelude.{◌≡◌, ◌≤◌, ◌<◌, Ok, true, false, length, IfErr, IfOk, OnErr, drop, take, ◌+◌};
+ghost use Rattle.hsms_frame.specs.ReadAhead.{ReadsMore, ends_after_more};
+ghost use Rattle.hsms_frame.specs.Io.{IfRecorded, IsAtEnd, Stays};
+ghost use Rattle.capture_pcap.specs.File.{HasParts};
+ghost use Rattle.capture_pcap.specs.BlockReader.{EndsWith, FindsFront, FindsOpening, IsOfDevice, OpensFor, ReadsFor, ends_after_find, ends_after_open, failures_after, front_reported, greatest_ahead, is_more, is_unopened, opening_reported, step_of, Reading, CountsOn, OpensAs, PassesOn, StepIsWithin, StepsAs, TakesHeader, TakesOn, ends_after_step};
+
+use crate::block_reader::{Format, Opening, Reader, format_of};
+use crate::fault::{CaptureFault, FileFault};
+use crate::next_block::{Front, Record};
+use hsms_frame::{Ahead, Source};
+use std::alloc::Global;
+use std::marker::Model;
+
+/// What one step in a file finds.
+#[derive(Clone, Copy, Debug)]
+pub enum Step {
+    /// A packet, with its number, counted from 1. Its record lies in [`Packets::octets`].
+    Packet(u64, Record),
+    /// What is no packet.
+    Passed,
+    /// The end of the file.
+    End,
+}
+
+/// A capture file that is read in blocks. Contracts see what is known behind what was passed, the octets of the record or
+/// block that was passed last, and those that were read ahead behind it. These are at most the octets of one record or
+/// block, and 65,536 more, so the memory that is held doesn't grow with the file.
+#[derive(Drop)]
+pub struct Packets {
+    reader: Reader,
+    ahead: Ahead,
+    // The octets of what was passed last stand before those that are ahead until the next step.
+    last: usize,
+}
+
+impl Model for Packets {
+    ghost Value = { Reading };
+
+    ghost view = { λ p. record { state = p.reader; last = take p.last p.ahead; ahead = drop p.last p.ahead } };
+
+    ghost invariant = { λ p. (p.last ≤ length p.ahead) × (length p.ahead ≤ greatest_ahead) };
+}
+
+impl Packets {
+    /// Opens a file: reads until its format and its header are there. Where that stops, the octets that were read are
+    /// lost.
+    pub fn open<R: Source>(alloc: Global, source: &mut R) -> Result<Packets, FileFault>
+        ensures opened { IfRecorded (R.state source.old).left (λ input. OpensAs input result (R.state source.new).left) }
+        ensures count { IfOk result (λ packets. packets.state.packets ≡ 0) }
+        ensures takes { IfRecorded (R.state source.old).left (λ input.
+            IfOk result (TakesHeader input (R.state source.new).left)) }
+        ensures ends { (R.state source.new).ends ≡ ends_after_open result (R.state source.old).ends }
+        ensures failures { (R.state source.new).failures ≡ failures_after result (R.state source.old).failures }
+    {
+        let mut ahead = Ahead::new(alloc)?;
+        let (format, size) = opening(&mut ahead, source)?;
+        ahead.pass(size);
+        Ok(Packets {
+            reader: Reader::new(alloc, format, size),
+            ahead,
+            last: 0,
+        })
+    }
+
+    /// How many packets and octets of the file were passed.
+    pub fn reader(&self) -> &Reader
+        ensures { result.now ≡ self.now.state }
+    {
+        &self.reader
+    }
+
+    /// The octets of the record or block that was passed last, where the last step answered it.
+    pub fn octets(&self) -> &[u8]
+        ensures { result.now ≡ self.now.last }
+    {
+        let (last, _) = self.ahead.as_slice().split_at(self.last);
+        last
+    }
+
+    /// Passes the next record or block of the file, and tells it. More is read only where it isn't there whole.
+    ///
+    /// What the steps tell of a file, one after another, up to its end, a cut or a fault, is what `ReadsFile` says of all
+    /// octets that the source gives: each packet once, in order, with its number, and a fault at its place in the file.
+    /// After a fault the same one is told again; after a failed read, and where memory was refused, nothing is lost.
+    pub fn next<R: Source>(&mut self, source: &mut R) -> Result<Step, FileFault>
+        ensures step { IfRecorded (R.state source.old).left (λ input. StepsAs self.old input result self.new (R.state source.new).left) }
+        ensures there { IfOk result (StepIsWithin (length self.new.last)) }
+        ensures takes { IfRecorded (R.state source.old).left (λ input.
+            IfOk result (TakesOn self.old input self.new (R.state source.new).left)) }
+        ensures onward { IfOk result (λ step. PassesOn step self.old.state.place self.new.state.place) }
+        ensures counts { IfOk result (λ step. CountsOn step self.old.state.packets self.new.state.packets) }
+        ensures err { OnErr result (self.new.state ≡ self.old.state) }
+        ensures bound { length self.new.last + length self.new.ahead ≤ greatest_ahead }
+        ensures ends { (R.state source.new).ends ≡ ends_after_step result (R.state source.old).ends }
+        ensures failures { (R.state source.new).failures ≡ failures_after result (R.state source.old).failures }
+    {
+        self.ahead.pass(self.last);
+        self.last = 0;
+        let Some(front) = next_front(&self.reader, &mut self.ahead, source)? else {
+            return Ok(Step::End);
+        };
+        let Ok(size) = self.reader.pass(front) else {
+            return Err(FileFault::Memory);
+        };
+        self.last = size;
+        Ok(reported_step(self.reader.packets(), front))
+    }
+}
+
+// The front that is there whole at the front of what is ahead. There is none at the end of the input.
+fn next_front<R: Source>(
+    reader: &Reader,
+    ahead: &mut Ahead,
+    source: &mut R,
+) -> Result<Option<Front>, FileFault>
+    requires { length ahead.old ≤ greatest_ahead }
+    ensures read { IfRecorded (R.state source.old).left
+        (λ input. ReadsFor result ahead.old input ahead.new (R.state source.new).left) }
+    ensures found { FindsFront reader.now ahead.new result }
+    ensures bound { length ahead.new ≤ greatest_ahead }
+    ensures ends { (R.state source.new).ends ≡ ends_after_find result (R.state source.old).ends }
+    ensures failures { (R.state source.new).failures ≡ failures_after result (R.state source.old).failures }
+{
+    let mut found = reader.front(ahead.as_slice());
+    while is_to_be_read(&found) {
+        if !read_more(ahead, source)? {
+            return at_end(ahead.as_slice());
+        }
+        found = reader.front(ahead.as_slice());
+    }
+    reported_front(reader.place(), found)
+}
+
+// Whether neither a front nor a fault is there.
+#[inline(always)]
+fn is_to_be_read(found: &Result<Front, CaptureFault>) -> bool
+    ensures { result ≡ is_more found.now }
+{
+    matches!(found, Ok(Front::More))
+}
+
+// The answer where the input ends.
+fn at_end(octets: &[u8]) -> Result<Option<Front>, FileFault>
+    ensures { EndsWith octets.now result }
+{
+    if octets.is_empty() {
+        return Ok(None);
+    }
+    Err(FileFault::CutOff)
+}
+
+#[inline(always)]
+fn reported_front(
+    place: u64,
+    found: Result<Front, CaptureFault>,
+) -> Result<Option<Front>, FileFault>
+    ensures { result ≡ front_reported place found }
+{
+    match found {
+        Ok(front) => Ok(Some(front)),
+        Err(fault) => Err(FileFault::Capture { place, fault }),
+    }
+}
+
+#[inline(always)]
+fn reported_step(number: u64, front: Front) -> Step
+    ensures { result ≡ step_of number front }
+{
+    match front {
+        Front::Packet(record) => Step::Packet(number, record),
+        Front::More | Front::Begun(..) | Front::Described(..) | Front::Passed(..) => Step::Passed,
+    }
+}
+
+// The format of a file, and how many octets its header has, once it is ahead.
+fn opening<R: Source>(ahead: &mut Ahead, source: &mut R) -> Result<(Format, usize), FileFault>
+    requires { length ahead.old ≤ greatest_ahead }
+    ensures read { IfRecorded (R.state source.old).left
+        (λ input. OpensFor result ahead.old input ahead.new (R.state source.new).left) }
+    ensures found { FindsOpening ahead.new result }
+    ensures parts { IfOk result (λ opened. HasParts opened.0) }
+    ensures bound { length ahead.new ≤ greatest_ahead }
+    ensures ends { (R.state source.new).ends ≡ ends_after_open result (R.state source.old).ends }
+    ensures failures { (R.state source.new).failures ≡ failures_after result (R.state source.old).failures }
+{
+    let mut found = format_of(ahead.as_slice());
+    while is_to_be_opened(&found) {
+        if !read_more(ahead, source)? {
+            return Err(FileFault::CutOff);
+        }
+        found = format_of(ahead.as_slice());
+    }
+    reported_opening(found)
+}
+
+// Reads more octets behind the others, and says whether there were any: none only at the end of the input.
+fn read_more<R: Source>(ahead: &mut Ahead, source: &mut R) -> Result<bool, FileFault>
+    requires { length ahead.old < 16777232 }
+    ensures ok { IfOk result (λ is_more. IfRecorded (R.state source.old).left
+        (λ input. ReadsMore ahead.old input ahead.new (R.state source.new).left)) }
+    ensures more { result ≡ Ok true → length ahead.old < length ahead.new }
+    ensures none { result ≡ Ok false → (ahead.new ≡ ahead.old) × IsAtEnd (R.state source.old).left }
+    ensures bound { length ahead.new ≤ greatest_ahead }
+    ensures kept { OnErr result (ahead.new ≡ ahead.old) }
+    ensures err { OnErr result (Stays (R.state source.old).left (R.state source.new).left) }
+    ensures ends { (R.state source.new).ends ≡ ends_after_more result (R.state source.old).ends }
+    ensures stop { IfErr result IsOfDevice }
+    ensures failures { (R.state source.new).failures ≡ failures_after result (R.state source.old).failures }
+{
+    Ok(ahead.read_more(source)?)
+}
+
+// Whether neither a format nor a fault is there.
+fn is_to_be_opened(found: &Result<Opening, CaptureFault>) -> bool
+    ensures { result ≡ is_unopened found.now }
+{
+    matches!(found, Ok(Opening::More))
+}
+
+fn reported_opening(found: Result<Opening, CaptureFault>) -> Result<(Format, usize), FileFault>
+    ensures { result ≡ opening_reported found }
+{
+    match found {
+        Ok(Opening::Opened(format, size)) => Ok((format, size)),
+        Ok(Opening::More) => Err(FileFault::CutOff),
+        Err(fault) => Err(FileFault::Capture { place: 0, fault }),
+    }
+}

@@ -1,0 +1,84 @@
+-- How what is told of a connection ends.
+use Rattle.std.specs.Prelude.{◌≡◌, ◌++◌, ◌∷◌, Bool, true, false, nat_lt, nat_le, if◌then◌else◌, ℕ, List, [], length, map, filter, Option, Some, None}
+use Rattle.capture_tcp.specs.declared.ending.Ending.{Ending}
+use Rattle.capture_tcp.specs.declared.ending.Ending.TheVariants as ending
+use Rattle.capture_tcp.specs.declared.streams.Due.{Due}
+use Rattle.capture_tcp.specs.declared.emitter.Emitter.{Emitter}
+use Rattle.capture_tcp.specs.declared.events.TimedEvent.{TimedEvent}
+use Rattle.capture_tcp.specs.TcpStreams.{Placed, Turn, turns, loss, loss_shown, difference, earlier, breaks_off}
+use Rattle.capture_tcp.specs.EventSteps.{entry_as}
+use Rattle.capture_tcp.specs.Emitted.{is_sure}
+use Rattle.capture_tcp.specs.ReaderState.{AreRising, AreStreamsOf, MayFollow, Waits, log_of}
+
+-- by the loss and the copy that differs, if there are some: the first of both
+abbrev pub broken : Option ℕ → Option ℕ → Ending
+broken None None = ending.Complete
+broken (Some j) None = ending.Lost j
+broken None (Some k) = ending.Differs k
+broken (Some j) (Some k) = if nat_lt j k then ending.Lost j else ending.Differs k
+
+-- whole, where the connection was over before that
+abbrev pub ended_by : Bool → List Placed → Ending
+ended_by true ps = ending.Closed
+ended_by false ps = broken (loss [] ps) (difference [] ps)
+
+abbrev pub ended_at : List Placed → Ending
+ended_at ps = ended_by (log_of ps).closed ps
+
+-- a loss is told by the packet that shows it
+abbrev pub shown_by : Option ℕ → Ending → Ending
+shown_by shown ending.Closed = ending.Closed
+shown_by shown ending.Complete = ending.Complete
+shown_by None (ending.Lost packet) = ending.Lost packet
+shown_by (Some n) (ending.Lost packet) = ending.Lost n
+shown_by shown (ending.Differs packet) = ending.Differs packet
+
+abbrev pub ended : List Placed → Ending
+ended ps = shown_by (loss_shown [] ps) (ended_at ps)
+
+-- ---- whether that is known, whatever follows
+
+-- so many packets stand behind one
+abbrev pub packets_after : ℕ → List Placed → ℕ
+packets_after k ps = length (filter (λ p. nat_lt k p.packet) ps)
+
+-- It is over, or a copy differs, or the next 4,096 packets behind the one that lacks something are there.
+abbrev pub ends_for_good : Ending → List Placed → Bool
+ends_for_good ending.Closed ps = true
+ends_for_good ending.Complete ps = false
+ends_for_good (ending.Lost packet) ps = nat_le 4096 (packets_after packet ps)
+ends_for_good (ending.Differs packet) ps = true
+
+abbrev pub is_known : List Placed → Bool
+is_known ps = ends_for_good (ended_at ps) ps
+
+-- ---- what code does
+
+abbrev pub EachAfter : Option ℕ → List Turn → Type 0
+EachAfter limit [] = Unit {0}
+EachAfter limit (t ∷ ts) = (is_sure limit t.at.packet ≡ false) × EachAfter limit ts
+
+-- whatever follows, it breaks off at a packet, and what follows stands behind it
+abbrev pub BreaksAt : Bool → Option ℕ → Ending → List Placed → Type 0
+BreaksAt more limit e ps =
+    (later : List Placed) → MayFollow more ps later
+    → (breaks_off (ps ++ later) ≡ limit) × (e ≡ broken (loss [] (ps ++ later)) (difference [] (ps ++ later))) × EachAfter limit (turns ps later)
+
+-- whatever follows, this is all that is told, and how it ends
+abbrev pub IsEnded : Bool → List Placed → List TimedEvent → Ending → Type 0
+IsEnded more ps emitted e =
+    (later : List Placed) → MayFollow more ps later → (map entry_as emitted ≡ (log_of (ps ++ later)).emitted) × (e ≡ ended_at (ps ++ later))
+
+abbrev pub EndsSo : Bool → List Placed → List TimedEvent → Type 0
+EndsSo more ps emitted = (e : Ending) × IsEnded more ps emitted e
+
+-- the same, by the packet that shows a loss
+abbrev pub IsShownEnded : Bool → List Placed → List TimedEvent → Ending → Type 0
+IsShownEnded more ps emitted e =
+    (later : List Placed) → MayFollow more ps later → (map entry_as emitted ≡ (log_of (ps ++ later)).emitted) × (e ≡ ended (ps ++ later))
+
+-- where it breaks off by a loss and a copy, all before that is told, behind what was taken away
+abbrev pub Finishes : Option ℕ → Option ℕ → Emitter → List Due → List TimedEvent → List TimedEvent → Ending → Type 0
+Finishes lost differs old queue emitted later e =
+    (away : List TimedEvent) (more : Bool) (ps : List Placed) → AreRising 0 ps → MayFollow more ps [] → AreStreamsOf old.streams ps
+    → BreaksAt more (earlier lost differs) (broken lost differs) ps → Waits more old queue ps (away ++ emitted) → IsEnded more ps (away ++ later) e

@@ -1,0 +1,123 @@
+-- What is told of a connection as its turns come, one after another. The laws say that it is what a log tells.
+use Rattle.std.specs.Prelude.{◌≡◌, ◌≤◌, ◌+◌, ◌==◌, Bool, true, false, if◌then◌else◌, ℕ, List, [], ◌∷◌, ◌++◌, length, take, drop, ◌-◌, map, flat_map, Option, Some, None}
+use Rattle.std.specs.Option.{option_map}
+use Rattle.capture_tcp.specs.declared.reassembly.Cell.{Cell as HeldCell}
+use Rattle.capture_tcp.specs.declared.reassembly.Piece.{Piece}
+use Rattle.capture_tcp.specs.declared.reassembly.Piece.TheVariants as piece
+use Rattle.capture_tcp.specs.declared.packet.Side.{Side}
+use Rattle.capture_tcp.specs.declared.events.Event.{Event}
+use Rattle.capture_tcp.specs.declared.events.Event.TheVariants as event
+use Rattle.capture_tcp.specs.declared.events.TimedEvent.{TimedEvent}
+use Rattle.capture_tcp.specs.declared.events.EmitterState.{EmitterState}
+use Rattle.capture_tcp.specs.declared.events.EmitterState.TheVariants as emitter_state
+use Rattle.capture_tcp.specs.TcpStreams.{End, Cell, Left, Cut, cut_off}
+use Rattle.capture_tcp.specs.Message.{message_size}
+use Rattle.capture_tcp.specs.Reassembly.{Store, in_piece, piece_from}
+use Rattle.capture_tcp.specs.ConnectionEvents.{ConnectionEvent, up, message, down, Entry, entry, entry_of, is_separate, is_left_out}
+use Rattle.capture_tcp.specs.KnownStreams.{end_at}
+use Rattle.capture_tcp.specs.Losses.{side_of}
+
+-- ---- the entries of a log, as they are handed out
+
+abbrev pub reported_as : Event → ConnectionEvent
+reported_as event.Up = up
+reported_as (event.Message from octets) = message (end_at from) octets.items
+reported_as event.Down = down
+
+abbrev pub entry_as : TimedEvent → Entry
+entry_as h = entry h.packet (reported_as h.event)
+
+-- ---- entry by entry
+
+-- how things stand, and what was told
+pub record Processed : Type 0 where
+  pub state : EmitterState
+  pub emitted : List Entry
+
+abbrev pub is_at : Option ℕ → ℕ → Bool
+is_at None n = false
+is_at (Some m) n = m == n
+
+-- It comes up, where it isn't up yet. What ended at the same packet before ends it.
+abbrev pub comes_up : EmitterState → ℕ → Processed
+comes_up (emitter_state.Waiting early) n =
+    if is_at early n then (record { state = emitter_state.Over; emitted = entry n up ∷ entry n down ∷ [] })
+    else (record { state = emitter_state.Running None; emitted = entry n up ∷ [] })
+comes_up (emitter_state.Running s) n = record { state = emitter_state.Running s; emitted = [] }
+comes_up emitter_state.Over n = record { state = emitter_state.Over; emitted = [] }
+
+abbrev pub separated_side : Option Side → Side → Bool → Option Side
+separated_side (Some s) d b = Some s
+separated_side None d true = Some d
+separated_side None d false = None
+
+-- a message, where it is up
+abbrev pub says : EmitterState → ℕ → Side → List ℕ → Processed
+says (emitter_state.Waiting early) n d octets = record { state = emitter_state.Waiting early; emitted = [] }
+says (emitter_state.Running s) n d octets =
+    if is_left_out (option_map end_at s) (end_at d) then (record { state = emitter_state.Running s; emitted = [] })
+    else (record { state = emitter_state.Running (separated_side s d (is_separate octets)); emitted = entry n (message (end_at d) octets) ∷ [] })
+says emitter_state.Over n d octets = record { state = emitter_state.Over; emitted = [] }
+
+-- an end: one before it is up ended nothing
+abbrev pub closes_down : EmitterState → ℕ → Processed
+closes_down (emitter_state.Waiting early) n = record { state = emitter_state.Waiting (Some n); emitted = [] }
+closes_down (emitter_state.Running s) n = record { state = emitter_state.Over; emitted = entry n down ∷ [] }
+closes_down emitter_state.Over n = record { state = emitter_state.Over; emitted = [] }
+
+abbrev pub and_processed : Processed → (EmitterState → Processed) → Processed
+and_processed h f = record { state = (f h.state).state; emitted = h.emitted ++ (f h.state).emitted }
+
+-- a message is there: it comes up by it, if it isn't up yet
+abbrev pub says_first : EmitterState → ℕ → Side → List ℕ → Processed
+says_first t n d octets = and_processed (comes_up t n) (λ s. says s n d octets)
+
+abbrev pub process_input : EmitterState → Entry → Processed
+process_input t e = process_event t e.packet e.emitted
+  where
+    process_event : EmitterState → ℕ → ConnectionEvent → Processed
+    process_event t n up = comes_up t n
+    process_event t n (message d octets) = says_first t n (side_of d) octets
+    process_event t n down = closes_down t n
+
+unfoldable pub processes_input : EmitterState → List Entry → Processed
+processes_input t [] = record { state = t; emitted = [] }
+processes_input t (e ∷ es) = and_processed (process_input t e) (λ s. processes_input s es)
+
+-- ---- what the cells of a message tell, and those of several
+
+abbrev pub entries_as : End → ℕ → Piece → List Entry
+entries_as d n (piece.Message octets) = entry n (message d octets.items) ∷ []
+entries_as d n piece.Opens = []
+entries_as d n piece.Closes = entry n down ∷ []
+
+-- so many cells of those in one piece at the front tell this
+abbrev pub PieceEmits : List (Option HeldCell) → ℕ → Piece → Type 0
+PieceEmits ss count emitted =
+    count ≤ length (in_piece ss) → (d : End) (n : ℕ) → entry_of d n [] (take count (in_piece ss)) ≡ entries_as d n emitted
+
+-- the same from a place on
+abbrev pub Emits : Store → ℕ → ℕ → Piece → Type 0
+Emits s place count emitted = s.place ≤ place → PieceEmits (drop (place - s.place) s.cells) count emitted
+
+abbrev pub cut_entries : End → ℕ → Cut → List Entry
+cut_entries d n c = flat_map (λ m. entry_of d n [] m) c.messages
+
+abbrev pub cut_to : ℕ → Left → Cut
+cut_to upto l = cut_off (length l.cells) message_size upto l
+
+-- what is left of a stream, from a place on, begins with what is held there
+abbrev pub IsLeft : Store → ℕ → Left → Type 0
+IsLeft s place l = (l.place ≡ place) × (s.place ≤ place) × ((more : List Cell) × (l.cells ≡ piece_from s place ++ more))
+
+-- ---- what code does
+
+-- how things stand is what was to come of it, and it was told
+abbrev pub ProcessesInput : Processed → List TimedEvent → EmitterState → List TimedEvent → Type 0
+ProcessesInput h before state after = (state ≡ h.state) × (map entry_as after ≡ map entry_as before ++ h.emitted)
+
+-- the messages of a direction up to a place, which is held, are told at a packet
+abbrev pub Cuts : Store → End → ℕ → ℕ → ℕ → List TimedEvent → EmitterState → ℕ → List TimedEvent → EmitterState → Type 0
+Cuts s d n upto place emitted state later after now =
+    (l : Left) → IsLeft s place l → upto ≤ place + length (piece_from s place)
+    → ProcessesInput (processes_input state (cut_entries d n (cut_to upto l))) emitted now after × IsLeft s later (cut_to upto l).left

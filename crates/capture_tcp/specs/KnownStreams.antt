@@ -1,0 +1,127 @@
+-- What a reader knows of a connection in the midst of a capture, and what more it tells at each segment.
+use Rattle.std.specs.Prelude.{◌≡◌, ◌+◌, ◌&&◌, ◌||◌, ◌++◌, ◌∷◌, ℕ, max, nat_le, if◌then◌else◌, List, [], length, map, Option, Some, None}
+use Rattle.std.specs.Option.{option_to_list, unwrap_or}
+use Rattle.capture_tcp.specs.declared.packet.Packet.{Packet}
+use Rattle.capture_tcp.specs.declared.packet.Segment.{Segment}
+use Rattle.capture_tcp.specs.declared.packet.Side.{Side}
+use Rattle.capture_tcp.specs.declared.packet.Side.TheVariants as side
+use Rattle.capture_tcp.specs.TcpStreams.{End, active, passive, other, Seen, Placed, Turn, end_of, received, confirmed, latest, timed, places, placed_at, place_of, ack_place, acknowledged_at, asks_only, turns}
+use Rattle.capture_tcp.specs.Message.{cells_of}
+use Rattle.capture_tcp.specs.OutOfOrder.{Drained, put_after, drained, acked}
+use Rattle.capture_tcp.specs.Laws.{waiting_in}
+
+abbrev pub end_at : Side → End
+end_at side.Active = active
+end_at side.Passive = passive
+
+-- a segment with these octets
+abbrev pub seen_of : Segment → List ℕ → Seen
+seen_of s octets = record {
+  from = end_at s.from;
+  packet = s.packet;
+  time = s.time;
+  number = s.number;
+  acknowledged = s.acknowledged;
+  cells = cells_of s.flags.syn octets s.flags.fin;
+  pushed = s.flags.pushed;
+  reset = s.reset;
+}
+
+-- what is kept of a packet: all but its cells
+abbrev pub packet_of : Placed → Packet
+packet_of p = record { packet = p.packet; time = p.time; from = p.place; to = p.place + length p.cells; acknowledged = p.acknowledged; reset = p.reset }
+
+-- of one direction: its SYN's number, the end of what is there without a gap, the places up to which the turns of the other
+-- direction acknowledge it, and up to which its packets do, and the packets that wait behind a gap, in the order of places
+pub record Flow : Type 0 where
+  pub base : ℕ
+  pub end : ℕ
+  pub acknowledged : ℕ
+  pub confirmed : ℕ
+  pub waiting : List Packet
+
+-- both directions, and the greatest time of the packets
+pub record Known : Type 0 where
+  pub active : Flow
+  pub passive : Flow
+  pub latest : ℕ
+
+abbrev pub flow_of : (End → ℕ) → List Placed → End → Flow
+flow_of base before d = record { base = base d; end = end_of before d; acknowledged = received before d; confirmed = confirmed before d; waiting = map packet_of (waiting_in before d) }
+
+abbrev pub known : (End → ℕ) → List Placed → Known
+known base before = record { active = flow_of base before active; passive = flow_of base before passive; latest = latest before }
+
+-- ---- one segment more
+
+-- a segment at a place
+abbrev pub placed_as : ℕ → Seen → ℕ → Option ℕ → Placed
+placed_as acknowledged s place ack = record {
+  from = s.from;
+  packet = s.packet;
+  time = s.time;
+  place = place;
+  cells = if s.reset || asks_only acknowledged place s.pushed s.cells then [] else s.cells;
+  acknowledged = ack;
+  reset = s.reset && nat_le acknowledged place;
+}
+
+-- both directions behind a packet, of which one brings it, the packet by its place, and the packets whose turn is at it
+pub record Step : Type 0 where
+  pub own : Flow
+  pub peer : Flow
+  pub placed : Option Packet
+  pub emitted : List Packet
+
+abbrev pub step_by : Flow → Flow → Packet → Step
+step_by own peer p = with_drained (drained own.end (put_after p own.waiting))
+  where
+    with_drained : Drained → Step
+    with_drained d = record {
+      own = record own { end = d.end; waiting = d.left };
+      peer = record peer { acknowledged = acked peer.acknowledged d.emitted; confirmed = max peer.confirmed (unwrap_or p.acknowledged 0) };
+      placed = Some p;
+      emitted = d.emitted;
+    }
+
+abbrev pub step_at : Flow → Flow → Seen → Option ℕ → Step
+step_at own peer s None = record { own = own; peer = peer; placed = None; emitted = [] }
+step_at own peer s (Some place) = step_by own peer (packet_of (placed_as own.confirmed s place (acknowledged_at peer.end peer.base s.acknowledged)))
+
+abbrev pub step : Flow → Flow → Seen → Step
+step own peer s = step_at own peer s (place_of own.end own.base s.number)
+
+-- the greatest time behind a packet, if there is one
+abbrev pub latest_after : ℕ → Option Packet → ℕ
+latest_after n None = n
+latest_after n (Some p) = p.time
+
+-- ---- behind all segments so far
+
+-- the numbers of both SYNs
+abbrev pub bases : ℕ → ℕ → End → ℕ
+bases a p active = a
+bases a p passive = p
+
+-- a segment by its place, behind these packets: none where its place is too far
+abbrev pub placed_after : (End → ℕ) → List Placed → Seen → List Placed
+placed_after base before s =
+    placed_at (confirmed before s.from) (timed before s) (place_of (end_of before s.from) (base s.from) s.number) (ack_place before base (other s.from) s.acknowledged)
+
+-- the packets whose turn is at this segment, in their order
+abbrev pub released_after : (End → ℕ) → List Placed → Seen → List Packet
+released_after base before s = map (λ (t : Turn). packet_of t.own) (turns before (placed_after base before s))
+
+-- After these segments one more is read: what is known is what it was to be, the segment is told by its place, and the
+-- packets are told whose turn it is.
+abbrev pub ContinuesWith : Known → List Packet → Seen → Known → List Packet → Option Packet → Type 0
+ContinuesWith old emitted s new later placed =
+    (base : End → ℕ) (before : List Seen) → old ≡ known base (places base [] before)
+    → (new ≡ known base (places base [] (before ++ s ∷ []))) × (later ≡ emitted ++ released_after base (places base [] before) s)
+    × (option_to_list placed ≡ map packet_of (placed_after base (places base [] before) s))
+
+-- The turns that are told segment by segment are, one after another, those of all segments.
+abbrev pub TurnsGoOn : Type 0
+TurnsGoOn =
+    (base : End → ℕ) (before : List Seen) (s : Seen)
+    → turns [] (places base [] (before ++ s ∷ [])) ≡ turns [] (places base [] before) ++ turns (places base [] before) (placed_after base (places base [] before) s)

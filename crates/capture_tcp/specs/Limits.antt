@@ -1,0 +1,92 @@
+-- When a connection is given up: a stream has come too far, or more than is held of it waits.
+use Rattle.std.specs.Prelude.{◌≡◌, ◌<◌, ◌≤◌, ◌^◌, ◌++◌, ◌∷◌, ℕ, List, [], length, max, None}
+use Rattle.capture_tcp.specs.declared.connection.Connection.{Connection}
+use Rattle.capture_tcp.specs.declared.connection.ConnectionFault.{ConnectionFault}
+use Rattle.capture_tcp.specs.declared.connection.ConnectionFault.TheVariants as stop
+use Rattle.capture_tcp.specs.declared.reassembly.ReassemblyFault.{ReassemblyFault}
+use Rattle.capture_tcp.specs.declared.reassembly.ReassemblyFault.TheVariants as held
+use Rattle.capture_tcp.specs.declared.packet.Packet.{Packet}
+use Rattle.capture_tcp.specs.declared.packet.Segment.{Segment}
+use Rattle.capture_tcp.specs.declared.reader_state.Arrival.{Arrival}
+use Rattle.capture_tcp.specs.declared.reader_state.Reading.{Reading}
+use Rattle.capture_tcp.specs.declared.streams.Streams.{Streams}
+use Rattle.capture_tcp.specs.declared.events.TimedEvent.{TimedEvent}
+use Rattle.capture_tcp.specs.declared.delivery.DeliveryFault.{DeliveryFault}
+use Rattle.capture_tcp.specs.declared.delivery.DeliveryFault.TheVariants as turns
+use Rattle.capture_tcp.specs.TcpStreams.{End, active, passive, Cell, Placed, Seen, end_of, places}
+use Rattle.capture_tcp.specs.Reassembly.{EndsFar, Store}
+use Rattle.capture_tcp.specs.WithinWindow.{StaysNear}
+use Rattle.capture_tcp.specs.KnownStreams.{Known, placed_after, seen_of}
+use Rattle.capture_tcp.specs.DeliverySteps.{stream_at}
+use Rattle.capture_tcp.specs.ReaderState.{first_kept}
+use Rattle.capture_tcp.specs.PacketArrival.{arrival_cells}
+use Rattle.capture_tcp.specs.ReaderInvariant.{StateInvariant, StateInvariantAs}
+
+-- a stream has come past 2^62 cells
+abbrev pub IsFar : List Placed → Type 0
+IsFar ps = 2 ^ 62 ≤ max (end_of ps active) (end_of ps passive)
+
+-- a packet brings cells, and ends past 2^26 places behind the first of its direction that isn't told or isn't acknowledged
+abbrev pub IsPast : List Placed → Placed → Type 0
+IsPast ps p = (0 < length p.cells) × EndsFar (first_kept ps p.from) p.place p.cells
+
+-- so is the packet of a segment that isn't too far away
+abbrev pub EndsPast : (End → ℕ) → List Placed → Seen → Type 0
+EndsPast base ps s = (p : Placed) × (placed_after base ps s ≡ p ∷ []) × IsPast ps p
+
+abbrev pub StopsFor : ConnectionFault → (End → ℕ) → List Placed → Seen → Type 0
+StopsFor stop.Far base ps s = IsFar ps
+StopsFor stop.Full base ps s = EndsPast base ps s
+StopsFor stop.Memory base ps s = Unit {0}
+
+-- a connection that hasn't ended is given up for this, also where what was told was taken away
+abbrev pub StopsBy : Connection → List TimedEvent → Seen → ConnectionFault → Type 0
+StopsBy c emitted s fault =
+    (c.ending ≡ None)
+    × ((base : End → ℕ) (before : List Seen) (away : List TimedEvent) → StateInvariant c (away ++ emitted) base before
+    → StopsFor fault base (places base [] before) s)
+
+-- and it is given up wherever there is such a reason
+abbrev pub ContinuesBy : Connection → List TimedEvent → Seen → Type 0
+ContinuesBy c emitted s =
+    c.ending ≡ None
+    → (base : End → ℕ) (before : List Seen) (away : List TimedEvent) → StateInvariant c (away ++ emitted) base before
+    → (IsFar (places base [] before) → ⊥) × (EndsPast base (places base [] before) s → ⊥)
+
+-- ---- what code does
+
+abbrev pub of_turns : DeliveryFault → ConnectionFault
+of_turns turns.Far = stop.Far
+of_turns turns.Memory = stop.Memory
+
+abbrev pub of_held : ReassemblyFault → ConnectionFault
+of_held held.Full = stop.Full
+of_held held.Memory = stop.Memory
+
+-- what a packet brings ends too far
+abbrev pub IsFull : Store → Packet → List Cell → Type 0
+IsFull s packet cells = (packet.from ≡ packet.to → ⊥) × EndsFar s.place packet.from cells
+
+abbrev pub IsFullAt : Streams → Arrival → List ℕ → Type 0
+IsFullAt s a octets = IsFull (stream_at s a.from).held a.packet (arrival_cells a octets)
+
+abbrev pub FullIf : ReassemblyFault → Type 0 → Type 0
+FullIf held.Full A = A
+FullIf held.Memory A = Unit {0}
+
+-- one that is brought doesn't
+abbrev pub IsNear : Store → Packet → List Cell → Type 0
+IsNear s packet cells = (packet.from ≡ packet.to → ⊥) → StaysNear s.place packet.from cells
+
+abbrev pub IsNearAt : Streams → Arrival → List ℕ → Type 0
+IsNearAt s a octets = IsNear (stream_at s a.from).held a.packet (arrival_cells a octets)
+
+abbrev pub StopsAt : Known → Reading → Segment → List ℕ → List TimedEvent → ConnectionFault → Type 0
+StopsAt turns r segment octets emitted fault =
+    (base : End → ℕ) (before : List Seen) (away : List TimedEvent) → StateInvariantAs None turns r (away ++ emitted) base before
+    → StopsFor fault base (places base [] before) (seen_of segment octets)
+
+abbrev pub ContinuesAt : Known → Reading → Segment → List ℕ → List TimedEvent → Type 0
+ContinuesAt turns r segment octets emitted =
+    (base : End → ℕ) (before : List Seen) (away : List TimedEvent) → StateInvariantAs None turns r (away ++ emitted) base before
+    → (IsFar (places base [] before) → ⊥) × (EndsPast base (places base [] before) (seen_of segment octets) → ⊥)

@@ -1,0 +1,614 @@
+//! The cells of one direction by their places.
+
+ghost use Rattle.std.specs.Prelude.{◌≡◌, ◌≤◌, ◌<◌, ◌+◌, ◌^◌, true, ◌-◌, max, take, false, [], IfSome, IfOk, None, OnOk, OnErr, drop, get_or, length, List, Err};
+ghost use Rattle.capture_tcp.specs.Cells.{all_of};
+ghost use Rattle.capture_tcp.specs.Reassembly.{IsStored, differs, differs_at, flag_of, further, held_of, in_piece, is_another, stored_all, stored_at, octet_in, octets_of, Store, CellIs, EndsFar, IsFront, IsPiece, IsStoreOf, PutsIn, ReturnsConflict};
+ghost use Rattle.capture_tcp.specs.Message.{cells_to, message_size, octets_after, cells_of};
+ghost use Rattle.capture_tcp.specs.DataOnly.{HeadSays, IsLonger, flags_end, AreOctetsFrom};
+ghost use Rattle.capture_tcp.specs.EventSteps.{PieceEmits, Emits};
+ghost use Rattle.capture_tcp.specs.TcpStreams.{End, Placed};
+ghost use Rattle.capture_tcp.specs.declared.reassembly.ReassemblyFault.TheVariants.{Memory, Full};
+ghost use Rattle.capture_tcp.specs.WithinWindow.{StaysNear};
+
+use crate::cells::Cells;
+use crate::keep_alive::Flags;
+use std::alloc::{AllocError, Global};
+use std::marker::Model;
+
+// So many cells are held at most.
+const MOST: u64 = 1 << 26;
+
+// The least length of a message, that of a header, and the greatest one of a message that can be held whole.
+const SHORTEST: u64 = 10;
+
+const LONGEST: u64 = MOST - 4;
+
+/// A cell of a stream, which has a place of its own.
+#[derive(Clone, Copy, Debug, PartialEq, Eq)]
+pub enum Cell {
+    Syn,
+    Octet(u8),
+    Fin,
+}
+
+/// What the cells of a message are: its octets; or the SYN; or octets up to a FIN, which ends the stream.
+#[derive(Drop)]
+pub(crate) enum Piece {
+    Message(Vec<u8>),
+    Opens,
+    Closes,
+}
+
+// What the first four cells of a message say of its size: some are missing; one of them ends it; or it has so many octets
+// behind them, none where no message has their length.
+#[derive(Clone, Copy)]
+enum Head {
+    Missing,
+    Ends(u64),
+    Length(u64),
+}
+
+/// Why cells aren't held.
+#[derive(Clone, Copy, Debug, PartialEq, Eq)]
+pub enum ReassemblyFault {
+    /// They end past 2^26 places behind the first that is held.
+    Full,
+    /// There is no memory.
+    Memory,
+}
+
+impl From<AllocError> for ReassemblyFault {
+    ghost from_gives = { λ _ f. f ≡ Memory };
+
+    fn from(_: AllocError) -> ReassemblyFault {
+        ReassemblyFault::Memory
+    }
+}
+
+/// The cells of one direction that packets brought, from a place on, of two copies the first. Contracts see what
+/// `IsStoreOf` says of it.
+#[derive(Drop)]
+pub struct ReassemblyBuffer {
+    place: u64,
+    cells: Cells,
+    // No SYN and no FIN is held from this place on.
+    octets_from: u64,
+}
+
+impl Model for ReassemblyBuffer {
+    ghost Value = { Store };
+
+    ghost view = { λ h. record { place = h.place; cells = all_of h.cells } };
+
+    ghost invariant = { λ h. AreOctetsFrom h.octets_from h.place (all_of h.cells) };
+}
+
+impl ReassemblyBuffer {
+    /// Nothing is held yet. Takes no memory.
+    #[tactic(auto, using(crate::proofs::StoredCells::holds_none))]
+    pub fn new(alloc: Global) -> ReassemblyBuffer
+        ensures place { result.place ≡ 0 }
+        ensures held { (d : End) → IsStoreOf result [] d }
+    {
+        ReassemblyBuffer {
+            place: 0,
+            cells: Cells::new(alloc),
+            octets_from: 0,
+        }
+    }
+
+    /// Holds what a packet of this direction brings at a place: a SYN, octets, a FIN, as far as they are set. A cell that
+    /// is held already stays, and what stands before the first place that is held is passed over.
+    ///
+    /// # Errors
+    ///
+    /// `Memory`, and `Full` where the packet ends past 2^26 places behind the first that is held: more octets than
+    /// that never wait. Neither changes anything.
+    #[tactic(auto, using(crate::proofs::StoredCells::puts_in, crate::proofs::StoredCells::puts_none, crate::proofs::StoredCells::held_length, crate::proofs::StoredCells::cells_length))]
+    pub fn put(&mut self, place: u64, flags: Flags, octets: &[u8]) -> Result<(), ReassemblyFault>
+        ensures ok { OnOk result (PutsIn self.old place (cells_of flags.syn octets.now flags.fin) self.new) }
+        ensures few { OnOk result (length self.new.cells ≤ max (length self.old.cells) (2 ^ 26)) }
+        ensures full { result ≡ Err Full → EndsFar self.old.place place (cells_of flags.syn octets.now flags.fin) }
+        ensures near { OnOk result (StaysNear self.old.place place (cells_of flags.syn octets.now flags.fin)) }
+        ensures err { OnErr result (self.new ≡ self.old) }
+    {
+        let count = count_of(flags, octets);
+        if count == 0 {
+            return Ok(());
+        }
+        let Some(end) = place.checked_add(count) else {
+            return Err(ReassemblyFault::Full);
+        };
+        let requested = end.saturating_sub(self.place);
+        if requested > MOST {
+            return Err(ReassemblyFault::Full);
+        }
+        hold(
+            &mut self.cells,
+            self.place,
+            requested as usize,
+            place,
+            flags,
+            octets,
+        )?;
+        self.octets_from = self.octets_from.max(flags_end(flags, end));
+        Ok(())
+    }
+
+    /// Lets go of what stands before a place. It is held no longer.
+    #[tactic(auto, using(crate::proofs::StoredCells::still_holds))]
+    pub fn pass(&mut self, place: u64)
+        ensures place { self.new.place ≡ max self.old.place place }
+        ensures held { (ps : List Placed) (d : End) → IsStoreOf self.old ps d → IsStoreOf self.new ps d }
+        ensures few { length self.new.cells ≡ length self.old.cells - (place - self.old.place) }
+    {
+        let count = place
+            .saturating_sub(self.place)
+            .min(self.cells.len() as u64);
+        self.cells.let_go(count as usize);
+        self.place = self.place.max(place);
+    }
+
+    /// Whether a packet of this direction brings another cell than is held in its place, where that isn't acknowledged
+    /// yet. Then the log ends at the packet, since nobody can know which of both was read.
+    #[tactic(auto, using(crate::proofs::Differing::returns_conflict, crate::proofs::Differing::returns_past, crate::proofs::StoredCells::held_length))]
+    pub fn contradicts(&self, acknowledged: u64, place: u64, flags: Flags, octets: &[u8]) -> bool
+        ensures { ReturnsConflict self.now acknowledged place (cells_of flags.syn octets.now flags.fin) result }
+    {
+        if place.checked_add(count_of(flags, octets)).is_none() {
+            return false;
+        }
+        differs_in(&self.cells, self.place, acknowledged, place, flags, octets)
+    }
+
+    /// How many cells the message has that begins in a place: four octets of a length and as many octets as it says; a
+    /// SYN and a FIN end it. None where it isn't there whole, or ends past another place.
+    #[tactic(auto, using(crate::proofs::CompleteStreams::front_none, crate::proofs::CompleteStreams::front_past, crate::proofs::CompleteStreams::front_whole))]
+    pub fn front(&self, place: u64, upto: u64) -> Option<u64>
+        ensures front { IsFront self.now place upto result }
+        ensures piece { IsPiece self.now place upto result }
+        ensures fits { IfSome result (λ count. (0 < count) × (place + count ≤ upto)) }
+    {
+        let first = place.checked_sub(self.place)?;
+        let head = head_of(&self.cells, first);
+        let room = upto.saturating_sub(place);
+        if self.octets_from <= place && is_longer(head, room) {
+            return None;
+        }
+        let Some(count) = size_of(&self.cells, first, head) else {
+            return None;
+        };
+        if room < count {
+            return None;
+        }
+        Some(count)
+    }
+
+    // What so many cells from a place on tell.
+    pub(crate) fn piece(&self, alloc: Global, place: u64, count: u64) -> Result<Piece, AllocError>
+        ensures { IfOk result (λ emitted. Emits self.now place count emitted) }
+    {
+        cut_piece(alloc, &self.cells, place.saturating_sub(self.place), count)
+    }
+
+    /// The cell in a place, if it is held.
+    #[tactic(auto, using(crate::proofs::StoredCells::cell_is, crate::proofs::StoredCells::cell_before))]
+    pub fn cell(&self, place: u64) -> Option<Cell>
+        ensures { CellIs self.now place result }
+    {
+        if place < self.place {
+            return None;
+        }
+        self.cells.get(place - self.place)
+    }
+}
+
+// What so many cells from an index on tell: where they are octets in one piece, these.
+#[tactic(auto, using(crate::proofs::StreamChunks::octets_emit))]
+fn cut_piece(alloc: Global, cells: &Cells, first: u64, count: u64) -> Result<Piece, AllocError>
+    ensures { IfOk result (λ emitted. PieceEmits (drop first (all_of cells.now)) count emitted) }
+{
+    match octets_at(cells.run(), first, count) {
+        Some(octets) => Ok(Piece::Message(Vec::from_slice(alloc, octets)?)),
+        None => piece_of(alloc, cells, first, count),
+    }
+}
+
+// So many octets from an index on, if they are there.
+fn octets_at(octets: &[u8], first: u64, count: u64) -> Option<&[u8]>
+    ensures octets { IfSome result (λ found. found.now ≡ take count (drop first octets.now)) }
+    ensures there { IfSome result (λ found. first + count ≤ length octets.now) }
+{
+    let end = first.checked_add(count)?;
+    if end > octets.len() as u64 {
+        return None;
+    }
+    let (_, subsequent) = octets.split_at(first as usize);
+    let (found, _) = subsequent.split_at(count as usize);
+    Some(found)
+}
+
+// What so many cells tell that are held in one piece from an index on.
+#[tactic(auto, using(crate::proofs::StreamChunks::begins, crate::proofs::StreamChunks::misses, crate::proofs::StreamChunks::ends))]
+fn piece_of(alloc: Global, cells: &Cells, first: u64, count: u64) -> Result<Piece, AllocError>
+    ensures { IfOk result (λ emitted. PieceEmits (drop first (all_of cells.now)) count emitted) }
+{
+    let mut octets = Vec::new(alloc);
+    let mut index = 0;
+    while index < count {
+        let Some(cell) = cell_after(cells, first, index) else {
+            return Ok(Piece::Opens);
+        };
+        match cell {
+            Cell::Syn => return Ok(Piece::Opens),
+            Cell::Octet(octet) => octets.push(octet)?,
+            Cell::Fin => return Ok(Piece::Closes),
+        }
+        index += 1;
+    }
+    Ok(Piece::Message(octets))
+}
+
+// How many cells a packet brings.
+#[tactic(auto, using(crate::proofs::StoredCells::held_length))]
+fn count_of(flags: Flags, octets: &[u8]) -> u64
+    ensures { result ≡ length (held_of flags.syn octets.now flags.fin) }
+{
+    u64::from(flags.syn) + octets.len() as u64 + u64::from(flags.fin)
+}
+
+// Holds what a packet brings, from a place on, where there is to be room for so many cells. A refused growth changes
+// nothing.
+fn hold(
+    cells: &mut Cells,
+    base: u64,
+    room: usize,
+    place: u64,
+    flags: Flags,
+    octets: &[u8],
+) -> Result<(), AllocError>
+    requires room { place + length (held_of flags.syn octets.now flags.fin) ≤ base + room }
+    requires end { place + length (held_of flags.syn octets.now flags.fin) < 2 ^ 64 }
+    ensures ok { OnOk result (IsStored base place (held_of flags.syn octets.now flags.fin) (all_of cells.old) (all_of cells.new)) }
+    ensures few { OnOk result (length (all_of cells.new) ≤ max (length (all_of cells.old)) room) }
+    ensures err { OnErr result (all_of cells.new ≡ all_of cells.old) }
+{
+    cells.join()?;
+    if follows(cells, base, place, flags) {
+        return append(cells, base, place, octets);
+    }
+    cells.widen(room)?;
+    store_all(cells, base, place, flags, octets);
+    Ok(())
+}
+
+// Whether octets alone come, and all cells that are held are octets without a gap up to their place, or past it.
+fn follows(cells: &Cells, base: u64, place: u64, flags: Flags) -> bool
+    ensures flags { result ≡ true → (flags.syn ≡ false) × (flags.fin ≡ false) }
+    ensures run { result ≡ true → (cells.now.others ≡ []) × (place - base ≤ length cells.now.octets) }
+{
+    if flags.syn || flags.fin {
+        return false;
+    }
+    cells.is_run() && place.saturating_sub(base) <= cells.run().len() as u64
+}
+
+// Puts octets that come at a place behind those that are held, without the first ones, as far as they are held or stand
+// before the first that is. A refused growth changes nothing.
+fn append(cells: &mut Cells, base: u64, place: u64, octets: &[u8]) -> Result<(), AllocError>
+    requires { (cells.old.others ≡ []) × (place - base ≤ length cells.old.octets) }
+    ensures ok { OnOk result (IsStored base place (octets_of octets.now) (all_of cells.old) (all_of cells.new)) }
+    ensures few { OnOk result (length (all_of cells.new) ≤ max (length (all_of cells.old)) (place + length octets.now - base)) }
+    ensures err { OnErr result (cells.new ≡ cells.old) }
+{
+    let count = octets.len() as u64;
+    let before = base.saturating_sub(place).min(count);
+    let held = cells.run().len() as u64 - place.saturating_sub(base);
+    let (_, new) = octets.split_at((before + held).min(count) as usize);
+    cells.append(new)
+}
+
+// Lays what a packet brings, from its place on.
+#[tactic(auto, using(crate::proofs::StoredCells::in_parts, crate::proofs::StoredCells::held_length))]
+fn store_all(cells: &mut Cells, base: u64, place: u64, flags: Flags, octets: &[u8])
+    requires room { place + length (held_of flags.syn octets.now flags.fin) ≤ base + length (all_of cells.old) }
+    requires end { place + length (held_of flags.syn octets.now flags.fin) < 2 ^ 64 }
+    ensures items { all_of cells.new ≡ stored_all base place (held_of flags.syn octets.now flags.fin) (all_of cells.old) }
+    ensures len { length (all_of cells.new) ≡ length (all_of cells.old) }
+{
+    let first = store_flag(cells, base, place, flags.syn, Cell::Syn);
+    let subsequent = append_octets(cells, base, first, octets);
+    store_flag(cells, base, subsequent, flags.fin, Cell::Fin);
+}
+
+// Lays a cell, if it is there. Gives the place behind it.
+#[tactic(auto, using(crate::proofs::StoredCells::appends_none, crate::proofs::StoredCells::stores_one))]
+fn store_flag(cells: &mut Cells, base: u64, place: u64, is_set: bool, cell: Cell) -> u64
+    requires room { place + length (flag_of is_set cell) ≤ base + length (all_of cells.old) }
+    requires end { place + length (flag_of is_set cell) < 2 ^ 64 }
+    ensures items { all_of cells.new ≡ stored_all base place (flag_of is_set cell) (all_of cells.old) }
+    ensures len { length (all_of cells.new) ≡ length (all_of cells.old) }
+    ensures subsequent { result ≡ place + length (flag_of is_set cell) }
+{
+    if is_set {
+        store_at(cells, base, place, cell);
+        return place + 1;
+    }
+    place
+}
+
+// Lays octets from a place on. Gives the place behind them.
+#[tactic(auto, using(crate::proofs::StoredCells::appends_next, crate::proofs::StoredCells::appends_all))]
+fn append_octets(cells: &mut Cells, base: u64, place: u64, octets: &[u8]) -> u64
+    requires room { place + length octets.now ≤ base + length (all_of cells.old) }
+    requires end { place + length octets.now < 2 ^ 64 }
+    ensures items { all_of cells.new ≡ stored_all base place (octets_of octets.now) (all_of cells.old) }
+    ensures len { length (all_of cells.new) ≡ length (all_of cells.old) }
+    ensures subsequent { result ≡ place + length octets.now }
+{
+    let mut place = place;
+    let mut rest = octets;
+    while let Some((octet, more)) = rest.split_first() {
+        store_at(cells, base, place, Cell::Octet(*octet));
+        place += 1;
+        rest = more;
+    }
+    place
+}
+
+// Lays a cell in its place, if nothing is held there, and the place isn't before the first.
+#[tactic(auto, using(crate::proofs::StoredCells::appends_bytes, crate::proofs::StoredCells::stays, crate::proofs::StoredCells::passes))]
+fn store_at(cells: &mut Cells, base: u64, place: u64, cell: Cell)
+    requires { place < base + length (all_of cells.old) }
+    ensures items { all_of cells.new ≡ stored_at base place cell (all_of cells.old) }
+    ensures len { length (all_of cells.new) ≡ length (all_of cells.old) }
+{
+    if place < base {
+        return;
+    }
+    cells.append_chunk((place - base) as usize, cell);
+}
+
+// Whether a packet brings a cell that differs.
+#[tactic(auto, using(crate::proofs::Differing::returns_syn, crate::proofs::Differing::returns_octets, crate::proofs::Differing::returns_fin, crate::proofs::StoredCells::held_length))]
+fn differs_in(
+    cells: &Cells,
+    base: u64,
+    acknowledged: u64,
+    place: u64,
+    flags: Flags,
+    octets: &[u8],
+) -> bool
+    requires { place + length (held_of flags.syn octets.now flags.fin) < 2 ^ 64 }
+    ensures { result ≡ differs base acknowledged place (held_of flags.syn octets.now flags.fin) (all_of cells.now) }
+{
+    let first = place + u64::from(flags.syn);
+    let subsequent = first + octets.len() as u64;
+    flag_differs(cells, base, acknowledged, place, flags.syn, Cell::Syn)
+        || octets_differ(cells, base, acknowledged, first, octets)
+        || flag_differs(cells, base, acknowledged, subsequent, flags.fin, Cell::Fin)
+}
+
+// Whether a cell differs, if it is there.
+#[tactic(auto, using(crate::proofs::Differing::one_differs, crate::proofs::Differing::none_differs))]
+fn flag_differs(
+    cells: &Cells,
+    base: u64,
+    acknowledged: u64,
+    place: u64,
+    is_set: bool,
+    cell: Cell,
+) -> bool
+    ensures { result ≡ differs base acknowledged place (flag_of is_set cell) (all_of cells.now) }
+{
+    is_set && cell_differs(cells, base, acknowledged, place, cell)
+}
+
+// Whether some octet differs.
+#[tactic(auto, using(crate::proofs::Differing::known_passed))]
+fn octets_differ(cells: &Cells, base: u64, acknowledged: u64, place: u64, octets: &[u8]) -> bool
+    requires { place + length octets.now < 2 ^ 64 }
+    ensures { result ≡ differs base acknowledged place (octets_of octets.now) (all_of cells.now) }
+{
+    let known = acknowledged.saturating_sub(place).min(octets.len() as u64);
+    let (_, open) = octets.split_at(known as usize);
+    let place = place + known;
+    if place < base || place < acknowledged {
+        return some_differs(cells, base, acknowledged, place, open);
+    }
+    open_differ(cells, base, acknowledged, place, open)
+}
+
+// Whether some octet differs, where none is acknowledged: those in one piece are compared at once.
+fn open_differ(cells: &Cells, base: u64, acknowledged: u64, place: u64, octets: &[u8]) -> bool
+    requires open { (base ≤ place) × (acknowledged ≤ place) }
+    requires end { place + length octets.now < 2 ^ 64 }
+    ensures { result ≡ differs base acknowledged place (octets_of octets.now) (all_of cells.now) }
+{
+    let run = cells.run();
+    let (_, subsequent) = run.split_at((place - base).min(run.len() as u64) as usize);
+    let count = subsequent.len().min(octets.len());
+    let (held, _) = subsequent.split_at(count);
+    let (copy, rest) = octets.split_at(count);
+    if copy != held {
+        return true;
+    }
+    others_differ(cells, base, acknowledged, place + count as u64, rest)
+}
+
+// Whether some octet differs, which it doesn't where nothing is held.
+#[tactic(auto, using(crate::proofs::Differing::past_differs))]
+fn others_differ(cells: &Cells, base: u64, acknowledged: u64, place: u64, octets: &[u8]) -> bool
+    requires { place + length octets.now < 2 ^ 64 }
+    ensures { result ≡ differs base acknowledged place (octets_of octets.now) (all_of cells.now) }
+{
+    if place.saturating_sub(base) >= cells.len() as u64 {
+        return false;
+    }
+    some_differs(cells, base, acknowledged, place, octets)
+}
+
+// Whether some octet differs, one after another.
+#[tactic(auto, using(crate::proofs::Differing::octet_found, crate::proofs::Differing::octet_passed, crate::proofs::Differing::octets_end))]
+fn some_differs(cells: &Cells, base: u64, acknowledged: u64, place: u64, octets: &[u8]) -> bool
+    requires { place + length octets.now < 2 ^ 64 }
+    ensures { result ≡ differs base acknowledged place (octets_of octets.now) (all_of cells.now) }
+{
+    let mut place = place;
+    let mut rest = octets;
+    while let Some((octet, more)) = rest.split_first() {
+        if cell_differs(cells, base, acknowledged, place, Cell::Octet(*octet)) {
+            return true;
+        }
+        place += 1;
+        rest = more;
+    }
+    false
+}
+
+// Whether a cell isn't acknowledged and differs from what is held in its place.
+#[tactic(auto, using(crate::proofs::Differing::is_acknowledged, crate::proofs::Differing::is_open))]
+fn cell_differs(cells: &Cells, base: u64, acknowledged: u64, place: u64, cell: Cell) -> bool
+    ensures { result ≡ differs_at base acknowledged place cell (all_of cells.now) }
+{
+    if place < acknowledged {
+        return false;
+    }
+    is_another(cell, cells.get(place.saturating_sub(base)))
+}
+
+// Whether a cell is another one than is held.
+fn is_another(cell: Cell, held: Option<Cell>) -> bool
+    ensures { result ≡ is_another cell held }
+{
+    match held {
+        Some(other) => cell != other,
+        None => false,
+    }
+}
+
+// The place behind a packet with a SYN or a FIN.
+fn flags_end(flags: Flags, end: u64) -> u64
+    ensures { result ≡ flags_end flags.syn flags.fin end }
+{
+    if flags.syn {
+        return end;
+    }
+    if flags.fin {
+        return end;
+    }
+    0
+}
+
+// Whether a message of octets alone has more cells than there is room for.
+fn is_longer(head: Head, room: u64) -> bool
+    ensures { result ≡ true → IsLonger room head }
+{
+    match head {
+        Head::Missing => false,
+        Head::Ends(_) => false,
+        Head::Length(count) => room.saturating_sub(4) < count,
+    }
+}
+
+// How many cells the message has that begins at an index, if it is there whole, by what its first cells say.
+fn size_of(cells: &Cells, first: u64, head: Head) -> Option<u64>
+    requires { HeadSays (drop first (all_of cells.now)) head }
+    ensures size { result ≡ message_size (in_piece (drop first (all_of cells.now))) }
+    ensures some { IfSome result (λ count. 0 < count) }
+{
+    match head {
+        Head::Missing => None,
+        Head::Ends(count) => Some(count),
+        Head::Length(count) => size_by_length(cells, first, count),
+    }
+}
+
+// How many cells the message has that begins at an index with the length of so many octets, if it is there whole.
+#[tactic(auto, using(crate::proofs::CompleteStreams::octets_there))]
+fn size_by_length(cells: &Cells, first: u64, count: u64) -> Option<u64>
+    requires { count < 2 ^ 32 }
+    ensures size { result ≡ further 4 (cells_to count (in_piece (drop 4 (drop first (all_of cells.now))))) }
+    ensures some { IfSome result (λ all. 4 ≤ all) }
+{
+    if 4 + count <= (cells.run().len() as u64).saturating_sub(first) {
+        return Some(4 + count);
+    }
+    size_after(cells, first, 4, count)
+}
+
+// What the first cells of a message say that begins at an index.
+#[tactic(auto, using(crate::proofs::CompleteStreams::size_none, crate::proofs::CompleteStreams::size_end, crate::proofs::CompleteStreams::next_kept, crate::proofs::CompleteStreams::size_done, crate::proofs::CompleteStreams::size_begins))]
+fn head_of(cells: &Cells, first: u64) -> Head
+    ensures { HeadSays (drop first (all_of cells.now)) result }
+{
+    let mut value = 0;
+    let mut index = 0;
+    while index < 4 {
+        let Some(cell) = cell_after(cells, first, index) else {
+            return Head::Missing;
+        };
+        index += 1;
+        let Some(octet) = octet_of(cell) else {
+            return Head::Ends(index);
+        };
+        value = value * 256 + u64::from(octet);
+    }
+    Head::Length(octets_after(value))
+}
+
+// How many octets follow a length: none where no message has it.
+fn octets_after(length: u64) -> u64
+    ensures value { result ≡ octets_after length }
+    ensures bound { result ≤ length }
+{
+    if length < SHORTEST {
+        return 0;
+    }
+    if length > LONGEST {
+        return 0;
+    }
+    length
+}
+
+// How many cells stand before an index and, so many of them, behind it, up to one that is no octet.
+#[tactic(auto, using(crate::proofs::CompleteStreams::rest_none, crate::proofs::CompleteStreams::rest_end, crate::proofs::CompleteStreams::rest_next, crate::proofs::CompleteStreams::rest_done))]
+fn size_after(cells: &Cells, first: u64, index: u64, count: u64) -> Option<u64>
+    requires { index + count < 2 ^ 63 }
+    ensures size { result ≡ further index (cells_to count (in_piece (drop index (drop first (all_of cells.now))))) }
+    ensures some { IfSome result (λ all. index ≤ all) }
+{
+    let mut index = index;
+    let mut left = count;
+    while left > 0 {
+        let cell = cell_after(cells, first, index)?;
+        index += 1;
+        let Some(_) = octet_of(cell) else {
+            return Some(index);
+        };
+        left -= 1;
+    }
+    Some(index)
+}
+
+// The cell so many behind an index, if it is there.
+#[tactic(auto, using(crate::proofs::CompleteStreams::cell_there, crate::proofs::CompleteStreams::cell_far))]
+fn cell_after(cells: &Cells, first: u64, index: u64) -> Option<Cell>
+    ensures { result ≡ get_or (drop first (all_of cells.now)) index None }
+{
+    if index >= (cells.len() as u64).saturating_sub(first) {
+        return None;
+    }
+    cells.get(first + index)
+}
+
+// The octet of a cell, if it is one.
+fn octet_of(cell: Cell) -> Option<u8>
+    ensures { result ≡ octet_in cell }
+{
+    match cell {
+        Cell::Syn => None,
+        Cell::Octet(octet) => Some(octet),
+        Cell::Fin => None,
+    }
+}

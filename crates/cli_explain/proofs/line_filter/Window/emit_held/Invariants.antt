@@ -1,0 +1,13 @@
+use Rattle.std.proofs.Common.{◌≡◌, length}
+use Rattle.cli_options.specs.declared.explain_options.OutputFormat.TheVariants.{Text}
+use Rattle.cli_explain.specs.OutputBuffer.{AddsSome}
+use Rattle.cli_explain.proofs.line_filter.Window.emit_held.Given as goal
+
+-- what the lines so far say was told behind what was told before
+abbrev pub invariant-loop-held : goal.invariant-loop-held
+invariant-loop-held l =
+    (l.initial.self.excerpt.form ≡ Text → AddsSome l.fn.page l.page) × (l.self.excerpt ≡ l.initial.self.excerpt)
+    × (l.self.subsequent ≡ l.initial.self.subsequent)
+
+abbrev pub decreases-loop-held : goal.decreases-loop-held
+decreases-loop-held l = length l.self.held.items

@@ -1,0 +1,12 @@
+use Rattle.std.proofs.Common.{◌∙◌, [], ap}
+use Rattle.cli_explain.proofs.OutputBuffers.{some_then}
+use Rattle.cli_explain.proofs.line_filter.Window.emit_one.Goals as goal
+
+pub returns-in_default-clause-shown_line : goal.returns-in_default-clause-shown_line
+returns-in_default-clause-shown_line c = λ is. some_then _ _ _ (_, c.go_to.ensures.shown_line is) ([], c.refuse.ensures [])
+
+pub returns-clause-shown_line : goal.returns-clause-shown_line
+returns-clause-shown_line c = λ is.
+    let outbound = c.go_to.ensures in
+    let words = c.line.ensures (c.emitter-emitter.ensures ∙ ap (λ e. e.form) outbound.excerpt ∙ is) in
+    some_then _ _ _ (_, outbound.shown_line is) (words.0, words.2)

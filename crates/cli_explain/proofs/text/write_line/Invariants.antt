@@ -1,0 +1,10 @@
+use Rattle.std.proofs.Common.{◌++◌, ℕ, List, take}
+use Rattle.cli_explain.specs.OutputBuffer.{Adds}
+use Rattle.cli_explain.specs.TextOutput.{LineSaid, NotesWritten}
+use Rattle.cli_explain.proofs.text.write_line.Given as goal
+
+-- the line was written, and below it the notes so far
+abbrev pub invariant-loop-note : goal.invariant-loop-note
+invariant-loop-note l =
+    (line : List ℕ) × (rest : List ℕ) × LineSaid l.fn.shown_line line × NotesWritten (take l.note-index l.notes) rest
+    × Adds l.fn.page l.page (line ++ rest)

@@ -1,0 +1,45 @@
+-- The words that stand below a line.
+use Rattle.std.specs.Prelude.{◌≡◌, ◌⊎◌, ℕ, List, [], ◌++◌, codes, decimal, nat_lt, if◌then◌else◌}
+use Rattle.hsms_log.specs.declared.verdict.Why.{Why}
+use Rattle.hsms_log.specs.declared.verdict.Why.TheVariants.{Unreadable, Broken}
+use Rattle.hsms_machine.specs.declared.rule.Rule.{Rule}
+use Rattle.hsms_machine.specs.declared.rule.Rule.TheVariants.{WBit}
+use Rattle.cli_options.specs.RuleTexts.{sentence_of}
+use Rattle.hsms_machine.specs.Rule.{rule_name}
+use Rattle.cli_explain.specs.declared.phrases.Tie.{Tie}
+use Rattle.cli_explain.specs.declared.phrases.Tie.TheVariants.{Answers, Rejects, Expires}
+use Rattle.cli_explain.specs.declared.phrases.Closing.{Closing}
+use Rattle.cli_explain.specs.declared.phrases.Concern.{Concern}
+use Rattle.cli_explain.specs.declared.phrases.FailureGroup.{FailureGroup}
+use Rattle.cli_explain.specs.declared.phrases.Rest.{Rest}
+
+abbrev pub tie_word : Tie → List ℕ
+tie_word Answers = codes "answers"
+tie_word Rejects = codes "rejects"
+tie_word Expires = codes "expires"
+
+-- the line that opened what an entry closes, and after how many ms
+abbrev pub closing_text : Closing → List ℕ
+closing_text c = tie_word c.tie ++ codes " line " ++ decimal c.line ++ codes " after " ++ decimal c.after ++ codes " ms"
+
+abbrev pub concern_text : Concern → List ℕ
+concern_text c = codes "concerns line " ++ decimal c.line
+
+abbrev pub why_name : Why → List ℕ
+why_name Unreadable = codes "unreadable"
+why_name (Broken rule) = rule_name rule
+
+-- what is said of a rule, and of a primary of stream 9 with the W bit
+abbrev pub SaysRule : Rule → List ℕ → Type 0
+SaysRule rule words =
+    (words ≡ sentence_of rule) ⊎ ((rule ≡ WBit) × (words ≡ codes "a primary of stream 9 that asks for a reply"))
+
+-- the line by which failures are told, and how many
+abbrev pub group_text : FailureGroup → List ℕ
+group_text a =
+    codes "FAIL " ++ why_name a.why ++ codes ": like line " ++ decimal a.line ++ (if nat_lt 1 a.times then codes ", " ++ decimal a.times ++ codes " times" else [])
+
+-- how many more there are, and up to which line
+abbrev pub rest_text : Rest → List ℕ
+rest_text r =
+    why_name r.why ++ codes ": and " ++ decimal r.count ++ codes " more like line " ++ decimal r.line ++ codes ", up to line " ++ decimal r.last

@@ -1,0 +1,50 @@
+-- The verdict, as the last thing that is told.
+use Rattle.std.specs.Prelude.{ℕ, List, ◌++◌, codes, decimal}
+use Rattle.hsms_log.specs.declared.verdict.Summary.{Summary}
+use Rattle.hsms_log.specs.declared.verdict.Why.{Why}
+use Rattle.hsms_log.specs.declared.verdict.Verdict.{Verdict}
+use Rattle.hsms_log.specs.declared.verdict.Verdict.TheVariants.{Pass, Fail}
+use Rattle.hsms_log.specs.Verdict.{counts_text}
+use Rattle.cli_options.specs.declared.explain_options.OutputFormat.{OutputFormat}
+use Rattle.cli_options.specs.declared.explain_options.OutputFormat.TheVariants.{Text, Json, Html}
+use Rattle.cli_output.specs.Verdict.{verdict_line_of}
+use Rattle.cli_explain.specs.Phrases.{why_name}
+
+-- ---- as an object of JSON (RFC 8259), in a line
+
+-- a member whose value is a number, behind the name and what stands before it
+abbrev pub member_of : List ℕ → ℕ → List ℕ
+member_of name number = name ++ decimal number
+
+-- the log passes, and this is what it holds
+abbrev pub pass_object_of : Summary → List ℕ
+pass_object_of s =
+    codes "{\"type\":\"verdict\",\"verdict\":\"pass\"" ++ counts_text (codes ",\"") (codes "\":") s ++ codes "}\n"
+
+-- the log fails at a line, which breaks this rule or can't be read
+abbrev pub fail_object_of : ℕ → Why → List ℕ
+fail_object_of line why =
+    codes "{\"type\":\"verdict\",\"verdict\":\"fail\"" ++ member_of (codes ",\"line\":") line
+    ++ codes ",\"rule\":\"" ++ why_name why ++ codes "\"}\n"
+
+abbrev pub verdict_object_of : Verdict → List ℕ
+verdict_object_of (Pass summary) = pass_object_of summary
+verdict_object_of (Fail line why) = fail_object_of line why
+
+-- ---- as a paragraph of HTML, in which the page ends
+
+-- what stands before the verdict: a mark of its colour
+abbrev pub mark_of : Verdict → List ℕ
+mark_of (Pass summary) = codes "<p id=\"verdict\" class=\"pass\">"
+mark_of (Fail line why) = codes "<p id=\"verdict\" class=\"fail\">"
+
+abbrev pub page_end_of : Verdict → List ℕ
+page_end_of verdict = mark_of verdict ++ verdict_line_of verdict ++ codes "</p></section></body></html>\n"
+
+-- ---- in each form
+
+-- the verdict, with what stands behind it
+abbrev pub ending_of : OutputFormat → Verdict → List ℕ
+ending_of Text verdict = verdict_line_of verdict
+ending_of Json verdict = verdict_object_of verdict
+ending_of Html verdict = page_end_of verdict

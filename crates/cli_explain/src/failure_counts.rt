@@ -1,0 +1,175 @@
+//! How often each rule was broken, the first failure, and the verdict.
+
+ghost use Rattle.std.specs.Prelude.{◌≡◌, ℕ, List, [], OnOk, Some, None};
+ghost use Rattle.hsms_frame.specs.declared.header.Header.{Header};
+ghost use Rattle.hsms_machine.specs.Entry.{frame_entry};
+ghost use Rattle.hsms_log.specs.declared.verdict.Verdict.TheVariants.{Fail};
+ghost use Rattle.cli_explain.specs.EntryCounts.{counts_of, with_entry, with_kind};
+ghost use Rattle.cli_explain.specs.FirstFailure.{failed_at, unjudged_by, verdict_by};
+ghost use Rattle.cli_explain.specs.AnnotatedFailure.{either, first_why};
+ghost use Rattle.hsms_log.specs.Step.{entry_of_what};
+
+use crate::annotation::Note;
+use crate::phrases::name_of;
+use hsms_log::{Summary, Verdict, What, Why};
+use hsms_machine::Mark;
+use std::alloc::{AllocError, Global};
+use std::fmt;
+
+/// A failure: the number of its line, from 1, and why it fails.
+#[derive(Clone, Copy)]
+pub struct Failed {
+    pub line: u64,
+    pub why: Why,
+}
+
+/// How often lines failed, and why, in the order in which it first happened; the first failure; and how many entries
+/// there were.
+#[derive(Drop)]
+pub struct Tally {
+    failures: Vec<(Why, u64)>,
+    first: Option<Failed>,
+    entries: Summary,
+}
+
+impl Failed {
+    fn verdict(self) -> Verdict
+        ensures { result ≡ Fail self.line self.why }
+    {
+        Verdict::Fail {
+            line: self.line,
+            why: self.why,
+        }
+    }
+}
+
+impl Tally {
+    /// No line yet.
+    pub fn new(alloc: Global) -> Tally
+        ensures first { result.first ≡ None }
+        ensures entries { result.entries ≡ counts_of [] }
+    {
+        Tally {
+            failures: Vec::new(alloc),
+            first: None,
+            entries: Summary::default(),
+        }
+    }
+
+    /// One more entry.
+    pub fn count_entry(&mut self, what: What)
+        ensures entries { (time : ℕ) (text : List ℕ) → self.new.entries ≡ with_entry self.old.entries (entry_of_what time what text) }
+        ensures first { self.new.first ≡ self.old.first }
+    {
+        self.entries.entries = self.entries.entries.saturating_add(1);
+        match what {
+            What::Frame(mark, _) => self.count_frame(mark),
+            What::T3(_) => self.entries.expired = self.entries.expired.saturating_add(1),
+            _ => {}
+        }
+    }
+
+    // One more frame of this mark, which is counted as an entry already.
+    fn count_frame(&mut self, mark: Mark)
+        ensures entries { (time : ℕ) (header : Header) (text : List ℕ) → self.new.entries ≡ with_kind self.old.entries (frame_entry time mark header text) }
+        ensures first { self.new.first ≡ self.old.first }
+    {
+        let counts = self.entries;
+        match mark {
+            Mark::Sent => self.entries.sent = counts.sent.saturating_add(1),
+            Mark::Taken => self.entries.taken = counts.taken.saturating_add(1),
+            Mark::Discarded => self.entries.discarded = counts.discarded.saturating_add(1),
+        }
+    }
+
+    /// The failures of a line by its notes.
+    pub fn count_notes(&mut self, line: u64, notes: &[Note]) -> Result<(), AllocError>
+        ensures first { OnOk result (self.new.first ≡ either self.old.first (failed_at line (first_why notes.now))) }
+        ensures entries { self.new.entries ≡ self.old.entries }
+    {
+        for note in notes {
+            if let Some(why) = note.why() {
+                self.count(line, why)?;
+            }
+        }
+        Ok(())
+    }
+
+    // One more failure.
+    fn count(&mut self, line: u64, why: Why) -> Result<(), AllocError>
+        ensures first { self.new.first ≡ either self.old.first (Some (record { line = line; why = why })) }
+        ensures entries { self.new.entries ≡ self.old.entries }
+    {
+        if self.first.is_none() {
+            self.first = Some(Failed { line, why });
+        }
+        count_why(&mut self.failures, why)
+    }
+
+    /// The verdict at the end of a log that was judged, in which so many primaries wait for a reply; or that of its first
+    /// failure.
+    pub fn verdict(&self, waiting: u64) -> Verdict
+        ensures { result ≡ verdict_by self.now.first self.now.entries waiting }
+    {
+        match self.first {
+            Some(failed) => failed.verdict(),
+            None => Verdict::Pass(Summary {
+                waiting,
+                ..self.entries
+            }),
+        }
+    }
+
+    /// The verdict where nothing was judged: line 1 can't be read, or there is none.
+    pub fn unjudged_verdict(&self) -> Verdict
+        ensures { result ≡ unjudged_by self.now.first }
+    {
+        match self.first {
+            Some(failed) => failed.verdict(),
+            None => Verdict::Fail {
+                line: 1,
+                why: Why::Unreadable,
+            },
+        }
+    }
+
+    /// Whether there was no entry.
+    pub fn is_empty(&self) -> bool {
+        self.entries.entries == 0
+    }
+
+    /// How often it failed for each reason.
+    pub fn counts(&self) -> &[(Why, u64)] {
+        &self.failures
+    }
+
+    /// How often it failed.
+    pub fn all(&self) -> u64 {
+        let counts = self.failures.iter().map(|(_, count)| *count);
+        counts.fold(0u64, |all, count| all.saturating_add(count))
+    }
+}
+
+impl fmt::Display for Tally {
+    fn fmt<W: fmt::Write>(&self, f: &mut fmt::Formatter<W>) -> fmt::Result {
+        let all = self.all();
+        write!(f, "failures={all}")?;
+        for (why, count) in self.failures.iter() {
+            let name = name_of(*why);
+            write!(f, " {name}={count}")?;
+        }
+        Ok(())
+    }
+}
+
+// One more failure for this reason.
+fn count_why(failures: &mut Vec<(Why, u64)>, why: Why) -> Result<(), AllocError> {
+    for (found, count) in failures.iter_mut() {
+        if *found == why {
+            *count = count.saturating_add(1);
+            return Ok(());
+        }
+    }
+    failures.push((why, 1))?;
+    Ok(())
+}

@@ -1,0 +1,154 @@
+//! Failures that are alike: the first of them are told whole, and the others are counted.
+
+ghost use Rattle.std.specs.Prelude.{◌≡◌, ◌≤◌, ◌<◌, ◌∷◌, [], ℕ, List, None, length, nat_eq, IfOk, OnOk, IfSome, IfNone};
+ghost use Rattle.indexmap.specs.IndexMap.{get, values, index_map_len};
+ghost use Rattle.cli_explain.specs.FailureGroups.{Fault, fault_at, lines_of, IsGroup, HasGroups, IsReported, IsRest};
+
+use crate::phrases::Rest;
+use hsms_log::Why;
+use indexmap::IndexMap;
+use indexmap::map::Values;
+use std::alloc::{AllocError, Global};
+
+// How many failures that are alike are told whole.
+const WHOLE: u64 = 3;
+
+/// How many groups are kept at most. A failure of a further one is told whole.
+pub const MOST: usize = 256;
+
+/// Failures that are alike: why they fail, how many came so far, and the lines of the first and of the last.
+#[derive(Clone, Copy)]
+pub struct Group {
+    pub why: Why,
+    pub count: u64,
+    pub first: u64,
+    pub last: u64,
+}
+
+/// The groups of the failures so far, in the order in which each first came.
+pub struct Groups {
+    items: IndexMap<u64, Group>,
+}
+
+// Written out: a proof over one that is dropped has one step for it, not one for each of its parts.
+impl Drop for Groups {
+    fn drop(self) {
+        let Groups { items } = self;
+        drop(items);
+    }
+}
+
+impl Group {
+    // That of the first failure.
+    fn of(why: Why, line: u64) -> Group
+        ensures { IsGroup (line ∷ []) result }
+    {
+        Group {
+            why,
+            count: 1,
+            first: line,
+            last: line,
+        }
+    }
+
+    // With one more failure.
+    fn with(self, line: u64) -> Group
+        ensures { (lines : List ℕ) → IsGroup lines self → IsGroup (line ∷ lines) result }
+    {
+        Group {
+            count: self.count.saturating_add(1),
+            last: line,
+            ..self
+        }
+    }
+
+    // The line of the first failure, where the last one is told by it.
+    fn like(self) -> Option<u64>
+        ensures { (groups : ℕ) (lines : List ℕ) → IsGroup lines self → IsReported groups lines result }
+    {
+        if self.count > WHOLE {
+            Some(self.first)
+        } else {
+            None
+        }
+    }
+
+    /// The failures that weren't told whole, if there are such.
+    pub fn rest(self) -> Option<Rest>
+        ensures rest { IfSome result (λ rest. (lines : List ℕ) → IsGroup lines self → IsRest lines rest) }
+        ensures why { IfSome result (λ rest. rest.why ≡ self.why) }
+        ensures none { IfNone result ((lines : List ℕ) → IsGroup lines self → length lines ≤ 3) }
+    {
+        if self.count <= WHOLE {
+            return None;
+        }
+        Some(Rest {
+            why: self.why,
+            count: self.count - WHOLE,
+            line: self.first,
+            last: self.last,
+        })
+    }
+}
+
+impl Groups {
+    /// No failure yet.
+    pub fn new(alloc: Global) -> Groups
+        ensures { HasGroups [] result.items }
+    {
+        Groups {
+            items: IndexMap::new(alloc),
+        }
+    }
+
+    /// Counts a failure of this sort at a line. Where it isn't told whole, it is told by a line that is.
+    pub fn count(&mut self, sort: u64, why: Why, line: u64) -> Result<Option<u64>, AllocError>
+        ensures groups { OnOk result ((faults : List Fault) → HasGroups faults self.old.items
+            → HasGroups (fault_at sort line ∷ faults) self.new.items) }
+        ensures shown_line { IfOk result (λ like. (faults : List Fault) → HasGroups faults self.old.items
+            → IsReported (index_map_len self.old.items) (lines_of sort (fault_at sort line ∷ faults)) like) }
+        ensures more { OnOk result (index_map_len self.old.items ≤ index_map_len self.new.items) }
+    {
+        match self.grown(sort, why, line) {
+            Some(group) => {
+                self.items.insert(sort, group)?;
+                Ok(group.like())
+            }
+            None => Ok(None),
+        }
+    }
+
+    /// The groups.
+    pub fn iter(&self) -> Values<'_, u64, Group>
+        ensures { result ≡ values self.now.items }
+    {
+        self.items.values()
+    }
+
+    // The group of the sort with one more failure, if it has one or there is room for it.
+    fn grown(&self, sort: u64, why: Why, line: u64) -> Option<Group>
+        ensures grown { IfSome result (λ group. (faults : List Fault) → HasGroups faults self.now.items
+            → IsGroup (lines_of sort (fault_at sort line ∷ faults)) group) }
+        ensures room { IfSome result (λ group. get nat_eq self.now.items sort ≡ None → index_map_len self.now.items < 256) }
+        ensures none { IfNone result (get nat_eq self.now.items sort ≡ None) }
+        ensures full { IfNone result (256 ≤ index_map_len self.now.items) }
+    {
+        match self.items.get(&sort) {
+            Some(group) => Some(group.with(line)),
+            None => self.begun(why, line),
+        }
+    }
+
+    // The group of a first failure, if there is room for it.
+    fn begun(&self, why: Why, line: u64) -> Option<Group>
+        ensures group { IfSome result (λ group. IsGroup (line ∷ []) group) }
+        ensures room { IfSome result (λ group. index_map_len self.now.items < 256) }
+        ensures full { IfNone result (256 ≤ index_map_len self.now.items) }
+    {
+        if self.items.len() < MOST {
+            Some(Group::of(why, line))
+        } else {
+            None
+        }
+    }
+}

@@ -1,0 +1,175 @@
+//! The form in which a log is told.
+
+ghost use Rattle.std.specs.Prelude.{◌≡◌, ℕ, List};
+ghost use Rattle.cli_options.specs.declared.explain_options.OutputFormat.TheVariants.{Text};
+ghost use Rattle.cli_explain.specs.OutputBuffer.{Adds, AddsSome};
+ghost use Rattle.cli_explain.specs.TextOutput.{LineWritten, gap_text};
+
+use crate::annotation::Note;
+use crate::explained_line::ExplainedLine;
+use crate::failure_counts::Tally;
+use crate::failure_groups::Groups;
+use crate::html_links::Links;
+use crate::output_buffer::Page;
+use crate::phrases::{Gap, Unjudged};
+use crate::primary_stats::Primaries;
+use crate::{html, json, text};
+use cli_options::{Excerpt, OutputFormat};
+use hsms_machine::Settings;
+use serde::Serialize;
+use std::fmt;
+
+/// Writes what is told in the form that is asked for, with times as they are or as dates.
+#[derive(Clone, Copy)]
+pub struct Emitter {
+    form: OutputFormat,
+    utc: bool,
+}
+
+impl Emitter {
+    /// What writes this excerpt.
+    pub fn new(excerpt: Excerpt) -> Emitter
+        ensures { result.form ≡ excerpt.form }
+    {
+        Emitter {
+            form: excerpt.form,
+            utc: excerpt.utc,
+        }
+    }
+
+    /// Writes what stands before all lines.
+    pub fn begin(self, page: &mut Page)
+        ensures { self.form ≡ Text → page.new ≡ page.old }
+    {
+        match self.form {
+            OutputFormat::Text | OutputFormat::Json => {}
+            OutputFormat::Html => html::begin(page, self.utc),
+        }
+    }
+
+    /// Writes which ends these are, before the lines of a log with these settings.
+    pub fn ends(self, page: &mut Page, settings: Settings)
+        ensures { self.form ≡ Text → page.new ≡ page.old }
+    {
+        match self.form {
+            OutputFormat::Text | OutputFormat::Json => {}
+            OutputFormat::Html => html::write_ends(page, settings),
+        }
+    }
+
+    /// Writes what stands behind all lines.
+    pub fn end_lines(self, page: &mut Page, links: &Links)
+        ensures { self.form ≡ Text → page.new ≡ page.old }
+    {
+        match self.form {
+            OutputFormat::Text | OutputFormat::Json => {}
+            OutputFormat::Html => html::end_lines(page, links),
+        }
+    }
+
+    /// Writes a line, and what is noted of it.
+    pub fn line(
+        self,
+        page: &mut Page,
+        links: &mut Links,
+        shown_line: ExplainedLine<'_, '_>,
+        notes: &[Note],
+    )
+        ensures { self.form ≡ Text → (words : List ℕ) × LineWritten shown_line.entry notes.now words × Adds page.old page.new words }
+    {
+        match self.form {
+            OutputFormat::Text => text::write_line(page, shown_line, notes, self.utc),
+            OutputFormat::Json => json::write_line(page, shown_line, notes, self.utc),
+            OutputFormat::Html => html::write_line(page, links, shown_line, notes, self.utc),
+        }
+    }
+
+    /// Writes that lines are left out.
+    pub fn gap(self, page: &mut Page, gap: Gap)
+        ensures { self.form ≡ Text → Adds page.old page.new gap_text }
+    {
+        match self.form {
+            OutputFormat::Text => text::write_gap(page),
+            OutputFormat::Json => json::write_object(page, &gap),
+            OutputFormat::Html => html::write_gap(page, gap),
+        }
+    }
+
+    /// Writes that nothing was judged.
+    pub fn unjudged(self, page: &mut Page, unjudged: Unjudged)
+        ensures { self.form ≡ Text → AddsSome page.old page.new }
+    {
+        match self.form {
+            OutputFormat::Html => html::write_words(page, "<p>", &unjudged),
+            OutputFormat::Text | OutputFormat::Json => self.remark(page, &unjudged),
+        }
+    }
+
+    /// Writes of each group how many failures it has, or how many of them weren't told whole.
+    pub fn groups(self, page: &mut Page, groups: &Groups)
+        ensures { self.form ≡ Text → AddsSome page.old page.new }
+    {
+        match self.form {
+            OutputFormat::Html => html::write_groups(page, groups),
+            OutputFormat::Text | OutputFormat::Json => self.rests(page, groups),
+        }
+    }
+
+    // Writes of each group how many failures weren't told whole.
+    fn rests(self, page: &mut Page, groups: &Groups)
+        ensures { self.form ≡ Text → AddsSome page.old page.new }
+    {
+        for group in groups.iter() {
+            self.optional(page, group.rest());
+        }
+    }
+
+    /// Writes how often each rule was broken.
+    pub fn failures(self, page: &mut Page, tally: &Tally)
+        ensures { self.form ≡ Text → AddsSome page.old page.new }
+    {
+        match self.form {
+            OutputFormat::Html => html::write_words(page, "<p class=\"counts\">", tally),
+            OutputFormat::Text | OutputFormat::Json => self.remark(page, tally),
+        }
+    }
+
+    /// Writes what became of the primaries of each kind.
+    pub fn primaries(self, page: &mut Page, links: &Links, primaries: &Primaries)
+        ensures { self.form ≡ Text → AddsSome page.old page.new }
+    {
+        match self.form {
+            OutputFormat::Html => html::write_primaries(page, links, primaries),
+            OutputFormat::Text | OutputFormat::Json => self.outcomes(page, primaries),
+        }
+    }
+
+    fn outcomes(self, page: &mut Page, primaries: &Primaries)
+        ensures { self.form ≡ Text → AddsSome page.old page.new }
+    {
+        for place in 0..primaries.len() {
+            self.optional(page, primaries.outcome(place));
+        }
+    }
+
+    // Writes a remark, if there is one.
+    fn optional<T: fmt::Display + Serialize + Drop>(self, page: &mut Page, remark: Option<T>)
+        ensures { self.form ≡ Text → AddsSome page.old page.new }
+    {
+        match remark {
+            Some(remark) => self.remark(page, &remark),
+            None => {}
+        }
+    }
+
+    // Writes what stands in a line of its own, as text or as an object.
+    fn remark<T: fmt::Display + Serialize>(self, page: &mut Page, remark: &T)
+        ensures { self.form ≡ Text → AddsSome page.old page.new }
+    {
+        match self.form {
+            OutputFormat::Text => text::write_words(page, remark),
+            OutputFormat::Json => json::write_object(page, remark),
+            OutputFormat::Html => {}
+        }
+    }
+}

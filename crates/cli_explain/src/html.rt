@@ -1,0 +1,463 @@
+//! What is told, as a page of HTML: a ladder of the messages between the two ends, and what stands on top of it.
+//!
+//! The page is written as the lines come. What stands on top and is known at the end alone, as the failures and the
+//! verdict, is written last, and the style puts it there.
+
+use crate::annotation::{Failing, Note, UNREADABLE};
+use crate::explained_line::{Carried, ExplainedLine};
+use crate::failure_groups::{Group, Groups, MOST};
+use crate::hint::Function;
+use crate::html_escape::{append_octets, append_text, append_words};
+use crate::html_links::Links;
+use crate::html_style::STYLE;
+use crate::output_buffer::Page;
+use crate::phrases::{Concern, Gap, System, name_of};
+use crate::primary_stats::{Outcome, Primaries, Times};
+use crate::text::after_time;
+use crate::timestamp::Moment;
+use cli_options::sentence;
+use hsms_frame::{Header, Kind, kind};
+use hsms_log::{Step, What, Why};
+use hsms_machine::{GREATEST_DEPTH, Mark, RepairAction, Role, Rule, Settings};
+use std::fmt;
+
+// What stands before the style, and what stands between it and the lines.
+const HEAD: &str = "<!DOCTYPE html>\n<html lang=\"en\"><head><meta charset=\"utf-8\">\
+    <meta name=\"viewport\" content=\"width=device-width, initial-scale=1\"><title>hsms explain</title>\n<style>";
+
+const BODY: &str = "</style></head>\n<body>\n";
+
+// The heads of the columns that tell what became of primaries.
+const COLUMNS: &str = "<table>\n<tr><th>Primaries</th><th>all</th><th>answered</th><th>aborted</th>\
+    <th>expired</th><th>rejected</th><th>ended</th><th>waiting</th><th>least ms</th><th>median</th><th>p99</th>\
+    <th>greatest</th></tr>\n";
+
+fn put(page: &mut Page, markup: &str) {
+    page.append_chunk(markup.as_bytes());
+}
+
+// Writes markup, and a number behind it.
+fn put_number(page: &mut Page, markup: &str, number: u64) {
+    put(page, markup);
+    page.append_number(number, 0);
+}
+
+/// Writes the head of the page, and begins the lines.
+pub fn begin(page: &mut Page, utc: bool) {
+    put(page, HEAD);
+    put(page, STYLE);
+    put(page, BODY);
+    let main = if utc {
+        "<main class=\"utc\">\n"
+    } else {
+        "<main>\n"
+    };
+    put(page, main);
+}
+
+/// Writes above the ladder which ends these are: left the one whose log it is.
+pub fn write_ends(page: &mut Page, settings: Settings) {
+    let ends = match settings.role() {
+        Role::Host => "<header><b>host</b><b>equipment</b></header>\n",
+        Role::Equipment => "<header><b>equipment</b><b>host</b></header>\n",
+    };
+    put(page, ends);
+}
+
+/// Ends the lines, and begins what stands on top of them.
+pub fn end_lines(page: &mut Page, links: &Links) {
+    put(page, "</main>\n<section>\n");
+    write_open(page, links);
+}
+
+/// Writes a line of the log and its notes: with `utc` times as dates.
+pub fn write_line(
+    page: &mut Page,
+    links: &mut Links,
+    shown_line: ExplainedLine<'_, '_>,
+    notes: &[Note],
+    utc: bool,
+) {
+    if links.note(shown_line.number).is_err() {
+        page.refuse();
+    }
+    begin_row(page, shown_line, notes);
+    write_said(page, shown_line, utc);
+    write_closings(page, links, notes);
+    write_ahead(page, links, shown_line, notes);
+    for note in notes {
+        write_failure(page, links, note, utc);
+    }
+    put(page, "</div>\n");
+}
+
+// Begins the row of a line, and writes its number.
+fn begin_row(page: &mut Page, shown_line: ExplainedLine<'_, '_>, notes: &[Note]) {
+    put(page, "<div class=\"row ");
+    put(page, class_of(shown_line.carried));
+    if notes.iter().any(|note| !matches!(note, Note::Closes(_))) {
+        put(page, " bad");
+    }
+    put_number(page, "\" id=\"l", shown_line.number);
+    put_number(page, "\"><a class=\"n\" href=\"#l", shown_line.number);
+    put_number(page, "\">", shown_line.number);
+    put(page, "</a>");
+}
+
+// How the row of a line is drawn.
+fn class_of(carried: Carried<'_>) -> &'static str {
+    match carried {
+        Carried::Entry(step, _) => match step.what {
+            What::Frame(mark, header) => frame_class(mark, header),
+            What::Up => "event up",
+            What::T3(_) => "timer",
+            What::Cut(_) => "event cut",
+            What::Down => "event down",
+        },
+        Carried::Nothing | Carried::Unreadable(_) => "plain",
+    }
+}
+
+fn frame_class(mark: Mark, header: Header) -> &'static str {
+    match (mark, is_data(header)) {
+        (Mark::Sent, true) => "sent",
+        (Mark::Sent, false) => "sent control",
+        (Mark::Taken, true) => "taken",
+        (Mark::Taken, false) => "taken control",
+        (Mark::Discarded, true) => "lost",
+        (Mark::Discarded, false) => "lost control",
+    }
+}
+
+fn is_data(header: Header) -> bool {
+    match kind(header) {
+        Kind::Primary | Kind::Reply => true,
+        _ => false,
+    }
+}
+
+// Writes what a line says: a frame as an arrow, the words of another entry, and else the line as it is.
+fn write_said(page: &mut Page, shown_line: ExplainedLine<'_, '_>, utc: bool) {
+    let Carried::Entry(step, text) = shown_line.carried else {
+        return write_element(page, "pre", shown_line.shown());
+    };
+    put(page, "<span>");
+    append_words(
+        page,
+        &Moment {
+            time: step.time,
+            utc,
+        },
+    );
+    put(page, "</span>");
+    match step.what {
+        What::Frame(_, header) => write_frame(page, header, text),
+        _ => write_element(page, "b", after_time(shown_line.octets)),
+    }
+}
+
+// Writes an element whose text are octets of the log.
+fn write_element(page: &mut Page, name: &str, octets: &[u8]) {
+    put(page, "<");
+    put(page, name);
+    put(page, ">");
+    append_octets(page, octets);
+    put(page, "</");
+    put(page, name);
+    put(page, ">");
+}
+
+// Writes a frame: what it is, its system bytes, and folded the line that `hsms show` shows of it.
+fn write_frame(page: &mut Page, header: Header, text: &[u8]) {
+    let line = page.message(header, text, GREATEST_DEPTH);
+    put(page, "<details><summary><b>");
+    if is_data(header) {
+        append_words(page, &Function::of(header));
+        if header.wait() {
+            put(page, " W");
+        }
+    } else {
+        write_control(page, &line);
+    }
+    put(page, "</b> <i>");
+    append_words(page, &System(header.system));
+    put(page, "</i></summary><pre>");
+    append_text(page, line.as_bytes());
+    put(page, "</pre></details>");
+}
+
+// Writes what a control message is: the first word of its line, and what stands behind its system bytes.
+fn write_control(page: &mut Page, line: &str) {
+    let mut words = line.split(' ');
+    append_text(page, words.next().unwrap_or("").as_bytes());
+    if let Some(word) = words.nth(2) {
+        put(page, " ");
+        append_text(page, word.as_bytes());
+    }
+}
+
+// Writes words in a paragraph behind its front, as a link to the line `to`, and with the id to which the link `reply` of
+// the line `closed` leads, where there are such lines.
+fn write_link<D: fmt::Display>(
+    page: &mut Page,
+    front: &str,
+    to: Option<u64>,
+    closed: Option<u64>,
+    words: &D,
+) {
+    put(page, front);
+    put(page, "<a");
+    write_line_number(page, " id=\"r", closed);
+    write_line_number(page, " href=\"#l", to);
+    put(page, ">");
+    append_words(page, words);
+    put(page, "</a></p>");
+}
+
+// Writes an attribute that ends with the number of a line, if there is one.
+fn write_line_number(page: &mut Page, front: &str, line: Option<u64>) {
+    if let Some(line) = line {
+        put_number(page, front, line);
+        put(page, "\"");
+    }
+}
+
+// Writes what a line closes.
+fn write_closings(page: &mut Page, links: &mut Links, notes: &[Note]) {
+    for note in notes {
+        if let Note::Closes(closing) = note {
+            let closed = links.close(closing.line);
+            let to = links.shown_line(closing.line);
+            write_link(page, "<p class=\"at\">", to, closed, closing);
+        }
+    }
+}
+
+// Writes a link to what will close the transaction that a line opens, and where a connection begins what is open.
+fn write_ahead(
+    page: &mut Page,
+    links: &mut Links,
+    shown_line: ExplainedLine<'_, '_>,
+    notes: &[Note],
+) {
+    let Carried::Entry(step, _) = shown_line.carried else {
+        return;
+    };
+    match step.what {
+        What::Frame(Mark::Sent | Mark::Taken, header) => {
+            if asks(header) && notes.iter().all(accepts_frame) {
+                write_reply(page, links, shown_line.number);
+            }
+        }
+        What::Up => {
+            write_open(page, links);
+            links.close_all();
+        }
+        _ => {}
+    }
+}
+
+// Writes a link to what will close the transaction that a line opens, where there is room for one more.
+fn write_reply(page: &mut Page, links: &mut Links, line: u64) {
+    match links.open(line) {
+        Ok(true) => {
+            put_number(page, "<p class=\"at\"><a href=\"#r", line);
+            put(page, "\">reply</a></p>");
+        }
+        Ok(false) => {}
+        Err(_) => page.refuse(),
+    }
+}
+
+fn asks(header: Header) -> bool {
+    match kind(header) {
+        Kind::Primary => header.wait(),
+        Kind::SelectReq | Kind::LinktestReq => true,
+        _ => false,
+    }
+}
+
+// Whether a frame with this note is taken in: what failed is what lacks before it, or its time.
+fn accepts_frame(note: &Note) -> bool {
+    let why = match note {
+        Note::Closes(_) => return true,
+        Note::Fails(failing) => failing.why,
+        Note::FailsInGroup(failure_group) => failure_group.why,
+    };
+    match why {
+        Why::Broken(Rule::T3Overdue | Rule::LinkOverdue | Rule::Backwards) => true,
+        Why::Broken(_) | Why::Unreadable => false,
+    }
+}
+
+// Writes the lines that no line on the page closes.
+fn write_open(page: &mut Page, links: &Links) {
+    let lines = links.all_open();
+    if lines.is_empty() {
+        return;
+    }
+    put(page, "<p class=\"open\">Not closed by a line here:");
+    for line in lines {
+        write_line_number(page, " <a id=\"r", Some(*line));
+        write_line_number(page, " href=\"#l", links.shown_line(*line));
+        put_number(page, ">", *line);
+        put(page, "</a>");
+    }
+    put(page, "</p>\n");
+}
+
+fn write_failure(page: &mut Page, links: &mut Links, note: &Note, utc: bool) {
+    match note {
+        Note::Closes(_) => {}
+        Note::Fails(failing) => write_failing(page, links, failing, utc),
+        Note::FailsInGroup(failure_group) => {
+            let to = links.shown_line(failure_group.line);
+            write_link(page, "<div class=\"f\"><p>", to, None, failure_group);
+            put(page, "</div>");
+        }
+    }
+}
+
+fn write_failing(page: &mut Page, links: &mut Links, failing: &Failing, utc: bool) {
+    put(page, "<div class=\"f\"><p><b>FAIL ");
+    put(page, name_of(failing.why));
+    put(page, "</b>: ");
+    append_text(page, failing.sentence.as_bytes());
+    put(page, "</p>");
+    write_concern(page, links, failing);
+    if let Some(expected) = failing.expected {
+        let to = failing
+            .expected_line()
+            .and_then(|line| links.shown_line(line));
+        write_link(page, "<p>", to, None, &expected);
+    }
+    if let Some(continuation) = failing.continuation(utc) {
+        put(page, "<p>");
+        append_words(page, &continuation);
+        put(page, "</p>");
+    }
+    put(page, "</div>");
+}
+
+// Writes which line a failure concerns. Where that is supposed to have expired, it is closed.
+fn write_concern(page: &mut Page, links: &mut Links, failing: &Failing) {
+    let Some(line) = failing.concerns else {
+        return;
+    };
+    let closed = match failing.repair_action {
+        Some(RepairAction::ExpireFirst(_, _)) => links.close(line),
+        _ => None,
+    };
+    let to = links.shown_line(line);
+    write_link(page, "<p>", to, closed, &Concern { line });
+}
+
+/// Writes that lines are left out.
+pub fn write_gap(page: &mut Page, gap: Gap) {
+    put(page, "<div class=\"gap\">");
+    if gap.from < gap.to {
+        put_number(page, "lines ", gap.from);
+        put_number(page, " to ", gap.to);
+    } else {
+        put_number(page, "line ", gap.to);
+    }
+    put(page, " left out</div>\n");
+}
+
+/// Writes words in a paragraph behind its front.
+pub fn write_words<D: fmt::Display>(page: &mut Page, front: &str, words: &D) {
+    put(page, front);
+    append_words(page, words);
+    put(page, "</p>\n");
+}
+
+/// Writes the groups of the failures, each with a link to the first of them.
+pub fn write_groups(page: &mut Page, groups: &Groups) {
+    put(page, "<ol>\n");
+    let mut count = 0usize;
+    for group in groups.iter() {
+        write_group(page, *group);
+        count = count.saturating_add(1);
+    }
+    put(page, "</ol>\n");
+    if count >= MOST {
+        put(
+            page,
+            "<p>Failures of further kinds stand at their lines alone.</p>\n",
+        );
+    }
+}
+
+fn write_group(page: &mut Page, group: Group) {
+    put_number(page, "<li><a href=\"#l", group.first);
+    put(page, "\"><b>");
+    put(page, name_of(group.why));
+    put_number(page, "</b> line ", group.first);
+    put(page, "</a>: ");
+    append_text(page, matter_of(group.why).as_bytes());
+    if group.count > 1 {
+        put_number(page, "; ", group.count - 1);
+        put_number(page, " more like it, up to line ", group.last);
+    }
+    put(page, "</li>\n");
+}
+
+// What is the matter with all lines that fail so.
+fn matter_of(why: Why) -> &'static str {
+    match why {
+        Why::Unreadable => UNREADABLE,
+        Why::Broken(Rule::WBit) => "it asks for a reply, and may not",
+        Why::Broken(rule) => sentence(rule),
+    }
+}
+
+/// Writes what became of the primaries that ask for a reply.
+pub fn write_primaries(page: &mut Page, links: &Links, primaries: &Primaries) {
+    if primaries.len() == 0 {
+        return;
+    }
+    put(page, COLUMNS);
+    for place in 0..primaries.len() {
+        if let Some(outcome) = primaries.outcome(place) {
+            write_outcome(page, links, outcome);
+        }
+    }
+    put(page, "</table>\n");
+}
+
+// Writes what became of the primaries of a kind.
+fn write_outcome(page: &mut Page, links: &Links, outcome: Outcome) {
+    put(page, "<tr><td>");
+    match outcome.function() {
+        Some(function) => append_words(page, &function),
+        None => put(page, "others"),
+    }
+    put(page, " W ");
+    put(page, outcome.way());
+    put_number(page, "</td><td>", outcome.counts.opened);
+    put(page, "</td>");
+    for (_, count) in outcome.fates() {
+        put(page, "<td>");
+        if count > 0 {
+            page.append_number(count, 0);
+        }
+        put(page, "</td>");
+    }
+    match outcome.times {
+        Some(times) => write_times(page, links, times),
+        None => put(page, "<td></td><td></td><td></td><td></td>"),
+    }
+    put(page, "</tr>\n");
+}
+
+fn write_times(page: &mut Page, links: &Links, times: Times) {
+    for time in [times.least, times.median, times.most] {
+        put_number(page, "<td>", time);
+        put(page, "</td>");
+    }
+    put_number(page, "<td>", times.greatest);
+    put(page, " (<a");
+    write_line_number(page, " href=\"#l", links.shown_line(times.line));
+    put_number(page, ">line ", times.line);
+    put(page, "</a>)</td>");
+}

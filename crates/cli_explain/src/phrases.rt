@@ -1,0 +1,251 @@
+//! The words that stand below a line.
+
+ghost use Rattle.std.specs.Prelude.{◌≡◌, Some};
+ghost use Rattle.cli_explain.specs.Phrases.{group_text, closing_text, concern_text, rest_text, tie_word, why_name};
+
+use crate::timestamp::Moment;
+use hsms_frame::{Kind, kind};
+use hsms_log::{What, Why, cause_word};
+use hsms_machine::{Cause, RepairAction};
+use std::fmt;
+
+/// What an entry is to the transaction that it closes.
+#[derive(Clone, Copy)]
+pub enum Tie {
+    Answers,
+    Rejects,
+    Expires,
+}
+
+impl Tie {
+    /// What an entry is to the one that it closes: a reject, an answer, or, as a `t3`, an expiry.
+    pub fn of(what: What) -> Tie {
+        match what {
+            What::Frame(_, header) => {
+                if kind(header) == Kind::Reject {
+                    Tie::Rejects
+                } else {
+                    Tie::Answers
+                }
+            }
+            _ => Tie::Expires,
+        }
+    }
+}
+
+/// The word that tells what an entry is to the one that it closes.
+pub fn word_of(tie: Tie) -> &'static str
+    ensures { result.now ≡ tie_word tie }
+{
+    match tie {
+        Tie::Answers => "answers",
+        Tie::Rejects => "rejects",
+        Tie::Expires => "expires",
+    }
+}
+
+/// That an entry closes the transaction which a line opened, so many ms after it.
+#[derive(Clone, Copy)]
+pub struct Closing {
+    pub tie: Tie,
+    pub line: u64,
+    pub after: u64,
+}
+
+impl fmt::Display for Closing {
+    ghost output = { λ closing. Some (closing_text closing) };
+
+    fn fmt<W: fmt::Write>(&self, f: &mut fmt::Formatter<W>) -> fmt::Result {
+        let tie = word_of(self.tie);
+        let line = self.line;
+        let after = self.after;
+        write!(f, "{tie} line {line} after {after} ms")
+    }
+}
+
+/// That a failure concerns a line.
+#[derive(Clone, Copy)]
+pub struct Concern {
+    pub line: u64,
+}
+
+impl fmt::Display for Concern {
+    ghost output = { λ concern. Some (concern_text concern) };
+
+    fn fmt<W: fmt::Write>(&self, f: &mut fmt::Formatter<W>) -> fmt::Result {
+        let line = self.line;
+        write!(f, "concerns line {line}")
+    }
+}
+
+/// That a line fails as another one before it does, so many times.
+#[derive(Clone, Copy)]
+pub struct FailureGroup {
+    pub why: Why,
+    pub line: u64,
+    pub times: u64,
+}
+
+impl fmt::Display for FailureGroup {
+    ghost output = { λ failure_group. Some (group_text failure_group) };
+
+    fn fmt<W: fmt::Write>(&self, f: &mut fmt::Formatter<W>) -> fmt::Result {
+        let name = name_of(self.why);
+        let line = self.line;
+        let times = self.times;
+        if times > 1 {
+            write!(f, "FAIL {name}: like line {line}, {times} times")
+        } else {
+            write!(f, "FAIL {name}: like line {line}")
+        }
+    }
+}
+
+/// That so many more lines fail as a line does, up to the last one.
+#[derive(Clone, Copy)]
+pub struct Rest {
+    pub why: Why,
+    pub count: u64,
+    pub line: u64,
+    pub last: u64,
+}
+
+impl fmt::Display for Rest {
+    ghost output = { λ rest. Some (rest_text rest) };
+
+    fn fmt<W: fmt::Write>(&self, f: &mut fmt::Formatter<W>) -> fmt::Result {
+        let name = name_of(self.why);
+        let count = self.count;
+        let line = self.line;
+        let last = self.last;
+        write!(
+            f,
+            "{name}: and {count} more like line {line}, up to line {last}"
+        )
+    }
+}
+
+/// Lines that are left out: the first of them, and the last.
+#[derive(Clone, Copy)]
+pub struct Gap {
+    pub from: u64,
+    pub to: u64,
+}
+
+/// Why nothing of a log was judged.
+#[derive(Clone, Copy)]
+pub enum Unjudged {
+    /// It has no line.
+    Empty,
+    /// Its first line can't be read.
+    Unreadable,
+    /// It has no entry.
+    NoEntry,
+}
+
+impl Unjudged {
+    /// Returns why nothing was judged of a log of so many lines, without settings.
+    pub fn without_settings(lines: u64) -> Unjudged {
+        if lines == 0 {
+            Unjudged::Empty
+        } else {
+            Unjudged::Unreadable
+        }
+    }
+
+    /// The same in words.
+    pub fn words(self) -> &'static str {
+        match self {
+            Unjudged::Empty => "nothing was judged: the log is empty",
+            Unjudged::Unreadable => "nothing was judged: line 1 can't be read",
+            Unjudged::NoEntry => "nothing was judged: the log has no entry",
+        }
+    }
+}
+
+impl fmt::Display for Unjudged {
+    fn fmt<W: fmt::Write>(&self, f: &mut fmt::Formatter<W>) -> fmt::Result {
+        let words = self.words();
+        write!(f, "{words}")
+    }
+}
+
+/// System bytes, as a log has them.
+#[derive(Clone, Copy)]
+pub struct System(pub u32);
+
+impl fmt::Display for System {
+    fn fmt<W: fmt::Write>(&self, f: &mut fmt::Formatter<W>) -> fmt::Result {
+        let system = self.0;
+        write!(f, "{system:08x}")
+    }
+}
+
+/// The name of the rule that is broken, or `unreadable`.
+pub fn name_of(why: Why) -> &'static str
+    ensures { result.now ≡ why_name why }
+{
+    match why {
+        Why::Unreadable => "unreadable",
+        Why::Broken(rule) => rule.name(),
+    }
+}
+
+/// How the log is gone on with behind a failure, where with `utc` a time is told as a date.
+#[derive(Clone, Copy)]
+pub struct Continuation {
+    pub repair_action: RepairAction,
+    pub utc: bool,
+}
+
+/// An entry that is put before a line, as it would stand in the log.
+#[derive(Clone, Copy)]
+pub enum Put {
+    T3(u64, u32),
+    Cut(u64, Cause),
+    Down(u64),
+}
+
+impl Put {
+    /// What the remedy puts before the line, if it does that.
+    pub fn of(repair_action: RepairAction) -> Option<Put> {
+        match repair_action {
+            RepairAction::ExpireFirst(time, system) => Some(Put::T3(time, system)),
+            RepairAction::CutFirst(time, cause) => Some(Put::Cut(time, cause)),
+            RepairAction::DownFirst(time) => Some(Put::Down(time)),
+            RepairAction::Raise(_) | RepairAction::Discard | RepairAction::LeaveOut => None,
+        }
+    }
+}
+
+impl fmt::Display for Put {
+    fn fmt<W: fmt::Write>(&self, f: &mut fmt::Formatter<W>) -> fmt::Result {
+        match *self {
+            Put::T3(time, system) => write!(f, "{time} t3 {system:08x}"),
+            Put::Cut(time, cause) => {
+                let cause = cause_word(cause);
+                write!(f, "{time} cut {cause}")
+            }
+            Put::Down(time) => write!(f, "{time} down"),
+        }
+    }
+}
+
+impl fmt::Display for Continuation {
+    fn fmt<W: fmt::Write>(&self, f: &mut fmt::Formatter<W>) -> fmt::Result {
+        if let Some(put) = Put::of(self.repair_action) {
+            return write!(f, "goes on as if `{put}` stood before it");
+        }
+        match self.repair_action {
+            RepairAction::Raise(time) => {
+                let moment = Moment {
+                    time,
+                    utc: self.utc,
+                };
+                write!(f, "goes on as if its time were {moment}")
+            }
+            RepairAction::Discard => write!(f, "goes on as if it were thrown away"),
+            _ => write!(f, "goes on without it"),
+        }
+    }
+}

@@ -1,0 +1,184 @@
+//! What is told of a log, and what is noted of the line at hand.
+
+ghost use Rattle.std.specs.Prelude.{◌≡◌, [], OnOk, IfOk, Some, None};
+ghost use Rattle.hsms_log.specs.declared.verdict.Why.TheVariants.{Unreadable as CannotBeRead};
+ghost use Rattle.cli_options.specs.declared.explain_options.OutputFormat.TheVariants.{Text};
+ghost use Rattle.cli_explain.specs.EntryCounts.{counts_of};
+ghost use Rattle.cli_explain.specs.FirstFailureOutput.{KeepsShown, ShowsWith};
+ghost use Rattle.cli_explain.specs.FirstFailure.{failed_at};
+ghost use Rattle.cli_explain.specs.RepairedLines.{RepairsLine, NotesUnreadable};
+ghost use Rattle.cli_explain.specs.AnnotatedFailure.{either, first_why, with_carried, LineFailsBy};
+ghost use Rattle.cli_explain.specs.OutputBuffer.{AddsSome};
+ghost use Rattle.cli_explain.specs.LineFilter.{NoneBefore, WritesFirst};
+
+use crate::annotation::{Failing, Note, group_notes};
+use crate::context::Known;
+use crate::explained_line::{Carried, ExplainedLine};
+use crate::failure_counts::Tally;
+use crate::failure_groups::Groups;
+use crate::line_filter::Window;
+use crate::output_buffer::Page;
+use crate::phrases::Unjudged;
+use crate::primary_stats::Primaries;
+use crate::repair_entry::check_next_entry;
+use cli_options::Excerpt;
+use hsms_log::Unreadable;
+use hsms_machine::Settings;
+use std::alloc::{AllocError, Global};
+
+/// What is told, which lines are, the failures so far, and what is noted of the line at hand, also as it is told.
+#[derive(Drop)]
+pub struct Report {
+    pub page: Page,
+    pub tally: Tally,
+    window: Window,
+    groups: Groups,
+    pub notes: Vec<Note>,
+    grouped: Vec<Note>,
+}
+
+impl Report {
+    /// What is told before all lines.
+    pub fn new(alloc: Global, excerpt: Excerpt) -> Result<Report, AllocError>
+        ensures first { IfOk result (λ report. report.tally.first ≡ None) }
+        ensures entries { IfOk result (λ report. report.tally.entries ≡ counts_of []) }
+        ensures groups { IfOk result (λ report. NoneBefore report.tally report.groups) }
+        ensures excerpt { IfOk result (λ report. report.window.excerpt ≡ excerpt) }
+        ensures shown { IfOk result (λ report. excerpt.form ≡ Text → ShowsWith excerpt report [] []) }
+    {
+        let mut page = Page::new(alloc)?;
+        let window = Window::new(alloc, excerpt);
+        window.emitter().begin(&mut page);
+        Ok(Report {
+            page,
+            tally: Tally::new(alloc),
+            window,
+            groups: Groups::new(alloc),
+            notes: Vec::new(alloc),
+            grouped: Vec::new(alloc),
+        })
+    }
+
+    /// Tells which ends a log with these settings is of.
+    pub fn emit_ends(&mut self, settings: Settings)
+        ensures shown { KeepsShown self.old self.new }
+        ensures tally { self.new.tally ≡ self.old.tally }
+        ensures notes { self.new.notes ≡ self.old.notes }
+        ensures groups { self.new.groups ≡ self.old.groups }
+        ensures window { self.new.window ≡ self.old.window }
+    {
+        self.window.emitter().ends(&mut self.page, settings);
+    }
+
+    /// Tells that lines are left out at the end of so many.
+    pub fn emit_gap(&mut self, lines: u64)
+        ensures tally { self.new.tally ≡ self.old.tally }
+        ensures shown { KeepsShown self.old self.new }
+    {
+        self.window.finish(&mut self.page, lines);
+    }
+
+    /// Tells that nothing was judged.
+    pub fn emit_unjudged(&mut self, unjudged: Unjudged)
+        ensures tally { self.new.tally ≡ self.old.tally }
+        ensures shown { KeepsShown self.old self.new }
+    {
+        self.window.emitter().unjudged(&mut self.page, unjudged);
+    }
+
+    /// Tells the failures behind a log that was judged, and what became of its primaries.
+    pub fn emit_end(&mut self, primaries: &Primaries)
+        ensures tally { self.new.tally ≡ self.old.tally }
+        ensures shown { KeepsShown self.old self.new }
+    {
+        self.emit_emptiness();
+        let emitter = self.window.emitter();
+        emitter.groups(&mut self.page, &self.groups);
+        emitter.failures(&mut self.page, &self.tally);
+        emitter.primaries(&mut self.page, self.window.links(), primaries);
+    }
+
+    // Tells that there was no entry, where there was none.
+    fn emit_emptiness(&mut self)
+        ensures tally { self.new.tally ≡ self.old.tally }
+        ensures shown { KeepsShown self.old self.new }
+    {
+        if self.tally.is_empty() {
+            self.emit_unjudged(Unjudged::NoEntry);
+        }
+    }
+
+    /// Tells a line, and what is noted of it, in a log whose frames have at most so many octets. Its failures are counted.
+    pub fn submit(
+        &mut self,
+        alloc: Global,
+        shown_line: ExplainedLine<'_, '_>,
+        max: u32,
+    ) -> Result<(), AllocError>
+        ensures first { OnOk result (self.new.tally.first ≡ either self.old.tally.first (failed_at shown_line.entry.number (first_why self.old.notes.items))) }
+        ensures entries { self.new.tally.entries ≡ self.old.tally.entries }
+        ensures shown_line { OnOk result (NoneBefore self.old.tally self.old.groups
+            → WritesFirst self.old.window.excerpt self.old.tally self.old.notes.items shown_line.entry self.old.page
+            self.new.page) }
+        ensures some { OnOk result (self.old.window.excerpt.form ≡ Text → AddsSome self.old.page self.new.page) }
+        ensures groups { OnOk result (NoneBefore self.old.tally self.old.groups
+            → NoneBefore self.new.tally self.new.groups) }
+        ensures shown { OnOk result (KeepsShown self.old self.new) }
+        ensures excerpt { self.new.window.excerpt ≡ self.old.window.excerpt }
+    {
+        self.tally.count_notes(shown_line.number, &self.notes)?;
+        if !self.window.has_line(shown_line.number) {
+            return Ok(());
+        }
+        group_notes(
+            &mut self.groups,
+            &self.notes,
+            shown_line.number,
+            &mut self.grouped,
+        )?;
+        self.window
+            .take(alloc, &mut self.page, shown_line, &self.grouped, max)
+    }
+
+    /// Judges what a line carries, and notes what it closes and why it fails.
+    pub fn judge(
+        &mut self,
+        alloc: Global,
+        known: &mut Known,
+        carried: Carried<'_>,
+    ) -> Result<(), AllocError>
+        ensures check_result { OnOk result (LineFailsBy known.old.repaired_session carried.entry known.new.repaired_session (first_why self.new.notes.items)) }
+        ensures repairs { OnOk result (RepairsLine known.old.repaired_session carried.entry known.new.repaired_session self.new.notes.items) }
+        ensures settings { OnOk result (known.new.settings ≡ known.old.settings) }
+        ensures line { OnOk result (known.new.repaired_session.line ≡ known.old.repaired_session.line) }
+        ensures entries { OnOk result (self.new.tally.entries ≡ with_carried self.old.tally.entries carried.entry) }
+        ensures first { self.new.tally.first ≡ self.old.tally.first }
+        ensures groups { self.new.groups ≡ self.old.groups }
+        ensures window { self.new.window ≡ self.old.window }
+        ensures page { self.new.page ≡ self.old.page }
+    {
+        self.notes.clear();
+        match carried {
+            Carried::Entry(step, text) => {
+                self.tally.count_entry(step.what);
+                check_next_entry(alloc, known, step, text, &mut self.notes)
+            }
+            Carried::Nothing => Ok(()),
+            Carried::Unreadable(unreadable) => self.note_unreadable(unreadable),
+        }
+    }
+
+    /// Notes that a line cannot be read, and why.
+    pub fn note_unreadable(&mut self, unreadable: Unreadable) -> Result<(), AllocError>
+        ensures notes { OnOk result (first_why self.new.notes.items ≡ either (first_why self.old.notes.items) (Some CannotBeRead)) }
+        ensures adds { OnOk result (NotesUnreadable unreadable self.old.notes.items self.new.notes.items) }
+        ensures tally { self.new.tally ≡ self.old.tally }
+        ensures groups { self.new.groups ≡ self.old.groups }
+        ensures window { self.new.window ≡ self.old.window }
+        ensures page { self.new.page ≡ self.old.page }
+    {
+        self.notes
+            .push(Note::Fails(Failing::unreadable(unreadable)))?;
+        Ok(())
+    }
+}

@@ -1,0 +1,3 @@
+pub mod RequestedOptions
+pub mod Described
+pub mod Ranges

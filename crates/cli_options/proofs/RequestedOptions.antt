@@ -1,0 +1,189 @@
+-- What the words of a command line ask for.
+use Rattle.std.proofs.Common.{◌≡◌, ◌≢◌, ◌<◌, ◌≤◌, ◌^◌, ◌&&◌, ◌⊎◌, ℕ, Bool, true, false, List, [], ◌∷◌, Some, None, Ok, Err, refl, sym, ◌∙◌, ap, ap₂, subst, inl, inr, arith}
+use Rattle.std.specs.Prelude.{Option, Result, IfOk, IfErr, if◌then◌else◌, nat_le, option_map}
+use Rattle.std.specs.Str.Parse.{ParsesUnsigned, digits_value, without_leading_plus}
+use Rattle.std.proofs.lemmas.Bool.Decides.{nat_tests}
+use Rattle.clap.proofs.OnLiterals.{clap_on_literals}
+use Rattle.clap.proofs.ValueTestLemmas.{accepts-Accepts, Accepts-accepts}
+use Rattle.clap.proofs.WalkLemmas.{one_text-rows}
+use Rattle.clap.specs.ValueTests.{is_unsigned_in}
+use Rattle.clap.specs.Words.{App, HasMatchesOf, IsAmong, Kinds, Row, Text, TriesOne, fault_of, is_simple, is_simple_and_free, one_of, one_text, rows_of, subcommand_of, subcommand_rows_of}
+use Rattle.clap.specs.declared.builder.value_parser.ValueParser.TheVariants.{Unsigned}
+use Rattle.clap.specs.declared.error.kind.ErrorKind.{ErrorKind}
+use Rattle.clap.specs.declared.error.kind.ErrorKind.TheVariants.{DisplayHelp, DisplayVersion, OutOfMemory}
+use Rattle.clap.specs.declared.parser.matches.ArgMatches.{ArgMatches}
+use Rattle.clap.specs.declared.parser.matches.Found.{Found}
+use Rattle.cli_options.specs.declared.fault.ToolFault.{ToolFault}
+use Rattle.cli_options.specs.declared.fault.ToolFault.TheVariants.{Refused, Device, Memory}
+use Rattle.cli_options.specs.declared.request.Request.{Request}
+use Rattle.cli_options.specs.declared.request.Request.TheVariants as request
+use Rattle.cli_options.specs.declared.request.Task.TheVariants as asked
+use Rattle.cli_options.specs.OptionValues.{Number, number_between, number_in}
+use Rattle.cli_options.specs.Request.{AsksBy, CallsForText, IsHelp, EncodesTo, ParsesNothing, ParsesWork, command_line}
+use Rattle.cli_options.specs.Status.{IsRefusedFor}
+
+-- ---- numbers and flags
+
+-- what is made of the number that was read
+abbrev pub made_of : {E : Type 0} → Number → Result (Option ℕ) E → Option ℕ
+made_of n (Ok (Some v)) = if nat_le n.least v && nat_le v n.greatest then Some v else None
+made_of n (Ok None) = n.left_out
+made_of n (Err e) = None
+
+-- a text that spells a number
+encoded_bytes : (least greatest v : ℕ) (t : Text) (b : Bool) → is_unsigned_in least greatest t ≡ b
+    → ParsesUnsigned {E = ℕ} 32 10 t (Ok v)
+    → (if nat_le least v && nat_le v greatest then Some v else None) ≡ (if b then Some (digits_value 10 (without_leading_plus t)) else None)
+encoded_bytes least greatest v t true is parses =
+    let a = accepts-Accepts false (Unsigned least greatest) t is in
+    grind (arith, nat_tests, a.2, parses.1)
+encoded_bytes least greatest v t false is parses = go (nat_le least v && nat_le v greatest) refl
+  where
+    go : (c : Bool) → (nat_le least v && nat_le v greatest) ≡ c → (if c then Some v else None) ≡ None
+    go false tests = refl
+    go true tests =
+        let low : least ≤ digits_value 10 (without_leading_plus t) = grind (arith, nat_tests, tests, parses.1) in
+        let high : digits_value 10 (without_leading_plus t) ≤ greatest = grind (arith, nat_tests, tests, parses.1) in
+        let yes : is_unsigned_in least greatest t ≡ true =
+        Accepts-accepts false (Unsigned least greatest) t (parses.0.0, omega (arith, parses.0.1), low, high) in
+        absurd cc
+
+-- a text that doesn't
+unspelled : {E : Type 0} (e : E) (least greatest : ℕ) (t : Text) (b : Bool) → is_unsigned_in least greatest t ≡ b → greatest < 2 ^ 32
+    → ParsesUnsigned {E = E} 32 10 t (Err e) → ◌≡◌ {A = Option ℕ} None (if b then Some (digits_value 10 (without_leading_plus t)) else None)
+unspelled e least greatest t false is few parses = refl
+unspelled e least greatest t true is few parses =
+    let a = accepts-Accepts false (Unsigned least greatest) t is in
+    absurd (parses (a.0, omega (arith, a.3, few)))
+
+tried : {E : Type 0} (gives : List ℕ → Result ℕ E → Type 0) (n : Number) (t : Text) (r : Result (Option ℕ) E)
+    → ((u : List ℕ) (y : Result ℕ E) → gives u y → ParsesUnsigned 32 10 u y) → n.greatest < 2 ^ 32 → TriesOne gives t r
+    → made_of n r ≡ number_between n.least n.greatest t
+tried gives n t (Ok (Some v)) parses few given = encoded_bytes n.least n.greatest v t (is_unsigned_in n.least n.greatest t) refl (parses t (Ok v) given)
+tried gives n t (Ok None) parses few given = absurd given
+tried gives n t (Err e) parses few given = unspelled e n.least n.greatest t (is_unsigned_in n.least n.greatest t) refl few (parses t (Err e) given)
+
+-- the number of an option
+pub number_read : {E : Type 0} (gives : List ℕ → Result ℕ E → Type 0) (n : Number) (found : Found) (r : Result (Option ℕ) E)
+    → ((u : List ℕ) (y : Result ℕ E) → gives u y → ParsesUnsigned 32 10 u y) → n.greatest < 2 ^ 32
+    → (one_text found n.name ≡ None → r ≡ Ok None) → ((t : List ℕ) → one_text found n.name ≡ Some t → TriesOne gives t r)
+    → made_of n r ≡ number_in n (rows_of found)
+number_read {E} gives n found r parses few none value = go (one_of n.name (rows_of found)) (one_text-rows found n.name)
+  where
+    go : (o : Option Text) → one_text found n.name ≡ o
+        → made_of n r ≡ number_in n (rows_of found)
+    go None is = rw (none is, sym (sym is ∙ one_text-rows found n.name)) refl
+    go (Some t) is = rw (sym (sym is ∙ one_text-rows found n.name)) (tried gives n t r parses few (value t is))
+
+-- ---- the command line
+
+-- what was entered is of this name, and has these rows
+pub entered_as : {C : Type 0} (f : C → Text × List Row) (entered : Option C) (name : Text) (rows : List Row)
+    → Some name ≡ option_map (λ c. (f c).0) entered → Some rows ≡ option_map (λ e. e.1) (option_map f entered)
+    → option_map f entered ≡ Some (name, rows)
+entered_as f None name rows is_name is_rows = absurd cc
+entered_as f (Some c) name rows is_name is_rows =
+    let named : (f c).0 ≡ name = cc in
+    let same : (f c).1 ≡ rows = cc in
+    ap₂ (λ (a : Text) (b : List Row). Some (a, b)) named same
+
+command_is_simple : is_simple command_line ≡ true
+unfolding clap_on_literals
+command_is_simple = refl
+
+command_is_free : is_simple_and_free command_line ≡ true
+unfolding clap_on_literals
+command_is_free = refl
+
+encodes_to : (words : List Text) (request : Request) → ParsesWork words request → EncodesTo words request
+encodes_to words (request.Task (asked.Help text)) (fine, (name, rows, entered, asks)) = absurd asks
+encodes_to words (request.Task asked.Audit) work = work
+encodes_to words (request.Task (asked.Show s)) work = work
+encodes_to words (request.Task (asked.Encode e)) work = work
+encodes_to words (request.Explain excerpt) work = work
+encodes_to words (request.Capture capturing) work = work
+encodes_to words (request.Serve service) work = work
+
+-- the matches are those of the words
+pub entered_by : (words : List Text) (m : ArgMatches) (app : App) → app ≡ command_line → HasMatchesOf app words m
+    → subcommand_rows_of m ≡ subcommand_of command_line words
+entered_by words m app is has =
+    (has (ap is_simple is ∙ command_is_simple)).1 ∙ ap (λ a. subcommand_of a words) is
+
+-- the words were taken
+pub asks_parsed : (words : List Text) (m : ArgMatches) (app : App) (r : Result Request ToolFault) → app ≡ command_line → HasMatchesOf app words m
+    → (is_simple_and_free app ≡ true → fault_of app words ≡ []) → IfOk r (AsksBy (subcommand_rows_of m)) → IfOk r (EncodesTo words)
+asks_parsed words m app (Ok request) is has fine asks =
+    let P : Option (Text × List Row) → Type 0 = λ e. AsksBy e request in
+    let F : App → Type 0 = λ a. fault_of a words ≡ [] in
+    encodes_to words request (subst F is (fine (ap is_simple_and_free is ∙ command_is_free)), subst P (entered_by words m app is has) asks)
+asks_parsed words m app (Err fault) is has fine asks = tt
+
+pub nothing_parsed : (words : List Text) (m : ArgMatches) (app : App) (text : List ℕ) (r : Result Request ToolFault) → app ≡ command_line
+    → HasMatchesOf app words m → (is_simple_and_free app ≡ true → fault_of app words ≡ [])
+    → IfErr r (IsRefusedFor ((request : Request) → AsksBy (subcommand_rows_of m) request → ⊥) text)
+    → IfErr r (IsRefusedFor (ParsesNothing words) text)
+nothing_parsed words m app text (Ok request) is has fine why = tt
+nothing_parsed words m app text (Err (Refused given)) is has fine (told, none) =
+    let F : App → Type 0 = λ a. fault_of a words ≡ [] in
+    let no_fault : fault_of command_line words ≡ [] = subst F is (fine (ap is_simple_and_free is ∙ command_is_free)) in (
+      told,
+      (
+        (λ help. let bad : ◌≡◌ {A = Kinds} [] (DisplayHelp ∷ []) = sym no_fault ∙ help in absurd cc),
+        (λ version. let bad : ◌≡◌ {A = Kinds} [] (DisplayVersion ∷ []) = sym no_fault ∙ version in absurd cc),
+        (λ request work.
+            let P : Option (Text × List Row) → Type 0 = λ e. AsksBy e request in
+            none request (subst P (sym (entered_by words m app is has)) work.1)),
+      ),
+    )
+nothing_parsed words m app text (Err (Device word)) is has fine why = why
+nothing_parsed words m app text (Err Memory) is has fine why = tt
+
+-- the words were refused for this kind, which isn't want of memory
+among_faults : (words : List Text) (app : App) (k : ErrorKind) → k ≢ OutOfMemory → app ≡ command_line
+    → (is_simple_and_free app ≡ true → (k ≡ OutOfMemory) ⊎ IsAmong k (fault_of app words)) → IsAmong k (fault_of command_line words)
+among_faults words app k no_memory is fails = elim (fails (ap is_simple_and_free is ∙ command_is_free)) [
+  | inl memory ↦ absurd (no_memory memory)
+  | inr among ↦ let Q : App → Type 0 = λ a. IsAmong k (fault_of a words) in subst Q is among
+]
+
+-- the words were refused, or call for a text
+pub asks_explained : (words : List Text) (app : App) (k : ErrorKind) (r : Result Request ToolFault) → app ≡ command_line
+    → (is_simple_and_free app ≡ true → (k ≡ OutOfMemory) ⊎ IsAmong k (fault_of app words)) → IfOk r (λ request. IsHelp request × CallsForText k)
+    → IfOk r (EncodesTo words)
+asks_explained words app k (Ok (request.Task (asked.Help text))) is fails (help, inl kind) =
+    inl (among_faults words app DisplayHelp (λ memory. absurd cc) is (subst (λ x. is_simple_and_free app ≡ true → (x ≡ OutOfMemory) ⊎ IsAmong x (fault_of app words)) kind fails))
+asks_explained words app k (Ok (request.Task (asked.Help text))) is fails (help, inr kind) =
+    inr (among_faults words app DisplayVersion (λ memory. absurd cc) is (subst (λ x. is_simple_and_free app ≡ true → (x ≡ OutOfMemory) ⊎ IsAmong x (fault_of app words)) kind fails))
+asks_explained words app k (Ok (request.Task asked.Audit)) is fails (help, kind) = absurd help
+asks_explained words app k (Ok (request.Task (asked.Show s))) is fails (help, kind) = absurd help
+asks_explained words app k (Ok (request.Task (asked.Encode e))) is fails (help, kind) = absurd help
+asks_explained words app k (Ok (request.Explain excerpt)) is fails (help, kind) = absurd help
+asks_explained words app k (Ok (request.Capture capturing)) is fails (help, kind) = absurd help
+asks_explained words app k (Ok (request.Serve service)) is fails (help, kind) = absurd help
+asks_explained words app k (Err fault) is fails help = tt
+
+another_kind : (k other : ErrorKind) (kinds : Kinds) → k ≢ other → IsAmong k kinds → kinds ≢ other ∷ []
+another_kind k other kinds differs among is = let P : Kinds → Type 0 = λ ks. IsAmong k ks in elim (subst P is among) [
+  | inl same ↦ differs same
+  | inr none ↦ none
+]
+
+some_kind : (k : ErrorKind) (kinds : Kinds) → IsAmong k kinds → kinds ≢ []
+some_kind k kinds among is = let P : Kinds → Type 0 = λ ks. IsAmong k ks in subst P is among
+
+pub nothing_explained : (words : List Text) (app : App) (k : ErrorKind) (text : List ℕ) (r : Result Request ToolFault) → app ≡ command_line
+    → (is_simple_and_free app ≡ true → (k ≡ OutOfMemory) ⊎ IsAmong k (fault_of app words))
+    → IfErr r (IsRefusedFor ((CallsForText k → ⊥) × (k ≢ OutOfMemory)) text) → IfErr r (IsRefusedFor (ParsesNothing words) text)
+nothing_explained words app k text (Ok request) is fails why = tt
+nothing_explained words app k text (Err (Refused given)) is fails (told, (no_text, no_memory)) =
+    let among = among_faults words app k no_memory is fails in (
+      told,
+      (
+        another_kind k DisplayHelp (fault_of command_line words) (λ same. no_text (inl same)) among,
+        another_kind k DisplayVersion (fault_of command_line words) (λ same. no_text (inr same)) among,
+        (λ request work. some_kind k (fault_of command_line words) among work.0),
+      ),
+    )
+nothing_explained words app k text (Err (Device word)) is fails why = why
+nothing_explained words app k text (Err Memory) is fails why = tt

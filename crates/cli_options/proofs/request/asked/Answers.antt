@@ -1,0 +1,11 @@
+use Rattle.std.proofs.Common.{◌≡◌, Some}
+use Rattle.clap.specs.Words.{found_of, rows_of, subcommand_rows_of}
+use Rattle.cli_options.proofs.RequestedOptions.{entered_as}
+use Rattle.cli_options.proofs.request.asked.Goals as goal
+
+pub returns-in-Some-asked_by-clause-asks : goal.returns-in-Some-asked_by-clause-asks
+returns-in-Some-asked_by-clause-asks c =
+    let rows = rows_of (found_of c.in-Some.options.now) in
+    let entered : subcommand_rows_of c.args.matches.now ≡ Some (c.in-Some.name.now, rows) =
+    entered_as _ _ _ _ c.in-Some.ensures.name c.in-Some.ensures.rows in
+    (c.in-Some.name.now, rows, entered, c.in-Some-asked_by.ensures.asks)

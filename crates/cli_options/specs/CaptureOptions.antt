@@ -1,0 +1,70 @@
+-- What the options of `hsms capture` are, and what they ask for.
+use Rattle.std.specs.Prelude.{◌≡◌, ◌≤◌, ◌++◌, List, [], ◌∷◌, codes, Option, Some, None, unwrap_or, ⊤}
+use Rattle.std.specs.Net.Grammar.{IsIpText}
+use Rattle.std.specs.declared.net.ip_addr.IpAddr.{IpAddr}
+use Rattle.clap.specs.Words.{Row, Rule, Text, first_of}
+use Rattle.hsms_machine.specs.declared.settings.Role.{Role}
+use Rattle.hsms_machine.specs.declared.settings.Role.TheVariants.{Host, Equipment}
+use Rattle.hsms_machine.specs.declared.settings.Side.{Side}
+use Rattle.hsms_machine.specs.declared.settings.Side.TheVariants.{Active, Passive}
+use Rattle.hsms_machine.specs.Settings.{Parameters}
+use Rattle.cli_options.specs.declared.capture_options.Capturing.{Capturing}
+use Rattle.cli_options.specs.OptionValues.{IsFlag, Number, depth_number, device_number, flag_option, max_number, number_in, option_of, text_option}
+use Rattle.cli_options.specs.ServeOptions.{HasNumbers, role_word, time_rules}
+
+-- ---- the options
+
+-- the TCP port of the end that listens
+abbrev pub captured_number : Number
+captured_number = record { name = codes "port"; least = 1; greatest = 65535; left_out = Some 5000 }
+
+abbrev pub place_rules : List Rule
+place_rules =
+    option_of captured_number ∷ text_option (codes "with") ∷ text_option (codes "active") ∷ text_option (codes "log")
+    ∷ flag_option (codes "joined") ∷ option_of device_number ∷ []
+
+abbrev pub size_rules : List Rule
+size_rules = option_of max_number ∷ option_of depth_number ∷ []
+
+abbrev pub capture_rules : List Rule
+capture_rules = place_rules ++ (time_rules ++ size_rules)
+
+-- ---- what they ask for
+
+-- what the other end of a connection is
+abbrev pub other_role : Role → Role
+other_role Host = Equipment
+other_role Equipment = Host
+
+-- the text of the option `with`, if any, is this address, if any
+abbrev pub IsPeer : Option Text → Option IpAddr → Type 0
+IsPeer None None = ⊤
+IsPeer (Some text) (Some address) = IsIpText text address
+IsPeer _ _ = ⊥
+
+abbrev pub HasPeer : List Row → Option IpAddr → Type 0
+HasPeer rows peer = IsPeer (first_of (codes "with") rows) peer
+
+-- the text of the option `log`, if any, that asks for the log of this role, or for none
+abbrev pub log_word : Option Role → Option Text
+log_word None = None
+log_word (Some role) = Some (role_word role)
+
+-- the end that connects has this role: that of the option `active`, and a host where it is left out
+abbrev pub HasActive : List Row → Role → Type 0
+HasActive rows role = unwrap_or (first_of (codes "active") rows) (codes "host") ≡ role_word role
+
+-- the matches have these settings of an end of this role and side, for a log of several connections
+abbrev pub HasEnd : List Row → Role → Side → Parameters → Type 0
+HasEnd rows role link s = (s.version ≡ 2) × (s.role ≡ role) × (s.link ≡ link) × HasNumbers rows s
+
+-- the matches ask for this of a capture: one end is what the option says, and the other one is the other
+abbrev pub HasCapturing : List Row → Capturing → Type 0
+HasCapturing rows capturing =
+    (number_in captured_number rows ≡ Some capturing.port) × HasPeer rows capturing.peer
+    × (first_of (codes "log") rows ≡ log_word capturing.log) × HasActive rows capturing.active.role × HasEnd rows capturing.active.role Active capturing.active
+    × HasEnd rows (other_role capturing.active.role) Passive capturing.passive × IsFlag (codes "joined") rows capturing.joined
+
+-- its port is within its limits; the numbers of settings are by their type
+abbrev pub IsCapturingWithinLimits : Capturing → Type 0
+IsCapturingWithinLimits capturing = (1 ≤ capturing.port) × (capturing.port ≤ 65535)

@@ -1,0 +1,146 @@
+-- What the words of a command line ask for, by the way in which `clap` reads them.
+use Rattle.std.specs.Prelude.{◌≡◌, ◌≢◌, ◌≤◌, ◌⊎◌, true, false, List, [], ◌∷◌, codes, Bool, Option, Some, None}
+use Rattle.clap.specs.Words.{App, IsAmong, Row, Shape, Text, fault_of, new_app, subcommand_of}
+use Rattle.clap.specs.declared.error.kind.ErrorKind.{ErrorKind}
+use Rattle.clap.specs.declared.error.kind.ErrorKind.TheVariants.{DisplayHelp, DisplayVersion}
+use Rattle.cli_options.specs.declared.request.Form.{Form}
+use Rattle.cli_options.specs.declared.request.Form.TheVariants as form
+use Rattle.cli_options.specs.declared.request.Request.{Request}
+use Rattle.cli_options.specs.declared.request.Request.TheVariants as request
+use Rattle.cli_options.specs.declared.request.Task.{Task}
+use Rattle.cli_options.specs.declared.request.Task.TheVariants as asked
+use Rattle.cli_options.specs.CaptureOptions.{HasCapturing, IsCapturingWithinLimits, capture_rules}
+use Rattle.cli_options.specs.OptionValues.{IsFlag, depth_number, device_number, flag_in, flag_option, max_number, number_in, option_of, system_number}
+use Rattle.cli_options.specs.ExplainOptions.{HasExcerpt, IsExcerptWithinLimits, explain_rules}
+use Rattle.cli_options.specs.ServeOptions.{AsksToServe, serve_rules}
+
+-- ---- the command that is described to `clap`
+
+-- a command of this name, with nothing else
+abbrev pub named : Text → Shape
+named name = (new_app name).top
+
+abbrev pub show_command : Shape
+show_command = record (named (codes "show")) {
+  rules = option_of max_number ∷ option_of depth_number ∷ flag_option (codes "hex") ∷ flag_option (codes "bare") ∷ [];
+}
+
+abbrev pub audit_command : Shape
+audit_command = named (codes "audit")
+
+abbrev pub explain_command : Shape
+explain_command = record (named (codes "explain")) { rules = explain_rules }
+
+abbrev pub capture_command : Shape
+capture_command = record (named (codes "capture")) { rules = capture_rules }
+
+abbrev pub encode_command : Shape
+encode_command = record (named (codes "encode")) {
+  rules = option_of device_number ∷ option_of system_number ∷ option_of max_number ∷ option_of depth_number ∷ flag_option (codes "hex") ∷ [];
+}
+
+abbrev pub serve_command : Shape
+serve_command = record (named (codes "serve")) { rules = serve_rules }
+
+-- the command, which wants one of the six subcommands, and has a version
+abbrev pub command_line : App
+command_line = record {
+  top = record (named (codes "hsms")) { is_leaf = false; subcommand_required = true; has_version = true };
+  subs = show_command ∷ audit_command ∷ explain_command ∷ capture_command ∷ encode_command ∷ serve_command ∷ [];
+}
+
+-- ---- what is asked for
+
+-- the form of the messages that are shown, by the flags `hex` and `bare`: the second one asks for the first
+abbrev pub form_by : Bool → Bool → Option Form
+form_by false false = Some form.Octets
+form_by true false = Some form.Lines
+form_by true true = Some form.BareLines
+form_by false true = None
+
+abbrev pub form_in : List Row → Option Form
+form_in rows = form_by (flag_in (codes "hex") rows) (flag_in (codes "bare") rows)
+
+-- the four octets that count the others are left out
+abbrev pub is_bare : Form → Bool
+is_bare form.Octets = false
+is_bare form.Lines = false
+is_bare form.BareLines = true
+
+-- what a subcommand of this name asks for, with these matches, where it is a task
+abbrev pub AsksForTask : Text → List Row → Task → Type 0
+AsksForTask name rows (asked.Help text) = ⊥
+AsksForTask name rows asked.Audit = name ≡ codes "audit"
+AsksForTask name rows (asked.Show s) =
+    (name ≡ codes "show") × (number_in max_number rows ≡ Some s.max) × (number_in depth_number rows ≡ Some s.depth)
+    × (form_in rows ≡ Some s.form)
+AsksForTask name rows (asked.Encode e) =
+    (name ≡ codes "encode") × (number_in device_number rows ≡ Some e.device) × (number_in system_number rows ≡ Some e.system)
+    × (number_in max_number rows ≡ Some e.max) × (number_in depth_number rows ≡ Some e.depth) × IsFlag (codes "hex") rows e.hex
+
+-- what a subcommand of this name asks for, with these matches
+abbrev pub AsksFor : Text → List Row → Request → Type 0
+AsksFor name rows (request.Task task) = AsksForTask name rows task
+AsksFor name rows (request.Explain excerpt) = (name ≡ codes "explain") × HasExcerpt rows excerpt
+AsksFor name rows (request.Capture capturing) = (name ≡ codes "capture") × HasCapturing rows capturing
+AsksFor name rows (request.Serve service) = (name ≡ codes "serve") × AsksToServe rows service
+
+-- what the matches of a parse ask for
+abbrev pub AsksBy : Option (Text × List Row) → Request → Type 0
+AsksBy entered request = (name : Text) × (rows : List Row) × (entered ≡ Some (name, rows)) × AsksFor name rows request
+
+-- the words are those of a subcommand, and ask for this
+abbrev pub ParsesWork : List Text → Request → Type 0
+ParsesWork words request = (fault_of command_line words ≡ []) × AsksBy (subcommand_of command_line words) request
+
+-- the kinds of error that call for a text: help, or the version
+abbrev pub CallsForText : ErrorKind → Type 0
+CallsForText kind = (kind ≡ DisplayHelp) ⊎ (kind ≡ DisplayVersion)
+
+-- the words ask for this task, or may call for help or for the version
+abbrev pub ParsesTask : List Text → Task → Type 0
+ParsesTask words (asked.Help text) = IsAmong DisplayHelp (fault_of command_line words) ⊎ IsAmong DisplayVersion (fault_of command_line words)
+ParsesTask words asked.Audit = ParsesWork words (request.Task asked.Audit)
+ParsesTask words (asked.Show s) = ParsesWork words (request.Task (asked.Show s))
+ParsesTask words (asked.Encode e) = ParsesWork words (request.Task (asked.Encode e))
+
+-- the words ask for this, or may call for help or for the version
+abbrev pub EncodesTo : List Text → Request → Type 0
+EncodesTo words (request.Task task) = ParsesTask words task
+EncodesTo words (request.Explain excerpt) = ParsesWork words (request.Explain excerpt)
+EncodesTo words (request.Capture capturing) = ParsesWork words (request.Capture capturing)
+EncodesTo words (request.Serve service) = ParsesWork words (request.Serve service)
+
+-- the words ask for no work, and nothing says that they call for help alone, or for the version alone
+abbrev pub ParsesNothing : List Text → Type 0
+ParsesNothing words =
+    (fault_of command_line words ≢ DisplayHelp ∷ []) × (fault_of command_line words ≢ DisplayVersion ∷ [])
+    × ((request : Request) → ParsesWork words request → ⊥)
+
+-- each number of a task is within its limits
+abbrev pub IsTaskWithinLimits : Task → Type 0
+IsTaskWithinLimits (asked.Help text) = Unit {0}
+IsTaskWithinLimits asked.Audit = Unit {0}
+IsTaskWithinLimits (asked.Show s) = (256 ≤ s.max) × (s.max ≤ 33554432) × (1 ≤ s.depth) × (s.depth ≤ 100)
+IsTaskWithinLimits (asked.Encode e) =
+    (e.device ≤ 32767) × (256 ≤ e.max) × (e.max ≤ 33554432) × (1 ≤ e.depth) × (e.depth ≤ 100)
+
+-- each number of a request is within its limits; those of settings are by their type
+abbrev pub IsWithinLimits : Request → Type 0
+IsWithinLimits (request.Task task) = IsTaskWithinLimits task
+IsWithinLimits (request.Explain excerpt) = IsExcerptWithinLimits excerpt
+IsWithinLimits (request.Capture capturing) = IsCapturingWithinLimits capturing
+IsWithinLimits (request.Serve service) = (1 ≤ service.port) × (service.port ≤ 65535)
+
+-- a text is to be printed
+abbrev pub IsHelpText : Task → Type 0
+IsHelpText (asked.Help text) = Unit {0}
+IsHelpText asked.Audit = ⊥
+IsHelpText (asked.Show s) = ⊥
+IsHelpText (asked.Encode e) = ⊥
+
+abbrev pub IsHelp : Request → Type 0
+IsHelp (request.Task task) = IsHelpText task
+IsHelp (request.Explain excerpt) = ⊥
+IsHelp (request.Capture capturing) = ⊥
+IsHelp (request.Serve service) = ⊥

@@ -1,0 +1,30 @@
+//! The command line of `hsms`: how it is described to `clap`, and what its words ask for.
+//!
+//! [`parse`] answers what the words ask for, as a [`Request`]: a [`Task`] between standard input and standard output, a
+//! log that is to be explained, a capture whose connections are to be looked at, or a connection that is to be served.
+//! What the command refuses, and what stops it, is a [`ToolFault`]; [`exit_status`] has the status with which the command
+//! ends:
+//!
+//! ```
+//! let request = parse(alloc, &words)?;
+//! let status = exit_status(&Err(ToolFault::Memory)); // 3
+//! ```
+#![tactic(auto)]
+
+mod capture_options;
+mod clap_command;
+mod explain_options;
+mod fault;
+mod option_tables;
+mod option_values;
+mod request;
+mod rule_texts;
+mod serve_options;
+
+pub use capture_options::Capturing;
+pub use clap_command::command;
+pub use explain_options::{Excerpt, Lines, OutputFormat};
+pub use fault::{ToolFault, exit_status, no_request, refusal, refused};
+pub use request::{Encoding, Form, Request, Showing, Task, parse};
+pub use rule_texts::sentence;
+pub use serve_options::{Repeat, Service};

@@ -1,0 +1,210 @@
+//! What the command line asks for. It is looked at before anything is read.
+
+ghost use Rattle.std.specs.Prelude.{◌≡◌, ◌≢◌, IfOk, IfErr, IfSome, None, codes, map, string_bytes};
+ghost use Rattle.clap.specs.Words.{found_of, kind_of, rows_of, subcommand_rows_of};
+ghost use Rattle.clap.specs.declared.error.kind.ErrorKind.TheVariants.{OutOfMemory};
+ghost use Rattle.cli_options.specs.Request.{AsksBy, AsksFor, AsksForTask, CallsForText, IsHelp, IsTaskWithinLimits, IsWithinLimits, EncodesTo, ParsesNothing, form_in};
+ghost use Rattle.cli_options.specs.Status.{IsRefusedFor};
+ghost use Rattle.cli_options.specs.declared.request.Encoding.{Encoding};
+ghost use Rattle.cli_options.specs.declared.request.Request.{Request};
+ghost use Rattle.cli_options.specs.declared.request.Showing.{Showing};
+ghost use Rattle.cli_options.specs.declared.request.Task.{Task};
+ghost use Rattle.cli_options.specs.declared.request.Task.TheVariants as asked;
+
+use crate::capture_options::{Capturing, capturing_of};
+use crate::clap_command::command;
+use crate::explain_options::{Excerpt, excerpt_of};
+use crate::fault::{ToolFault, no_request};
+use crate::option_tables::{DEVICE, MAX, SYSTEM};
+use crate::option_values::{depth_of, flag_of, number_of, short_of};
+use crate::serve_options::{Service, service_of};
+use clap::error::ErrorKind;
+use clap::{ArgMatches, Error};
+use std::alloc::Global;
+
+/// What the user asks for.
+#[derive(Debug, Drop)]
+pub enum Request<'a> {
+    /// A task between standard input and standard output.
+    Task(Task),
+    /// The log of standard input is to be explained, and this is to be told of it.
+    Explain(Excerpt),
+    /// The capture of standard input is to be read, and this is to be told of its connections.
+    Capture(Capturing),
+    /// A connection is to be served.
+    Serve(Service<'a>),
+}
+
+/// What is to be done with standard input and standard output.
+#[derive(Debug, Drop)]
+pub enum Task {
+    /// The text is to be printed.
+    Help(String),
+    /// The messages of standard input are to be shown.
+    Show(Showing),
+    /// The log of standard input is to be audited.
+    Audit,
+    /// The messages of standard input, in notation, are to be encoded.
+    Encode(Encoding),
+}
+
+/// How messages are shown: in which form they stand, how many octets header and text have at most, and how deep the
+/// lists of a readable text are nested at most.
+#[derive(Clone, Copy, Debug)]
+pub struct Showing {
+    pub max: u32,
+    pub depth: u8,
+    pub form: Form,
+}
+
+/// How messages are encoded: for which device, with which system bytes first, how many octets header and text have at
+/// most, how deep lists are nested at most, and whether as lines of hexadecimal in place of octets.
+#[derive(Clone, Copy, Debug)]
+pub struct Encoding {
+    pub device: u16,
+    pub system: u32,
+    pub max: u32,
+    pub depth: u8,
+    pub hex: bool,
+}
+
+/// In which form the messages of an input stand.
+#[derive(Clone, Copy, Debug)]
+pub enum Form {
+    /// As octets, one message behind another.
+    Octets,
+    /// As lines of hexadecimal, each of the octets of a message.
+    Lines,
+    /// As lines of hexadecimal, each of header and text alone: without the four octets that count them.
+    BareLines,
+}
+
+/// What the words of a command line ask for. The first one is the command's name.
+///
+/// # Errors
+///
+/// `Refused` in the words `command line`, where they ask for nothing that the command does; else `Memory`.
+pub fn parse<'a>(alloc: Global, words: &'a [String]) -> Result<Request<'a>, ToolFault>
+    ensures asks { IfOk result (EncodesTo (map string_bytes words.now)) }
+    ensures limits { IfOk result IsWithinLimits }
+    ensures refusal { IfErr result (IsRefusedFor (ParsesNothing (map string_bytes words.now)) (codes "command line")) }
+{
+    let command = command(alloc)?;
+    match command.try_get_matches_from(words) {
+        Ok(matches) => asked(alloc, &matches),
+        Err(error) => explained(alloc, &error),
+    }
+}
+
+fn asked<'a>(alloc: Global, matches: &ArgMatches<'a>) -> Result<Request<'a>, ToolFault>
+    ensures asks { IfOk result (AsksBy (subcommand_rows_of matches.now)) }
+    ensures limits { IfOk result IsWithinLimits }
+    ensures refusal { IfErr result (IsRefusedFor
+        ((request : Request) → AsksBy (subcommand_rows_of matches.now) request → ⊥) (codes "command line")) }
+{
+    match matches.subcommand() {
+        Some((name, options)) => match asked_by(name, options) {
+            Some(request) => Ok(request),
+            None => Err(no_request(alloc)),
+        },
+        None => Err(no_request(alloc)),
+    }
+}
+
+// What a subcommand asks for, with these options.
+fn asked_by<'a>(name: &str, options: &ArgMatches<'a>) -> Option<Request<'a>>
+    ensures asks { IfSome result (AsksFor name.now (rows_of (found_of options.now))) }
+    ensures limits { IfSome result IsWithinLimits }
+    ensures none { result ≡ None → (request : Request)
+        → AsksFor name.now (rows_of (found_of options.now)) request → ⊥ }
+{
+    match name {
+        "explain" => Some(Request::Explain(excerpt_of(options)?)),
+        "capture" => Some(Request::Capture(capturing_of(options)?)),
+        // The toolchain has no rule for `?` here, by which words are handed on that are borrowed.
+        "serve" => match service_of(options) {
+            Some(service) => Some(Request::Serve(service)),
+            None => None,
+        },
+        _ => Some(Request::Task(task_of(name, options)?)),
+    }
+}
+
+// The same, where it is a task.
+fn task_of(name: &str, options: &ArgMatches<'_>) -> Option<Task>
+    ensures asks { IfSome result (AsksForTask name.now (rows_of (found_of options.now))) }
+    ensures limits { IfSome result IsTaskWithinLimits }
+    ensures none { result ≡ None → (task : Task) → AsksForTask name.now (rows_of (found_of options.now)) task → ⊥ }
+{
+    match name {
+        "audit" => Some(Task::Audit),
+        "show" => Some(Task::Show(showing_of(options)?)),
+        "encode" => Some(Task::Encode(encoding_of(options)?)),
+        _ => None,
+    }
+}
+
+// How `hsms show` is to show messages.
+fn showing_of(options: &ArgMatches<'_>) -> Option<Showing>
+    ensures asks { IfSome result (λ s. AsksForTask (codes "show") (rows_of (found_of options.now)) (asked.Show s)) }
+    ensures limits { IfSome result (λ s. IsTaskWithinLimits (asked.Show s)) }
+    ensures none { result ≡ None → (s : Showing)
+        → AsksForTask (codes "show") (rows_of (found_of options.now)) (asked.Show s) → ⊥ }
+{
+    Some(Showing {
+        max: number_of(options, MAX)?,
+        depth: depth_of(options)?,
+        form: form_of(options)?,
+    })
+}
+
+// How `hsms encode` is to encode messages.
+fn encoding_of(options: &ArgMatches<'_>) -> Option<Encoding>
+    ensures asks { IfSome result (λ e. AsksForTask (codes "encode") (rows_of (found_of options.now)) (asked.Encode e)) }
+    ensures limits { IfSome result (λ e. IsTaskWithinLimits (asked.Encode e)) }
+    ensures none { result ≡ None → (e : Encoding)
+        → AsksForTask (codes "encode") (rows_of (found_of options.now)) (asked.Encode e) → ⊥ }
+{
+    match (
+        short_of(options, DEVICE),
+        number_of(options, SYSTEM),
+        number_of(options, MAX),
+        depth_of(options),
+    ) {
+        (Some(device), Some(system), Some(max), Some(depth)) => Some(Encoding {
+            device,
+            system,
+            max,
+            depth,
+            hex: flag_of(options, "hex"),
+        }),
+        _ => None,
+    }
+}
+
+fn form_of(options: &ArgMatches<'_>) -> Option<Form>
+    ensures { result ≡ form_in (rows_of (found_of options.now)) }
+{
+    match (flag_of(options, "hex"), flag_of(options, "bare")) {
+        (false, false) => Some(Form::Octets),
+        (true, false) => Some(Form::Lines),
+        (true, true) => Some(Form::BareLines),
+        (false, true) => None,
+    }
+}
+
+// The answer where `clap` doesn't match the words: the text of help or of the version, or a refusal.
+fn explained<'a>(alloc: Global, error: &Error) -> Result<Request<'a>, ToolFault>
+    ensures help { IfOk result (λ request. IsHelp request × CallsForText (kind_of error.now)) }
+    ensures limits { IfOk result IsWithinLimits }
+    ensures refusal { IfErr result (IsRefusedFor
+        ((CallsForText (kind_of error.now) → ⊥) × (kind_of error.now ≢ OutOfMemory)) (codes "command line")) }
+{
+    match error.kind() {
+        ErrorKind::DisplayHelp | ErrorKind::DisplayVersion => {
+            Ok(Request::Task(Task::Help(error.to_string(alloc)?)))
+        }
+        ErrorKind::OutOfMemory => Err(ToolFault::Memory),
+        _ => Err(no_request(alloc)),
+    }
+}

@@ -1,0 +1,185 @@
+//! The options of `hsms serve`: which connection is to be served, and how.
+
+ghost use Rattle.std.specs.Prelude.{◌≡◌, ◌≤◌, IfSome, Some, None, codes};
+ghost use Rattle.clap.specs.Words.{first_of, found_of, rows_of};
+ghost use Rattle.hsms_machine.specs.Settings.{Parameters};
+ghost use Rattle.hsms_machine.specs.declared.settings.Role.{Role};
+ghost use Rattle.hsms_machine.specs.declared.settings.Side.{Side};
+ghost use Rattle.cli_options.specs.ServeOptions.{AsksToServe, HasNumbers, HasOwnNumbers, HasRepeat, HasSettings, limits_repeat as has_limits, role_word, side_word};
+ghost use Rattle.cli_options.specs.declared.serve_options.Repeat.{Repeat};
+ghost use Rattle.cli_options.specs.declared.serve_options.Service.{Service};
+
+use crate::option_tables::{
+    CONNECTIONS, DEVICE, FIRST_SYSTEM, LINKTEST, MAX, PORT, T3, T5, T6, T7, T8, TURNS,
+};
+use crate::option_values::{depth_of, flag_of, number_of, short_of, text_of, text_or};
+use clap::ArgMatches;
+use hsms_machine::{Role, Settings, Side};
+
+/// A connection that is to be served.
+#[derive(Clone, Copy, Debug)]
+pub struct Service<'a> {
+    /// The settings of the end that serves it. An active one connects, and a passive one listens (SEMI E37, section 6).
+    pub settings: Settings,
+    /// Where it connects to, or listens: an IP address or the name of a host.
+    pub address: &'a str,
+    /// The TCP port there, from 1.
+    pub port: u16,
+    /// The system bytes of its first own message.
+    pub first_system: u32,
+    /// How many turns it takes at most.
+    pub turns: u32,
+    /// After how long a pause it tests its link by Linktest.req, in milliseconds (SEMI E37, section 7); 0 is never.
+    pub linktest: u32,
+    /// The model that equipment tells of itself.
+    pub mdln: &'a str,
+    /// The software revision that equipment tells of itself.
+    pub softrev: &'a str,
+    /// Whether standard input is a script of messages that are to be sent, and then the session is to be separated.
+    pub send: bool,
+    /// Whether the messages of standard input that have an even function are replies of its desk.
+    pub answer: bool,
+    /// Whether status 1 follows where a step of the script was refused, or was left when the connection ended.
+    pub all_sent: bool,
+    /// Whether connections are served one after the other, and which.
+    pub repeat: Repeat,
+}
+
+/// Whether connections are served one after the other, and which.
+#[derive(Clone, Copy, Debug)]
+pub struct Repeat {
+    /// Whether further connections follow the first one, in the same log. Else the other fields are ignored.
+    pub again: bool,
+    /// Whether the script is taken in the first connection alone.
+    pub once: bool,
+    /// How many connections are served at most, from 1.
+    pub connections: u32,
+    /// How long an active end waits before it connects again, in milliseconds (SEMI E37, section 10, T5).
+    pub t5: u32,
+}
+
+/// What the options of `hsms serve` ask for, if they have values that they may have.
+pub fn service_of<'a>(options: &ArgMatches<'a>) -> Option<Service<'a>>
+    ensures asks { IfSome result (AsksToServe (rows_of (found_of options.now))) }
+    ensures port { IfSome result (λ service. (1 ≤ service.port) × (service.port ≤ 65535)) }
+    ensures none { result ≡ None → (service : Service) → AsksToServe (rows_of (found_of options.now)) service → ⊥ }
+{
+    let (port, first_system, turns, linktest) = numbers_of(options)?;
+    Some(Service {
+        settings: settings_of(options)?,
+        address: text_of(options, "address")?,
+        repeat: repeat_of(options)?,
+        port,
+        first_system,
+        turns,
+        linktest,
+        mdln: text_or(options, "mdln", ""),
+        softrev: text_or(options, "softrev", ""),
+        send: flag_of(options, "send"),
+        answer: flag_of(options, "answer"),
+        all_sent: flag_of(options, "all-sent"),
+    })
+}
+
+// Of a service its port, its first system bytes, how many turns it takes, and when it tests its link.
+fn numbers_of(options: &ArgMatches<'_>) -> Option<(u16, u32, u32, u32)>
+    ensures asks { IfSome result (λ n. HasOwnNumbers (rows_of (found_of options.now)) n.0 n.1 n.2 n.3) }
+    ensures port { IfSome result (λ n. (1 ≤ n.0) × (n.0 ≤ 65535)) }
+    ensures none { result ≡ None → (s : Service)
+        → HasOwnNumbers (rows_of (found_of options.now)) s.port s.first_system s.turns s.linktest → ⊥ }
+{
+    match (
+        short_of(options, PORT),
+        number_of(options, FIRST_SYSTEM),
+        number_of(options, TURNS),
+        number_of(options, LINKTEST),
+    ) {
+        (Some(port), Some(first_system), Some(turns), Some(linktest)) => {
+            Some((port, first_system, turns, linktest))
+        }
+        _ => None,
+    }
+}
+
+// Whether connections are served one after the other, and which, by these options.
+fn repeat_of(options: &ArgMatches<'_>) -> Option<Repeat>
+    ensures asks { IfSome result (HasRepeat (rows_of (found_of options.now))) }
+    ensures none { result ≡ None → (repeat : Repeat) → HasRepeat (rows_of (found_of options.now)) repeat → ⊥ }
+{
+    let again = flag_of(options, "again");
+    if !again && limits_repeat(options) {
+        return None;
+    }
+    Some(Repeat {
+        connections: number_of(options, CONNECTIONS)?,
+        t5: number_of(options, T5)?,
+        again,
+        once: flag_of(options, "once"),
+    })
+}
+
+// Whether these options say something of further connections.
+fn limits_repeat(options: &ArgMatches<'_>) -> bool
+    ensures { result ≡ has_limits (rows_of (found_of options.now)) }
+{
+    flag_of(options, "once")
+        || text_of(options, "connections").is_some()
+        || text_of(options, "t5").is_some()
+}
+
+// The settings of an end of the role and side that these options name, for a log of one connection.
+fn settings_of(options: &ArgMatches<'_>) -> Option<Settings>
+    ensures asks { IfSome result (HasSettings (rows_of (found_of options.now))) }
+    ensures none { result ≡ None → (settings : Parameters) → HasSettings (rows_of (found_of options.now)) settings → ⊥ }
+{
+    let role = role_named(text_of(options, "role")?)?;
+    settings_with(options, role, side_of(options)?)
+}
+
+/// The settings of an end of this role and side with the numbers of the options, for a log of one connection.
+pub fn settings_with(options: &ArgMatches<'_>, role: Role, link: Side) -> Option<Settings>
+    ensures ends { IfSome result (λ s. (s.version ≡ 1) × (s.role ≡ role) × (s.link ≡ link)) }
+    ensures asks { IfSome result (HasNumbers (rows_of (found_of options.now))) }
+    ensures none { result ≡ None → (settings : Parameters) → HasNumbers (rows_of (found_of options.now)) settings → ⊥ }
+{
+    match (
+        short_of(options, DEVICE),
+        number_of(options, T3),
+        number_of(options, T6),
+        number_of(options, T7),
+        number_of(options, T8),
+        number_of(options, MAX),
+        depth_of(options),
+    ) {
+        (Some(device), Some(t3), Some(t6), Some(t7), Some(t8), Some(max), Some(depth)) => {
+            Settings::new(role, link, device, t3, t6, t7, t8, max, depth)
+        }
+        _ => None,
+    }
+}
+
+/// The role of this name.
+pub fn role_named(name: &str) -> Option<Role>
+    ensures some { IfSome result (λ role. name.now ≡ role_word role) }
+    ensures none { result ≡ None → (role : Role) → name.now ≡ role_word role → ⊥ }
+{
+    match name {
+        "host" => Some(Role::Host),
+        "equipment" => Some(Role::Equipment),
+        _ => None,
+    }
+}
+
+// The side that these options name.
+fn side_of(options: &ArgMatches<'_>) -> Option<Side>
+    ensures some { IfSome result (λ side. first_of (codes "link") (rows_of (found_of options.now)) ≡ Some (side_word side)) }
+    ensures none { result ≡ None → (side : Side)
+        → first_of (codes "link") (rows_of (found_of options.now)) ≡ Some (side_word side) → ⊥ }
+{
+    match text_of(options, "link") {
+        Some("active") => Some(Side::Active),
+        Some("passive") => Some(Side::Passive),
+        Some(_) => None,
+        None => None,
+    }
+}

@@ -1,0 +1,4 @@
+pub mod Devices
+pub mod DigitTable
+pub mod LinePremises
+pub mod LineBuffers

@@ -1,0 +1,4 @@
+pub mod IoErrors
+pub mod LineBuffer
+pub mod Line
+pub mod Verdict

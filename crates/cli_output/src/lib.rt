@@ -1,0 +1,21 @@
+//! The lines that the command writes, and what holds them on their way: the line of a message, and that of a verdict.
+//!
+//! [`append_line`] lays the line of a message behind those that are held, [`append_hex_line`] that of its octets, [`put_out`]
+//! writes what is held, and [`put`] writes at once:
+//!
+//! ```
+//! append_line(&mut sink, &mut held, header, text, 100)?;
+//! put_out(&mut sink, &mut held)?;
+//! ```
+#![tactic(auto)]
+
+mod data_line;
+mod digits;
+mod line;
+mod line_buffer;
+mod line_parts;
+mod verdict;
+
+pub use line::give_line;
+pub use line_buffer::{append_hex_line, append_line, put, put_out};
+pub use verdict::verdict_line;

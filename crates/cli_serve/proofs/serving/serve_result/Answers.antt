@@ -1,0 +1,4 @@
+use Rattle.cli_serve.proofs.serving.link_state.Goals as goal
+
+pub returns-in-Err : goal.returns-in-Err
+returns-in-Err c = rw c.in-Err.is c.tool_fault_of.ensures

@@ -1,0 +1,3 @@
+pub mod CallCounts
+pub mod Script
+pub mod Serving

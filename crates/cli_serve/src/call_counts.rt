@@ -1,0 +1,40 @@
+//! The counts that a link keeps of its calls.
+
+ghost use Rattle.std.specs.Prelude.{Err, []};
+ghost use Rattle.hsms_ends.specs.Link.{IsGot, Waits};
+ghost use Rattle.cli_serve.specs.CallCounts.{recorded_of};
+
+use hsms_ends::{Got, LinkFault};
+
+/// How many waits were answered, how many of them by `Closed`, and whether the last one so; how often the link failed.
+/// The counts stay at their greatest value.
+#[derive(Clone, Copy, Debug, Default)]
+pub struct Counters {
+    pub waits: u64,
+    pub closes: u64,
+    pub is_closed: bool,
+    pub failures: u64,
+}
+
+impl Counters {
+    /// Counts a wait that is answered.
+    pub fn reception(&mut self, got: Got, into: &[u8]) -> Result<Got, LinkFault>
+        requires { IsGot into.now got }
+        ensures { Waits (recorded_of self.old) (recorded_of self.new) into.now result }
+    {
+        self.waits = self.waits.saturating_add(1);
+        self.is_closed = matches!(got, Got::Closed);
+        if self.is_closed {
+            self.closes = self.closes.saturating_add(1);
+        }
+        Ok(got)
+    }
+
+    /// Counts a wait that fails, or a send, which leaves the same.
+    pub fn failed(&mut self) -> LinkFault
+        ensures { Waits (recorded_of self.old) (recorded_of self.new) [] (Err result) }
+    {
+        self.failures = self.failures.saturating_add(1);
+        LinkFault
+    }
+}

@@ -1,0 +1,23 @@
+//! What `hsms serve` asks for: the script and the desk of the end that is served, its connections as links, and how what
+//! came of it is told.
+//!
+//! [`serve_to`] and [`serve_again_to`] serve any link. [`connected`] makes one of TCP connections, with a clock, and
+//! [`Lines`] puts each line of a log out as a whole.
+#![tactic(auto)]
+
+mod attempt;
+mod call_counts;
+mod handler_choice;
+mod line_writer;
+mod script;
+mod serving;
+mod tcp_link;
+mod tcp_stream;
+
+pub use attempt::{Attempts, ConnectError};
+pub use call_counts::Counters;
+pub use handler_choice::{ChosenHandler, desk_of};
+pub use line_writer::Lines;
+pub use script::{Script, read_script};
+pub use serving::{again_result, serve_again_to, serve_result, serve_to, tool_fault_of};
+pub use tcp_link::{SocketLink, connected, unconnected};

@@ -1,0 +1,79 @@
+//! The script of `hsms serve`: messages in notation.
+
+ghost use Rattle.std.specs.Prelude.{◌≡◌, ◌++◌, IfOk, IfErr, OnOk, [], ◌∷◌, codes, filter, map, not, if◌then◌else◌};
+ghost use Rattle.hsms_ends.specs.declared.step.Step.TheVariants.{Send, Separate};
+ghost use Rattle.hsms_frame.specs.CallCounts.{next_count};
+ghost use Rattle.hsms_frame.specs.Io.{IfRecorded};
+ghost use Rattle.cli_serve.specs.Script.{IsNoScript, IsScript, is_reply};
+ghost use Rattle.cli_output.specs.IoErrors.{CountsFailure, HasWord};
+
+use cli_filters::{INPUT_LIMIT, messages_of, read_whole};
+use cli_options::{Service, ToolFault};
+use hsms_ends::Step;
+use hsms_frame::Source;
+use secs_text::Message;
+use std::alloc::{AllocError, Global};
+
+/// What a script asks for.
+#[derive(Debug, Drop)]
+pub struct Script {
+    /// What the end is told, one after the other.
+    pub steps: Vec<Step>,
+    /// What its desk replies by.
+    pub replies: Vec<Message>,
+}
+
+/// Reads the whole input as messages in notation, for a service. Where that is to answer, those with an even function are
+/// replies (SEMI E5, function). The others are steps, each of which is sent; where it is to send, the session is separated
+/// then (SEMI E37, section 7).
+///
+/// # Errors
+///
+/// - `Refused`: the input has more than 67,108,864 octets (`Input`), or isn't messages within the depth of the service's
+///   settings (`Syntax`, `Number`, `Count`, `Deep`).
+/// - `Device`: `Read`, where a read failed in this call, and at most 67,108,864 octets were taken before it.
+/// - `Memory`.
+pub fn read_script<R: Source>(
+    alloc: Global,
+    source: &mut R,
+    service: &Service<'_>,
+) -> Result<Script, ToolFault>
+    ensures ok { IfOk result (λ script. IfRecorded (R.state source.old).left
+        (IsScript service.now.settings.depth service.now.send service.now.answer script)) }
+    ensures err { IfErr result (λ fault. IfRecorded (R.state source.old).left
+        (λ input. IsNoScript service.now.settings.depth input fault (R.state source.new).left)) }
+    ensures word { IfErr result (HasWord (codes "Read")) }
+    ensures end { OnOk result ((R.state source.new).ends ≡ next_count (R.state source.old).ends) }
+    ensures reads { CountsFailure (codes "Read") result (R.state source.old).failures (R.state source.new).failures }
+{
+    let input = read_whole(alloc, source, INPUT_LIMIT)?;
+    let messages = messages_of(alloc, &input, service.settings.depth())?;
+    let (replies, sent) = parted(alloc, messages, service.answer)?;
+    let steps = steps_of(alloc, sent, service.send)?;
+    Ok(Script { steps, replies })
+}
+
+// The replies among messages, and the others.
+fn parted(
+    alloc: Global,
+    messages: Vec<Message>,
+    answer: bool,
+) -> Result<(Vec<Message>, Vec<Message>), AllocError>
+    ensures { IfOk result (λ parts. (parts.0.items ≡ filter (is_reply answer) messages.items)
+        × (parts.1.items ≡ filter (λ m. not (is_reply answer m)) messages.items)) }
+{
+    messages
+        .into_iter()
+        .partition(alloc, |message| answer && message.function() % 2 == 0)
+}
+
+// Each message is sent, and then the session is separated where it is to be.
+fn steps_of(alloc: Global, messages: Vec<Message>, send: bool) -> Result<Vec<Step>, AllocError>
+    ensures { IfOk result (λ steps. steps.items ≡ map (λ m. Send m) messages.items ++ (if send then Separate ∷ [] else [])) }
+{
+    let mut steps: Vec<Step> = messages.into_iter().map(Step::Send).collect(alloc)?;
+    if send {
+        steps.push(Step::Separate)?;
+    }
+    Ok(steps)
+}

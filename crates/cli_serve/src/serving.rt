@@ -1,0 +1,139 @@
+//! `hsms serve`: one connection, served.
+
+ghost use Rattle.std.specs.Prelude.{◌≡◌, if◌then◌else◌, []};
+ghost use Rattle.hsms_machine.specs.Settings.{several_of};
+ghost use Rattle.hsms_ends.specs.Reconnect.{ServesAgain};
+ghost use Rattle.cli_serve.specs.Serving.{ServesTo, ReturnsServeFault, ReturnsServed, ReturnsServedAgain, own_answer, pause_for};
+
+use crate::handler_choice::ChosenHandler;
+use cli_options::{Service, ToolFault};
+use hsms_ends::{
+    Again, Lent, Link, ServeFault, ServedAgain, ServedScript, Step, serve_again, serve_testing,
+};
+use hsms_frame::Sink;
+use std::alloc::Global;
+
+/// Serves a connection as a service asks, and writes its log.
+///
+/// # Errors
+///
+/// - `Link`: the link failed.
+/// - `Log`: a write to the log failed.
+/// - `Turns`: all turns are used, and the connection is still up.
+/// - `Memory`.
+///
+/// What the log holds passes the audit, but for a part of a line after `Log`.
+pub fn serve_to<L: Link, W: Sink>(
+    alloc: Global,
+    link: &mut L,
+    log: &mut W,
+    service: &Service<'_>,
+    desk: ChosenHandler,
+    script: &[Step],
+) -> Result<ServedScript, ServeFault>
+    ensures { ServesTo service.now desk script.now result (W.state log.old) (W.state log.new)
+        (L.link_state link.old) (L.link_state link.new) }
+{
+    serve_testing(
+        alloc,
+        link,
+        log,
+        service.settings,
+        desk,
+        service.first_system,
+        script,
+        pause_of(service.linktest),
+        u64::from(service.turns),
+    )
+}
+
+// After how many milliseconds of quiet the link is tested, if it is.
+fn pause_of(linktest: u32) -> Option<u64>
+    ensures { result ≡ pause_for linktest }
+{
+    (linktest != 0).then_some(u64::from(linktest))
+}
+
+/// Serves connection after connection as a service asks, and writes one log of them.
+///
+/// # Errors
+///
+/// `Log`, `Turns` and `Memory`, as those of a connection. A link that failed is followed by the next connection.
+///
+/// What the log holds passes the audit, but for a part of a line after `Log`.
+pub fn serve_again_to<L: Again, W: Sink>(
+    alloc: Global,
+    link: &mut L,
+    log: &mut W,
+    service: &Service<'_>,
+    desk: Lent<'_, ChosenHandler>,
+    script: &[Step],
+) -> Result<ServedAgain, ServeFault>
+    ensures { ServesAgain (λ lent. own_answer lent.desk.now) (pause_for service.now.linktest) desk.entry
+        (several_of service.now.settings)
+        service.now.first_system script.now (if service.now.repeat.once then [] else script.now) service.now.turns
+        service.now.repeat.connections result (W.state log.old) (W.state log.new) (L.link_state link.old) (L.link_state link.new) }
+{
+    serve_again(
+        alloc,
+        link,
+        log,
+        service.settings,
+        desk,
+        service.first_system,
+        script,
+        later_steps(script, service.repeat.once),
+        pause_of(service.linktest),
+        u64::from(service.turns),
+        u64::from(service.repeat.connections),
+    )
+}
+
+// The script of each connection but the first.
+fn later_steps<'a>(script: &'a [Step], once: bool) -> &'a [Step]
+    ensures { result.now ≡ (if once then [] else script.now) }
+{
+    if once { &script[..0] } else { script }
+}
+
+/// What came of serving connections one after the other, as the command tells it, and why no further one was had, if
+/// one is wanting. Where all is to be sent, it is well only where each connection was complete.
+pub fn again_result(
+    all_sent: bool,
+    served: Result<ServedAgain, ServeFault>,
+    wanting: Option<ServeFault>,
+) -> Result<bool, ToolFault>
+    ensures { ReturnsServedAgain all_sent served wanting result }
+{
+    match (served, wanting) {
+        (Ok(served), None) => Ok(!all_sent || served.complete),
+        (Ok(_), Some(fault)) => Err(tool_fault_of(fault)),
+        (Err(fault), _) => Err(tool_fault_of(fault)),
+    }
+}
+
+/// What came of serving, as the command tells it: `Device` with the name of a fault, but for `Memory`. Where all is to be
+/// sent, it is well only where each step of the script was taken, and none refused.
+pub fn serve_result(
+    all_sent: bool,
+    served: Result<ServedScript, ServeFault>,
+) -> Result<bool, ToolFault>
+    ensures { ReturnsServed all_sent served result }
+{
+    match served {
+        Ok(served) => Ok(!all_sent || served.is_complete()),
+        Err(fault) => Err(tool_fault_of(fault)),
+    }
+}
+
+/// A fault of serving, as the command tells it.
+pub fn tool_fault_of(fault: ServeFault) -> ToolFault
+    ensures { ReturnsServeFault fault result }
+{
+    match fault {
+        ServeFault::Link => ToolFault::Device("Link"),
+        ServeFault::Log => ToolFault::Device("Log"),
+        ServeFault::Turns => ToolFault::Device("Turns"),
+        ServeFault::Memory => ToolFault::Memory,
+    }
+}

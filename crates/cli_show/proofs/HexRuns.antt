@@ -1,0 +1,196 @@
+-- Runs of `hsms show --hex`, one line after another.
+use Rattle.std.proofs.Common.{◌≡◌, ◌≤◌, ◌+◌, ◌++◌, ℕ, Bool, true, false, List, [], ◌∷◌, length, None, Some, Ok, Err, refl, sym, ◌∙◌, ap, subst, inl, inr, arith}
+use Rattle.std.specs.Prelude.{Option, Result}
+use Rattle.std.proofs.lemmas.List.{append-nil, append_assoc, length-append}
+use Rattle.std.proofs.lemmas.Grind.{flat_map-append}
+use Rattle.hsms_frame.specs.Io.{IfRecorded, Grows, GrowsByFront}
+use Rattle.cli_options.specs.declared.fault.ToolFault.{ToolFault}
+use Rattle.cli_options.specs.declared.fault.ToolFault.TheVariants.{Refused, Device, Memory}
+use Rattle.cli_show.specs.ReadAhead.{subsequent}
+use Rattle.cli_output.specs.LineBuffer.{GrowsHolding}
+use Rattle.cli_output.specs.IoErrors.{IsWrite, LeavesPart}
+use Rattle.cli_show.specs.ShowHex.{IsAllRead, IsLine, ShowsHex, ShowsLine, ShowsLines, ShowsNextLine, StopsAt, ended, decoded_octets}
+use Rattle.cli_show.proofs.Runs.{holding_front, holding_out, holding_then}
+
+-- one line more
+ShowsLines-push : (bare : Bool) (max depth : ℕ) (lines : List (List ℕ)) (shown line last : List ℕ) → ShowsLines bare max depth lines shown → IsLine max line
+    → ShowsLine bare max depth line last → ShowsLines bare max depth (lines ++ line ∷ []) (shown ++ last)
+ShowsLines-push bare max depth [] shown line last none is shows =
+    (last, [], is, shows, refl, ap (λ xs. xs ++ last) none ∙ sym (append-nil last))
+ShowsLines-push bare max depth (l ∷ ls) shown line last (first, rest, one, shows_one, others, parts) is shows =
+    (first, rest ++ last, one, shows_one, ShowsLines-push bare max depth ls rest line last others is shows, ap (λ xs. xs ++ last) parts ∙ append_assoc first rest last)
+
+-- after some lines
+abbrev pub BegunLines : Bool → ℕ → ℕ → List ℕ → ℕ → Option (List ℕ) → Option (List ℕ) → Option (List ℕ) → List ℕ → Type 0
+BegunLines bare max depth input count left old new held =
+    (lines : List (List ℕ)) × (shown rest : List ℕ) × (length lines ≡ count) × ShowsLines bare max depth lines shown × (input ≡ ended lines ++ rest)
+    × (left ≡ Some rest) × GrowsHolding old [] new held shown
+
+-- the next line, of what is left
+abbrev pub NextLine : Bool → ℕ → ℕ → ℕ → Option (List ℕ) → Result Bool ToolFault → Option (List ℕ) → Option (List ℕ) → List ℕ → Option (List ℕ) → List ℕ → Type 0
+NextLine bare max depth number before result left old held new now =
+    IfRecorded before (λ input. ShowsNextLine bare max depth number input result left old held new now)
+
+pub lines_begin : (bare : Bool) (max depth : ℕ) (input ahead : List ℕ) (left written : Option (List ℕ)) (held : List ℕ) → held ≡ [] → ahead ≡ [] → left ≡ Some input
+    → BegunLines bare max depth input 0 (subsequent ahead left) written written held
+lines_begin bare max depth input ahead left written held nothing none known_input = (
+  [],
+  [],
+  input,
+  refl,
+  refl,
+  refl,
+  ap (λ (xs : List ℕ). subsequent xs left) none ∙ ap (subsequent []) known_input,
+  ([], nothing, (λ octets is. is ∙ ap Some (sym (append-nil octets)))),
+)
+
+pub lines_go_on : (bare : Bool) (max depth : ℕ) (input : List ℕ) (count : ℕ) (before left old mid : Option (List ℕ)) (held : List ℕ) (new : Option (List ℕ)) (now : List ℕ)
+    → BegunLines bare max depth input count before old mid held → NextLine bare max depth (count + 1) before (Ok true) left mid held new now
+    → BegunLines bare max depth input (count + 1) left old new now
+lines_go_on bare max depth input count before left old mid held new now (lines, shown, rest, size, shows, reads, known_input, grows) next =
+    let n = next rest known_input in
+    let line : List ℕ = n.0 in
+    let after : List ℕ = n.1 in
+    let last : List ℕ = n.2 in
+    let feed : List ℕ → List ℕ = λ xs. xs ++ 10 ∷ [] in
+    let more : ended (lines ++ line ∷ []) ≡ ended lines ++ (line ++ 10 ∷ []) =
+    flat_map-append feed lines (line ∷ []) ∙ ap (λ x. ended lines ++ x) (append-nil (line ++ 10 ∷ [])) in (
+      lines ++ line ∷ [],
+      shown ++ last,
+      after,
+      omega (arith, length-append lines (line ∷ []), size),
+      ShowsLines-push bare max depth lines shown line last shows n.4 n.5,
+      reads ∙ ap (λ x. ended lines ++ x) (n.3 ∙ sym (append_assoc line (10 ∷ []) after)) ∙ sym (append_assoc (ended lines) (line ++ 10 ∷ []) after)
+          ∙ ap (λ x. x ++ after) (sym more),
+      n.6,
+      holding_then old [] mid held new now shown last grows n.7,
+    )
+
+-- the run stops
+stops_whole : (bare : Bool) (max depth number : ℕ) (rest shown held : List ℕ) (r : Result Bool ToolFault) (left old mid new : Option (List ℕ)) → GrowsHolding old [] mid held shown
+    → StopsAt bare max depth number rest held r left mid new → StopsAt bare max depth number rest shown r left old new
+stops_whole bare max depth number rest shown held (Ok well) left old mid new grows (last, is, shows, known_input, out) =
+    (last, is, shows, known_input, growing old mid new held shown last grows out)
+  where
+    growing : (old mid new : Option (List ℕ)) (held shown last : List ℕ) → GrowsHolding old [] mid held shown → Grows mid new (held ++ last) → Grows old new (shown ++ last)
+    growing old mid new held shown last (put, one, grows) out = λ octets known_input.
+        out (octets ++ put) (grows octets known_input)
+        ∙ ap Some (append_assoc octets put (held ++ last) ∙ ap (λ o. octets ++ o) (sym (append_assoc put held last) ∙ ap (λ o. o ++ last) one))
+stops_whole bare max depth number rest shown held (Err (Refused words)) left old mid new grows (why, leaves, out) =
+    (why, leaves, holding_out old [] mid held new shown grows out)
+stops_whole bare max depth number rest shown held (Err (Device word)) left old mid new grows (inl (is, stops, out)) =
+    inl (is, stops, holding_out old [] mid held new shown grows out)
+stops_whole bare max depth number rest shown held (Err (Device word)) left old mid new grows (inr (inl (is, leaves, more, may, front))) =
+    inr (inl (is, leaves, more, may, holding_front old [] mid held new shown more grows front))
+stops_whole bare max depth number rest shown held (Err (Device word)) left old mid new grows (inr (inr (is, full, proceeds, leaves, out))) =
+    inr (inr (is, full, proceeds, leaves, holding_out old [] mid held new shown grows out))
+stops_whole bare max depth number rest shown held (Err Memory) left old mid new grows (leaves, out) = (leaves, holding_out old [] mid held new shown grows out)
+
+-- the same of an answer without a value
+as_done : (bare : Bool) (max depth number : ℕ) (rest shown : List ℕ) (left old new : Option (List ℕ)) → StopsAt {T = Bool} bare max depth number rest shown (Ok false) left old new
+    → StopsAt {T = Unit {0}} bare max depth number rest shown (Ok tt) left old new
+as_done bare max depth number rest shown left old new stops = stops
+
+as_fault : (bare : Bool) (max depth number : ℕ) (rest shown : List ℕ) (fault : ToolFault) (left old new : Option (List ℕ))
+    → StopsAt {T = Bool} bare max depth number rest shown (Err fault) left old new → StopsAt {T = Unit {0}} bare max depth number rest shown (Err fault) left old new
+as_fault bare max depth number rest shown (Refused words) left old new stops = stops
+as_fault bare max depth number rest shown (Device word) left old new stops = stops
+as_fault bare max depth number rest shown Memory left old new stops = stops
+
+numbered : (bare : Bool) (max depth count number : ℕ) (rest shown : List ℕ) (r : Result Bool ToolFault) (left old new : Option (List ℕ)) → count ≡ number
+    → StopsAt bare max depth (number + 1) rest shown r left old new → StopsAt bare max depth (count + 1) rest shown r left old new
+numbered bare max depth count number rest shown r left old new same stops =
+    let P : ℕ → Type 0 = λ n. StopsAt bare max depth (n + 1) rest shown r left old new in subst P (sym same) stops
+
+pub lines_end : (bare : Bool) (max depth : ℕ) (input : List ℕ) (count : ℕ) (before left old mid : Option (List ℕ)) (held : List ℕ) (new : Option (List ℕ)) (now : List ℕ) → count ≤ 4294967295
+    → BegunLines bare max depth input count before old mid held → NextLine bare max depth (count + 1) before (Ok false) left mid held new now
+    → ShowsHex {T = Unit {0}} bare max depth input (Ok tt) left old new
+lines_end bare max depth input count before left old mid held new now few (lines, shown, rest, size, shows, reads, known_input, grows) next = (
+  lines,
+  shown,
+  rest,
+  reads,
+  shows,
+  omega (arith, few, size),
+  as_done bare max depth (length lines + 1) rest shown left old new
+      (numbered bare max depth (length lines) count rest shown (Ok false) left old new size
+      (stops_whole bare max depth (count + 1) rest shown held (Ok false) left old mid new grows (next rest known_input))),
+)
+
+pub lines_stop : (bare : Bool) (max depth : ℕ) (input : List ℕ) (count : ℕ) (fault : ToolFault) (before left old mid : Option (List ℕ)) (held : List ℕ) (new : Option (List ℕ)) (now : List ℕ)
+    → count ≤ 4294967295 → BegunLines bare max depth input count before old mid held → NextLine bare max depth (count + 1) before (Err fault) left mid held new now
+    → ShowsHex {T = Unit {0}} bare max depth input (Err fault) left old new
+lines_stop bare max depth input count fault before left old mid held new now few (lines, shown, rest, size, shows, reads, known_input, grows) next = (
+  lines,
+  shown,
+  rest,
+  reads,
+  shows,
+  omega (arith, few, size),
+  as_fault bare max depth (length lines + 1) rest shown fault left old new
+      (numbered bare max depth (length lines) count rest shown (Err fault) left old new size
+      (stops_whole bare max depth (count + 1) rest shown held (Err fault) left old mid new grows (next rest known_input))),
+)
+
+-- memory is wanting before the first line
+pub no_line : (bare : Bool) (max depth : ℕ) (input : List ℕ) (left written : Option (List ℕ)) → left ≡ Some input → ShowsHex {T = Unit {0}} bare max depth input (Err Memory) left written written
+no_line bare max depth input left written known_input = (
+  [],
+  [],
+  input,
+  refl,
+  refl,
+  omega arith,
+  (([], input, refl, known_input), (λ octets is. is ∙ ap Some (sym (append-nil octets)))),
+)
+
+-- as many lines as the command passes
+no_more_lines : (bare : Bool) (max depth number : ℕ) (rest shown : List ℕ) (r : Result (Unit {0}) ToolFault) (left old new : Option (List ℕ)) → number ≡ 4294967296
+    → Grows old new shown → IsAllRead rest r left → StopsAt bare max depth number rest shown r left old new
+unfolding decoded_octets
+no_more_lines bare max depth number rest shown (Ok _) left old new full grows (none, known_input) =
+    let P : List ℕ → Type 0 = λ xs. IsLine max xs × ShowsLine bare max depth xs [] in
+    let empty : IsLine max [] × ShowsLine bare max depth [] [] = (((λ k d less. absurd (omega arith)), omega arith), ([], refl, inl (refl, refl))) in
+    let here : IsLine max rest × ShowsLine bare max depth rest [] = subst P (sym none) empty in
+    ([], here.0, here.1, known_input, (λ octets is. grows octets is ∙ ap (λ (o : List ℕ). Some (octets ++ o)) (sym (append-nil shown))))
+no_more_lines bare max depth number rest shown (Err (Refused words)) left old new full grows why = absurd why
+no_more_lines bare max depth number rest shown (Err (Device word)) left old new full grows (inl (is, known_input)) =
+    inl (is, ([], rest, refl, known_input, ((λ k d less. absurd (omega arith)), omega arith)), grows)
+no_more_lines bare max depth number rest shown (Err (Device word)) left old new full grows (inr (is, proceeds, leaves)) =
+    inr (inr (is, full, proceeds, leaves, grows))
+no_more_lines bare max depth number rest shown (Err Memory) left old new full grows leaves = (leaves, grows)
+
+pub lines_full : (bare : Bool) (max depth : ℕ) (input : List ℕ) (count : ℕ) (r : Result (Unit {0}) ToolFault) (before left old mid : Option (List ℕ)) (held : List ℕ) (new : Option (List ℕ))
+    → count ≡ 4294967295 → BegunLines bare max depth input count before old mid held → Grows mid new held → IfRecorded before (λ rest. IsAllRead rest r left)
+    → ShowsHex {T = Unit {0}} bare max depth input r left old new
+lines_full bare max depth input count r before left old mid held new full (lines, shown, rest, size, shows, reads, known_input, grows) out all = (
+  lines,
+  shown,
+  rest,
+  reads,
+  shows,
+  omega (arith, full, size),
+  no_more_lines bare max depth (length lines + 1) rest shown r left old new (omega (arith, full, size)) (holding_out old [] mid held new shown grows out) (all rest known_input),
+)
+
+-- what was read ahead is taken
+leaves_ahead : (ahead rest : List ℕ) (left : Option (List ℕ)) → subsequent ahead left ≡ Some rest → LeavesPart rest left
+leaves_ahead ahead rest None is = cc
+leaves_ahead ahead rest (Some others) is = let same : ahead ++ others ≡ rest = cc in (ahead, others, sym same, refl)
+
+-- a write failed once as many lines are passed
+pub lines_unwritten : (bare : Bool) (max depth : ℕ) (input : List ℕ) (count : ℕ) (fault : ToolFault) (left old mid : Option (List ℕ)) (held : List ℕ) (new : Option (List ℕ)) (ahead : List ℕ)
+    → count ≡ 4294967295 → BegunLines bare max depth input count (subsequent ahead left) old mid held → IsWrite fault → GrowsByFront mid new held
+    → ShowsHex {T = Unit {0}} bare max depth input (Err fault) left old new
+lines_unwritten bare max depth input count (Refused words) left old mid held new ahead full begun write front = absurd write
+lines_unwritten bare max depth input count Memory left old mid held new ahead full begun write front = absurd write
+lines_unwritten bare max depth input count (Device word) left old mid held new ahead full (lines, shown, rest, size, shows, reads, known_input, grows) write front =
+    let P : List ℕ → Type 0 = λ o. GrowsByFront mid new o in (
+      lines,
+      shown,
+      rest,
+      reads,
+      shows,
+      omega (arith, full, size),
+      inr (inl (write, leaves_ahead ahead rest left known_input, [], inl refl, holding_front old [] mid held new shown [] grows (subst P (sym (append-nil held)) front))),
+    )

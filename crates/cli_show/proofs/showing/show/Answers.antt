@@ -1,0 +1,64 @@
+use Rattle.std.proofs.Common.{arith, refl, ◌∙◌}
+use Rattle.std.proofs.lemmas.Result.{err_from_is_err_and}
+use Rattle.cli_show.proofs.Runs.{along, begins_unread, can_continue, none_begun, ends, input_is_no_write, stops, stops_full, stops_full_unwritten}
+use Rattle.cli_output.proofs.Devices.{of_input, wider}
+use Rattle.cli_show.proofs.showing.show.Goals as goal
+
+pub returns-in_err-ahead-clause-lines : goal.returns-in_err-ahead-clause-lines
+returns-in_err-ahead-clause-lines g c = λ input known_input.
+    let p = err_from_is_err_and c.from_residual.result c.from_residual.ensures.1 in
+    rw (p.1, p.2) (none_begun c.args.max c.args.depth input (g.R.Source.state c.args.source.now).left (g.W.Sink.state c.args.sink.now).written known_input)
+
+pub returns-in_err-held-clause-lines : goal.returns-in_err-held-clause-lines
+returns-in_err-held-clause-lines g c = λ input known_input.
+    let p = err_from_is_err_and c.from_residual-in_err-held.result c.from_residual-in_err-held.ensures.1 in
+    rw (p.1, p.2) (none_begun c.args.max c.args.depth input (g.R.Source.state c.args.source.now).left (g.W.Sink.state c.args.sink.now).written known_input)
+
+pub loop-init : goal.loop-init
+loop-init g c = (
+  (λ input known_input. begins_unread _ _ input _ _ _ _ c.in_ok-held.ensures c.in_ok-ahead.ensures known_input),
+  refl,
+  refl,
+  refl,
+)
+
+pub returns-in_err-show_next-clause-lines : goal.returns-in_err-show_next-clause-lines
+returns-in_err-show_next-clause-lines g c = λ input known_input.
+    let p = err_from_is_err_and c.from_residual-in_err-show_next.result c.from_residual-in_err-show_next.ensures.1 in
+    rw (p.1, p.2) (stops _ _ _ c.loop.counter _ _ (g.R.Source.state c.show_next.new.source).left _ _ _ (g.W.Sink.state c.show_next.new.sink).written c.show_next.new.held (omega arith)
+    (c.loop.invariant.0 input known_input) (along _ _ _ c.in_err-show_next.ensures.line))
+
+pub returns-then-not-branch-clause-lines : goal.returns-then-not-branch-clause-lines
+returns-then-not-branch-clause-lines g c = λ input known_input.
+    let line = rw c.if-not-branch.true at c.in_ok-show_next.ensures.line in
+    ends _ _ _ c.loop.counter _ (g.R.Source.state c.show_next.new.source).left _ _ _ (g.W.Sink.state c.show_next.new.sink).written c.show_next.new.held (omega arith)
+    (c.loop.invariant.0 input known_input) (along _ _ _ line)
+
+pub loop-preserved : goal.loop-preserved
+loop-preserved g c =
+    let line = rw c.if-not-branch.false at c.in_ok-show_next.ensures.line in (
+      (λ input known_input. can_continue _ _ _ _ _ _ _ _ _ _ _ (c.loop.invariant.0 input known_input) (along _ _ _ line)),
+      rw c.if-not-branch.false at c.in_ok-show_next.ensures.end ∙ c.loop.invariant.1,
+      c.in_ok-show_next.ensures.reads ∙ c.loop.invariant.2,
+      c.in_ok-show_next.ensures.writes ∙ c.loop.invariant.3,
+    )
+
+pub returns-clause-lines : goal.returns-clause-lines
+returns-clause-lines g c = λ input known_input.
+    stops_full _ _ _ c.loop.counter _ _ _ _ _ _ _ (omega arith) (c.loop.invariant.0 input known_input) c.in_ok-put_out.ensures.ok (along _ _ _ c.find_end.ensures.answer)
+
+pub returns-in_err-show_next-clause-word : goal.returns-in_err-show_next-clause-word
+returns-in_err-show_next-clause-word g c =
+    let p = err_from_is_err_and c.from_residual-in_err-show_next.result c.from_residual-in_err-show_next.ensures.1 in
+    rw (p.1, p.2) (wider _ c.in_err-show_next.ensures.word)
+
+pub returns-clause-word : goal.returns-clause-word
+returns-clause-word g c = of_input _ c.find_end.ensures.word
+
+pub returns-clause-writes : goal.returns-clause-writes
+returns-clause-writes g c = rw (c.in_ok-put_out.ensures.writes ∙ c.loop.invariant.3) (input_is_no_write _ _ _ c.find_end.ensures.word)
+
+pub returns-in_err-put_out-clause-lines : goal.returns-in_err-put_out-clause-lines
+returns-in_err-put_out-clause-lines g c = λ input known_input.
+    let p = err_from_is_err_and c.from_residual-in_err-put_out.result c.from_residual-in_err-put_out.ensures.1 in
+    rw (p.1, p.2) (stops_full_unwritten _ _ _ c.loop.counter _ _ _ _ _ _ _ c.loop.ahead (omega arith) refl (c.loop.invariant.0 input known_input) c.in_err-put_out.ensures.word c.in_err-put_out.ensures.some c.in_err-put_out.ensures.err)

@@ -1,0 +1,14 @@
+use Rattle.std.proofs.Common.{◌≡◌}
+use Rattle.hsms_frame.specs.Io.{IfRecorded}
+use Rattle.cli_show.specs.ReadAhead.{subsequent}
+use Rattle.cli_show.proofs.Runs.{Begun}
+use Rattle.cli_show.proofs.showing.show.Given as goal
+
+-- the lines of the messages so far are written or held, the end wasn't found, and no device failed
+abbrev pub invariant-loop : goal.invariant-loop
+invariant-loop g l =
+    IfRecorded (g.R.Source.state l.initial.source).left (λ input. Begun l.max l.depth input l.counter (subsequent l.ahead (g.R.Source.state l.source).left)
+    (g.W.Sink.state l.initial.sink).written (g.W.Sink.state l.sink).written l.held)
+    × ((g.R.Source.state l.source).ends ≡ (g.R.Source.state l.initial.source).ends)
+    × ((g.R.Source.state l.source).failures ≡ (g.R.Source.state l.initial.source).failures)
+    × ((g.W.Sink.state l.sink).failures ≡ (g.W.Sink.state l.initial.sink).failures)

@@ -1,0 +1,3 @@
+pub mod ReadAhead
+pub mod Show
+pub mod ShowHex

@@ -1,0 +1,122 @@
+//! The lines of an input that is read ahead.
+
+ghost use Rattle.std.specs.Prelude.{◌≡◌, ◌≤◌, ◌<◌, ◌++◌, [], IfOk, IfErr, codes, length, slice_index, take, if◌then◌else◌};
+ghost use Rattle.hsms_frame.specs.CallCounts.{next_count};
+ghost use Rattle.hsms_frame.specs.Io.{IfRecorded};
+ghost use Rattle.hsms_log.specs.Lines.{HasNone};
+ghost use Rattle.cli_output.specs.IoErrors.{CountsFailure, HasWord, IsReadOrWrite};
+ghost use Rattle.cli_show.specs.ShowHex.{EndsAt, FindsEnd, FindsEndHolding, IsPlaced, is_open};
+
+use crate::next_frame::read_more;
+use cli_options::ToolFault;
+use cli_output::put_out;
+use hsms_frame::{Ahead, Sink, Source};
+use memchr::memchr;
+use secs_text::Block;
+
+/// Where a line ends in octets.
+#[derive(Clone, Copy)]
+pub enum LineEnd {
+    /// Its line feed is at this place.
+    Feed(usize),
+    /// They have no line feed.
+    Open,
+    /// They have no line feed where a line may have one.
+    TooFar,
+}
+
+/// Where the next line ends in what was read ahead; `Open` only where the input ends. Lines that are held are written
+/// before more is read. A line has at most four times `max` and 64 octets.
+pub fn next_end<R: Source, W: Sink>(
+    source: &mut R,
+    sink: &mut W,
+    ahead: &mut Ahead,
+    held: &mut Block,
+    max: u32,
+) -> Result<LineEnd, ToolFault>
+    ensures end { IfRecorded (R.state source.old).left (λ rest. FindsEndHolding max (ahead.old ++ rest) result ahead.new
+        (R.state source.new).left (W.state sink.old).written held.old (W.state sink.new).written held.new) }
+    ensures placed { IfOk result (IsPlaced max ahead.new) }
+    ensures ends { IfOk result (λ end. (R.state source.new).ends
+        ≡ (if is_open end then next_count (R.state source.old).ends else (R.state source.old).ends)) }
+    ensures word { IfErr result IsReadOrWrite }
+    ensures reads { CountsFailure (codes "Read") result (R.state source.old).failures (R.state source.new).failures }
+    ensures writes { CountsFailure (codes "Write") result (W.state sink.old).failures (W.state sink.new).failures }
+{
+    match end_in(ahead.as_slice(), 0, max) {
+        LineEnd::Open => match put_out(sink, held) {
+            Ok(()) => read_to_end(source, ahead, held, max),
+            Err(fault) => Err(fault),
+        },
+        LineEnd::Feed(place) => Ok(LineEnd::Feed(place)),
+        LineEnd::TooFar => Ok(LineEnd::TooFar),
+    }
+}
+
+// Reads more until the line ends. What was there before isn't looked at again.
+#[inline(never)]
+fn read_to_end<R: Source>(
+    source: &mut R,
+    ahead: &mut Ahead,
+    held: &Block,
+    max: u32,
+) -> Result<LineEnd, ToolFault>
+    requires { held.now ≡ [] }
+    ensures end { IfRecorded (R.state source.old).left
+        (λ rest. FindsEnd max (ahead.old ++ rest) result ahead.new (R.state source.new).left) }
+    ensures placed { IfOk result (IsPlaced max ahead.new) }
+    ensures ends { IfOk result (λ end. (R.state source.new).ends
+        ≡ (if is_open end then next_count (R.state source.old).ends else (R.state source.old).ends)) }
+    ensures word { IfErr result (HasWord (codes "Read")) }
+    ensures reads { CountsFailure (codes "Read") result (R.state source.old).failures (R.state source.new).failures }
+{
+    let mut end = end_in(ahead.as_slice(), 0, max);
+    while is_to_be_read(end) {
+        let seen = ahead.as_slice().len();
+        if !read_more(ahead, source, held)? {
+            return Ok(LineEnd::Open);
+        }
+        end = end_in(ahead.as_slice(), seen, max);
+    }
+    Ok(end)
+}
+
+fn is_to_be_read(end: LineEnd) -> bool
+    ensures { result ≡ is_open end }
+{
+    match end {
+        LineEnd::Open => true,
+        LineEnd::Feed(_) | LineEnd::TooFar => false,
+    }
+}
+
+// Where a line ends in octets, of which so many have no line feed.
+#[inline(always)]
+fn end_in(octets: &[u8], seen: usize, max: u32) -> LineEnd
+    requires { seen ≤ length octets.now }
+    ensures placed { IsPlaced max octets.now result }
+    ensures end { HasNone 10 (take seen octets.now) → EndsAt max octets.now result }
+{
+    let place = place_of_feed(octets, seen);
+    if place > 4 * max as usize + 64 {
+        LineEnd::TooFar
+    } else if place < octets.len() {
+        LineEnd::Feed(place)
+    } else {
+        LineEnd::Open
+    }
+}
+
+// The place of the first line feed, or the end.
+#[inline(always)]
+fn place_of_feed(octets: &[u8], seen: usize) -> usize
+    requires { seen ≤ length octets.now }
+    ensures within { result ≤ length octets.now }
+    ensures feed { result < length octets.now → slice_index octets.now result ≡ 10 }
+    ensures none { HasNone 10 (take seen octets.now) → HasNone 10 (take result octets.now) }
+{
+    match memchr(b'\n', &octets[seen..]) {
+        Some(place) => seen + place,
+        None => octets.len(),
+    }
+}

@@ -1,0 +1,158 @@
+//! `hsms show`: messages in octets, as lines.
+
+ghost use Rattle.std.specs.Prelude.{◌≡◌, ◌≤◌, ◌+◌, ◌++◌, [], IfOk, IfErr, OnOk, codes, drop, length, take, if◌then◌else◌};
+ghost use Rattle.hsms_frame.specs.CallCounts.{count_failure, next_count};
+ghost use Rattle.hsms_frame.specs.Io.{IfRecorded};
+ghost use Rattle.cli_show.specs.ReadAhead.{left_after};
+ghost use Rattle.cli_output.specs.LineBuffer.{AppendsLine};
+ghost use Rattle.cli_output.specs.IoErrors.{CountsFailure, IsOfInput, IsReadOrWrite, IsReadWriteOrEndless, IsWrite};
+ghost use Rattle.cli_show.specs.Show.{Shows, ShowsNext, IsEnded};
+
+use crate::next_frame::{next_message, read_while_held, whole_front};
+use cli_options::ToolFault;
+use cli_output::{append_line, put_out};
+use hsms_frame::{Ahead, Header, Sink, Source};
+use secs_text::Block;
+use std::alloc::Global;
+
+/// Writes the line of each message of the input, in order, up to the end of the input or the first fault.
+///
+/// `max` is the greatest count of octets of header and text of a message. A data message is shown in notation where its
+/// text is empty or one item whose lists are nested at most `depth` deep, and else with its text in hexadecimal. The
+/// source is read in blocks: of a fault other than a failed read, octets behind the messages that are shown may be
+/// taken.
+///
+/// # Errors
+///
+/// - `Refused`, where the input isn't messages: `TooShort`, `TooLong` or `CutOff`. The lines of the messages before are
+///   written.
+/// - `Device`: `Read` or `Write`, where a device failed in this call, and `Endless`, where 4,294,967,295 messages are
+///   shown and one more is there. After a failed write a part of the next line may be written. After a failed read all
+///   messages that were taken whole are shown.
+/// - `Memory`. The lines of the messages before are written.
+pub fn show<R: Source, W: Sink>(
+    alloc: Global,
+    source: &mut R,
+    sink: &mut W,
+    max: u32,
+    depth: u8,
+) -> Result<(), ToolFault>
+    requires { depth ≤ 100 }
+    ensures lines { IfRecorded (R.state source.old).left (λ input. Shows max depth input result
+        (R.state source.new).left (W.state sink.old).written (W.state sink.new).written) }
+    // Where the source doesn't tell its octets, its end was found once all the same.
+    ensures end { OnOk result ((R.state source.new).ends ≡ next_count (R.state source.old).ends) }
+    ensures word { IfErr result IsReadWriteOrEndless }
+    ensures reads { CountsFailure (codes "Read") result (R.state source.old).failures (R.state source.new).failures }
+    ensures writes { CountsFailure (codes "Write") result (W.state sink.old).failures (W.state sink.new).failures }
+{
+    let mut ahead = Ahead::new(alloc)?;
+    let mut held = Block::new(alloc)?;
+    for _ in 0..u32::MAX {
+        if !show_next(alloc, source, sink, &mut ahead, &mut held, max, depth)? {
+            return Ok(());
+        }
+    }
+    put_out(sink, &mut held)?;
+    find_end(alloc, source, &mut ahead, &held, max)
+}
+
+// Looks for the end of the input, where as many messages are shown as the command shows.
+fn find_end<R: Source>(
+    alloc: Global,
+    source: &mut R,
+    ahead: &mut Ahead,
+    held: &Block,
+    max: u32,
+) -> Result<(), ToolFault>
+    requires { held.now ≡ [] }
+    ensures answer { IfRecorded (R.state source.old).left
+        (λ rest. IsEnded max (ahead.old ++ rest) result (R.state source.new).left) }
+    ensures end { OnOk result ((R.state source.new).ends ≡ next_count (R.state source.old).ends) }
+    ensures word { IfErr result IsOfInput }
+    ensures reads { CountsFailure (codes "Read") result (R.state source.old).failures (R.state source.new).failures }
+{
+    let Some(_) = next_message(alloc, source, ahead, held, max)? else {
+        return Ok(());
+    };
+    Err(ToolFault::Device("Endless"))
+}
+
+// Shows one message, if there is one. Its line is held. What is held is written only before more is read.
+#[inline(always)]
+fn show_next<R: Source, W: Sink>(
+    alloc: Global,
+    source: &mut R,
+    sink: &mut W,
+    ahead: &mut Ahead,
+    held: &mut Block,
+    max: u32,
+    depth: u8,
+) -> Result<bool, ToolFault>
+    requires { depth ≤ 100 }
+    ensures line { IfRecorded (R.state source.old).left (λ rest. ShowsNext max depth (ahead.old ++ rest) result
+        (left_after result ahead.new (R.state source.new).left) (W.state sink.old).written held.old (W.state sink.new).written held.new) }
+    ensures end { IfOk result (λ is_shown. (R.state source.new).ends
+        ≡ (if is_shown then (R.state source.old).ends else next_count (R.state source.old).ends)) }
+    ensures word { IfErr result IsReadOrWrite }
+    ensures reads { CountsFailure (codes "Read") result (R.state source.old).failures (R.state source.new).failures }
+    ensures writes { CountsFailure (codes "Write") result (W.state sink.old).failures (W.state sink.new).failures }
+{
+    let Some((header, size)) = whole_front(ahead.as_slice(), max) else {
+        return show_read(alloc, source, sink, ahead, held, max, depth);
+    };
+    append_prefix(sink, ahead, held, header, size, depth)?;
+    Ok(true)
+}
+
+// The same, where more is to be read first.
+#[inline(never)]
+fn show_read<R: Source, W: Sink>(
+    alloc: Global,
+    source: &mut R,
+    sink: &mut W,
+    ahead: &mut Ahead,
+    held: &mut Block,
+    max: u32,
+    depth: u8,
+) -> Result<bool, ToolFault>
+    requires { depth ≤ 100 }
+    ensures line { IfRecorded (R.state source.old).left (λ rest. ShowsNext max depth (ahead.old ++ rest) result
+        (left_after result ahead.new (R.state source.new).left) (W.state sink.old).written held.old (W.state sink.new).written held.new) }
+    ensures end { IfOk result (λ is_shown. (R.state source.new).ends
+        ≡ (if is_shown then (R.state source.old).ends else next_count (R.state source.old).ends)) }
+    ensures word { IfErr result IsReadOrWrite }
+    ensures reads { CountsFailure (codes "Read") result (R.state source.old).failures (R.state source.new).failures }
+    ensures writes { CountsFailure (codes "Write") result (W.state sink.old).failures (W.state sink.new).failures }
+{
+    let Some((header, size)) = read_while_held(alloc, source, sink, ahead, held, max)? else {
+        return Ok(false);
+    };
+    append_prefix(sink, ahead, held, header, size, depth)?;
+    Ok(true)
+}
+
+// Lays the line of the message at the front of what was read ahead, and passes the message.
+#[inline(always)]
+fn append_prefix<W: Sink>(
+    sink: &mut W,
+    ahead: &mut Ahead,
+    held: &mut Block,
+    header: Header,
+    size: usize,
+    depth: u8,
+) -> Result<(), ToolFault>
+    requires depth { depth ≤ 100 }
+    requires there { 14 + size ≤ length ahead.old }
+    ensures line { AppendsLine depth (record { header = header; text = take size (drop 14 ahead.old) }) result
+        (W.state sink.old).written held.old (W.state sink.new).written held.new }
+    ensures passed { OnOk result (ahead.new ≡ drop (14 + size) ahead.old) }
+    ensures word { IfErr result IsWrite }
+    ensures writes { (W.state sink.new).failures ≡ count_failure result (W.state sink.old).failures }
+{
+    let (_, subsequent) = ahead.as_slice().split_at(14);
+    let (text, _) = subsequent.split_at(size);
+    append_line(sink, held, header, text, depth)?;
+    ahead.pass(14 + size);
+    Ok(())
+}

@@ -1,5 +1,0 @@
-mod Hears
-mod Logs
-mod Addresses
-mod Pages
-mod Journals

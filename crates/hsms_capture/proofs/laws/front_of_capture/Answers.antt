@@ -1,9 +1,0 @@
-use Rattle.hsms_capture.proofs.Fronts.{front}
-use Rattle.hsms_capture.proofs.Sizes.{is_size}
-use Rattle.hsms_capture.proofs.laws.front_of_capture.Goals as goal
-
-pub returns-clause-front : goal.returns-clause-front
-returns-clause-front c = front
-
-pub returns-clause-sizes : goal.returns-clause-sizes
-returns-clause-sizes c = is_size

@@ -1,8 +1,0 @@
-use Rattle.hsms_capture.proofs.UpToDown.{first_is_up, only_first_is_up}
-use Rattle.hsms_capture.proofs.laws.up_comes_first.Goals as goal
-
-pub returns-clause-first : goal.returns-clause-first
-returns-clause-first c = first_is_up
-
-pub returns-clause-only : goal.returns-clause-only
-returns-clause-only c = only_first_is_up

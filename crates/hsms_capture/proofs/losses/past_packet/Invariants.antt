@@ -1,7 +1,0 @@
-use Rattle.std.proofs.Common.{◌≡◌, ◌++◌}
-use Rattle.hsms_capture.specs.Losses.{past_of}
-use Rattle.hsms_capture.proofs.losses.past_packet.Given as goal
-
--- none of those that were looked at lacks what it acknowledges
-abbrev pub invariant-loop-need : goal.invariant-loop-need
-invariant-loop-need l = past_of l.ends l.needs.items ≡ past_of l.ends (l.need-iterator.head.now ++ l.need-iterator.wrapped.now)

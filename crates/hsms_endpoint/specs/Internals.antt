@@ -1,0 +1,62 @@
+-- What is inside an end, beside its desk. Private functions alone speak of this.
+use Rattle.std.specs.Prelude.{◌≡◌, ℕ, ◌+◌, ◌^◌, ◌%◌, ◌++◌, Bool, true, false, List, max}
+use Rattle.hsms_frame.specs.declared.header.Header.{Header}
+use Rattle.hsms_frame.specs.Frame.{Frame}
+use Rattle.hsms_machine.specs.declared.entry.Entry.{Entry}
+use Rattle.hsms_machine.specs.declared.entry.Event.{Event}
+use Rattle.hsms_machine.specs.declared.entry.Event.TheVariants.{Sent}
+use Rattle.hsms_machine.specs.ViewRules.{view_after}
+use Rattle.hsms_endpoint.specs.declared.state.State.{State}
+use Rattle.hsms_endpoint.specs.PrimaryCounts.{name_in, once_more}
+use Rattle.hsms_endpoint.specs.EndState.{EndState}
+use Rattle.hsms_endpoint.specs.declared.fault.EndFault.{EndFault}
+use Rattle.hsms_endpoint.specs.declared.fault.EndFault.TheVariants.{Spent, NotUp}
+use Rattle.hsms_endpoint.specs.Turn.{processed_at}
+
+-- what it is known by
+abbrev pub known_of : State → Bool → EndState
+known_of end spent = record {
+  settings = end.settings;
+  view = end.tracker;
+  pending = end.framer.pending;
+  moment = end.moment;
+  next = end.next;
+  reception = end.reception;
+  asked = end.asked;
+  spent = spent;
+}
+
+abbrev pub known : State → EndState
+known end = known_of end false
+
+-- why a call that needs a connection is refused at once, by whether the end is spent and whether its connection is up
+abbrev pub IsRefusedAs : Bool → Bool → EndFault → Type 0
+IsRefusedAs spent up Spent = spent ≡ true
+IsRefusedAs spent up NotUp = (spent ≡ false) × (up ≡ false)
+IsRefusedAs spent up fault = ⊥
+
+abbrev pub entry_of : State → Event → Entry
+entry_of end event = record { time = end.moment; event = event }
+
+-- the end after an event at its moment
+abbrev pub after_event : State → Event → State
+after_event end event = record end { tracker = view_after end.tracker (entry_of end event) }
+
+-- the end after a frame was sent with this number; the next one is one more
+abbrev pub after_number : State → Frame → ℕ → State
+after_number end frame number = record (after_event end (Sent frame)) { next = (number + 1) % 2 ^ 32 }
+
+-- the end when octets have come
+abbrev pub after_octets : State → List ℕ → State
+after_octets end octets =
+    record end {
+      framer = record end.framer { pending = end.framer.pending ++ octets };
+      reception = processed_at octets end.moment end.reception;
+    }
+
+-- the end when the desk has been asked about a primary
+abbrev pub after_asking : State → Header → State
+after_asking end header = record end { asked = once_more (name_in header) end.asked }
+
+abbrev pub at_later : State → ℕ → State
+at_later end now = record end { moment = max end.moment now }

@@ -1,0 +1,13 @@
+use Rattle.std.proofs.Common.{◌-◌, ◌≤◌}
+use Rattle.hsms_ends.proofs.Reconnections.{SoFar}
+use Rattle.hsms_ends.proofs.reconnect.serve_again.Given as goal
+
+-- the connections so far are down, and the next one goes on from them
+abbrev pub invariant-loop-done : goal.invariant-loop-done
+invariant-loop-done g l =
+    (l.done ≤ l.connections)
+    × SoFar g.D.TurnDesk.answers_after l.pause l.desk l.several l.first_system l.turns l.script l.later l.since l.done l.complete
+    (g.W.Sink.state l.initial.log) (g.W.Sink.state l.log) (g.L.Link.link_state l.initial.link) (g.L.Link.link_state l.link)
+
+abbrev pub decreases-loop-done : goal.decreases-loop-done
+decreases-loop-done g l = l.connections - l.done

@@ -1,0 +1,143 @@
+//! Connection after connection, served in one log.
+
+ghost use Rattle.std.specs.Prelude.{◌≡◌};
+ghost use Rattle.hsms_machine.specs.Settings.{several_of};
+ghost use Rattle.hsms_ends.specs.Reconnect.{ServesAgain};
+ghost use Rattle.hsms_ends.specs.ReconnectSteps.{NextServed, script_at};
+ghost use Rattle.hsms_ends.specs.ServeSteps.{IsReady};
+
+use crate::fault::ServeFault;
+use crate::link::Again;
+use crate::serving::serve_end;
+use crate::step::Step;
+use hsms_endpoint::{Answer, End, TurnDesk};
+use hsms_frame::Sink;
+use hsms_log::write_settings;
+use hsms_machine::Settings;
+use secs_text::Message;
+use std::alloc::{AllocError, Global};
+
+/// A desk that is lent: each end of a run of connections has it.
+pub struct Lent<'a, D> {
+    /// The desk.
+    pub desk: &'a D,
+}
+
+impl<'a, D> Copy for Lent<'a, D> {}
+
+impl<'a, D> Clone for Lent<'a, D> {
+    fn clone(&self) -> Result<Lent<'a, D>, AllocError> {
+        Ok(*self)
+    }
+}
+
+impl<'a, D: TurnDesk> TurnDesk for Lent<'a, D> {
+    ghost answers_after = { λ lent. D.answers_after lent.desk.now };
+
+    fn answer_after(
+        &self,
+        alloc: Global,
+        message: &Message,
+        before: u64,
+    ) -> Result<Answer, AllocError> {
+        self.desk.answer_after(alloc, message, before)
+    }
+}
+
+/// What was served, connection after connection.
+#[derive(Clone, Copy, Debug, PartialEq, Eq)]
+pub struct ServedAgain {
+    /// How many connections went down.
+    pub connections: u64,
+    /// Whether each was served to its end, and each step of its script was taken, and none refused.
+    pub complete: bool,
+}
+
+/// Serves connection after connection, each as [`serve_testing`](crate::serve_testing) does, in one log of version 2, and
+/// says how many went down, and whether the script was taken in each. It ends after so many connections, and where the
+/// link has no further one.
+///
+/// The first connection has the script, and each further one the later script. Each end starts no earlier than at the
+/// time of the last entry before it, so that times go on, and it has asked the desk about nothing yet, so that turns begin
+/// anew. A connection that the link's fault ended is followed by the next one, as one that went down is; after any other
+/// fault no further one is served.
+///
+/// **The log is the text of a run of the session machine, so that `audit` passes it** (`ServesAgain`;
+/// `laws::served_again_log_passes`); after the answer `Log` whole lines and a part of the next one. The link is at no
+/// moment ahead of it, as with `serve`.
+///
+/// # Errors
+///
+/// `Log`, where the settings' line wasn't taken. Else the fault of the last connection: `Log`, `Turns` or `Memory`.
+pub fn serve_again<L: Again, W: Sink, D: TurnDesk + Copy>(
+    alloc: Global,
+    link: &mut L,
+    log: &mut W,
+    settings: Settings,
+    desk: D,
+    first_system: u32,
+    script: &[Step],
+    later: &[Step],
+    pause: Option<u64>,
+    turns: u64,
+    connections: u64,
+) -> Result<ServedAgain, ServeFault>
+    ensures { ServesAgain D.answers_after pause desk (several_of settings) first_system script.now later.now turns connections result
+        (W.state log.old) (W.state log.new) (L.link_state link.old) (L.link_state link.new) }
+{
+    let several = settings.several();
+    match write_settings(log, &several) {
+        Ok(()) => {}
+        Err(_) => return Err(ServeFault::Log),
+    }
+    let mut done = 0;
+    let mut since = 0;
+    let mut complete = true;
+    while done < connections && link.again() {
+        let mut end = End::since(alloc, several, desk, first_system, since);
+        let steps = steps_of(script, later, done);
+        let answer = serve_next(link, log, &mut end, steps, pause, turns);
+        let moment = end.last_time();
+        match answer {
+            Ok(is_complete) => {
+                since = moment;
+                complete &= is_complete;
+                done += 1;
+            }
+            Err(fault) => return Err(fault),
+        }
+    }
+    Ok(ServedAgain {
+        connections: done,
+        complete,
+    })
+}
+
+/// The script of a connection: the later one, unless it is the first.
+fn steps_of<'a>(script: &'a [Step], later: &'a [Step], done: u64) -> &'a [Step]
+    ensures { result.now ≡ script_at script.now later.now done }
+{
+    if done == 0 { script } else { later }
+}
+
+/// Serves the next connection. Says whether it was complete, or the fault after which no further one is served.
+fn serve_next<L: Again, W: Sink, D: TurnDesk>(
+    link: &mut L,
+    log: &mut W,
+    end: &mut End<D>,
+    script: &[Step],
+    pause: Option<u64>,
+    turns: u64,
+) -> Result<bool, ServeFault>
+    requires { IsReady end.old }
+    ensures { NextServed D.answers_after pause end.old end.new script.now turns result
+        (W.state log.old) (W.state log.new) (L.link_state link.old) (L.link_state link.new) }
+{
+    match serve_end(link, log, end, script, pause, turns) {
+        Ok(served) => Ok(served.is_complete()),
+        Err(ServeFault::Link) => Ok(false),
+        Err(ServeFault::Log) => Err(ServeFault::Log),
+        Err(ServeFault::Turns) => Err(ServeFault::Turns),
+        Err(ServeFault::Memory) => Err(ServeFault::Memory),
+    }
+}

@@ -1,8 +1,0 @@
-use Rattle.hsms_entity.specs.Turn.{tick}
-use Rattle.hsms_entity.proofs.Calls.{refused_at_once}
-use Rattle.hsms_entity.proofs.end.End.tick.Goals as goal
-
-pub returns-in_err-ready : goal.returns-in_err-ready
-returns-in_err-ready g c =
-    refused_at_once g.D.TurnDesk.answers_after c.self.inside.desk c.self.inside.state c.self.inside.spent c.args.self.now (tick c.args.now) c.in_err-ready.field-0.0 c.from_residual.result
-    c.self.view_is (λ down. down) c.in_err-ready.ensures.refused c.from_residual.ensures.1

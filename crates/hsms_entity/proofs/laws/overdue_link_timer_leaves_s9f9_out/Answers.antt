@@ -1,5 +1,0 @@
-use Rattle.hsms_entity.proofs.ExpiryOrder.{an_overdue_link_timer_leaves_s9f9_out}
-use Rattle.hsms_entity.proofs.laws.overdue_link_timer_leaves_s9f9_out.Goals as goal
-
-pub returns : goal.returns
-returns c = λ desk end now entries end' cause e h. an_overdue_link_timer_leaves_s9f9_out desk end now entries end' h cause e

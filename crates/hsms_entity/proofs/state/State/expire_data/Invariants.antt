@@ -1,9 +1,0 @@
-use Rattle.std.proofs.Common.{length}
-use Rattle.hsms_entity.specs.Expiring.{HasExpired}
-use Rattle.hsms_entity.proofs.state.State.expire_data.Given as goal
-
-abbrev pub invariant-oldest : goal.invariant-oldest
-invariant-oldest l = HasExpired l.fn.self l.fn.entries.items l.self l.entries.items l.expired.items
-
-abbrev pub decreases-oldest : goal.decreases-oldest
-decreases-oldest l = length l.self.tracker.sent_data

@@ -1,9 +1,0 @@
-use Rattle.hsms_entity.proofs.Acts.{logged, logged_after}
-use Rattle.hsms_entity.proofs.state.State.log.Goals as goal
-
-pub returns : goal.returns
-returns c = record {
-  does = logged c.args.self.now c.args.event c.step.new.self c.args.entries.now.items c.push.new.self.items c.in_ok-step.field-0 c.requires
-      c.in_ok-step.ensures.told c.in_ok-step.ensures.next c.in_ok-step.ensures.lawful c.in_ok-push.ensures.items;
-  after = logged_after c.args.self.now c.args.event c.step.new.self c.in_ok-step.field-0 c.requires c.in_ok-step.ensures.told c.in_ok-step.ensures.next;
-}

@@ -1,6 +1,0 @@
-use Rattle.std.proofs.Common.{sym}
-use Rattle.hsms_joined.proofs.Keeping.{silent_by}
-use Rattle.hsms_joined.proofs.gathering.Gathering.is_silent.Goals as goal
-
-pub returns : goal.returns
-returns c = silent_by c.args.self.now c.self.inside.packets.items c.self.inside.octets (sym c.self.view_is) c.self.invariant

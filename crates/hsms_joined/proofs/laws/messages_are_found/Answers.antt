@@ -1,8 +1,0 @@
-use Rattle.hsms_joined.proofs.Messages.{messages_are_found as found, found_are_messages}
-use Rattle.hsms_joined.proofs.laws.messages_are_found.Goals as goal
-
-pub returns-clause-each : goal.returns-clause-each
-returns-clause-each c = found
-
-pub returns-clause-only : goal.returns-clause-only
-returns-clause-only c = found_are_messages

@@ -1,8 +1,0 @@
-use Rattle.hsms_joined.proofs.Staying.{looks_on, ends_on}
-use Rattle.hsms_joined.proofs.laws.places_are_passed_once.Goals as goal
-
-pub returns-clause-more : goal.returns-clause-more
-returns-clause-more c = looks_on
-
-pub returns-clause-end : goal.returns-clause-end
-returns-clause-end c = ends_on

@@ -1,9 +1,0 @@
-pub mod Beginning
-pub mod Front
-pub mod Gathered
-pub mod Gathering
-pub mod Joining
-pub mod Laws
-pub mod Requests
-pub mod Supposed
-pub mod Numbers

@@ -1,4 +1,0 @@
-pub mod Devices
-pub mod DigitTable
-pub mod Givens
-pub mod Outlets

@@ -1,7 +1,0 @@
-use Rattle.std.proofs.Common.{refl}
-use Rattle.hex.specs.Hex.{encode_with}
-use Rattle.hsms_lines.proofs.digits.address_and_end.Goals as goal
-
-pub returns : goal.returns
-unfolding encode_with
-returns c = rw c.address.ensures refl

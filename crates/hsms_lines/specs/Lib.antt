@@ -1,4 +1,0 @@
-pub mod Devices
-pub mod Held
-pub mod Line
-pub mod Verdict

@@ -1,0 +1,67 @@
+-- What the judge of a log knows between two lines.
+use Rattle.std.specs.Prelude.{◌≡◌, ◌+◌, ◌++◌, ◌≤◌, if◌then◌else◌, ℕ, List, [], ◌∷◌, length, count_by, Option, Some, None, MatchOption}
+use Rattle.hsms_machine.specs.declared.entry.Entry.{Entry}
+use Rattle.hsms_machine.specs.declared.entry.Event.{Event}
+use Rattle.hsms_machine.specs.declared.entry.Event.TheVariants.{Sent, Taken, Discarded}
+use Rattle.hsms_machine.specs.View.{HasView}
+use Rattle.hsms_log.specs.declared.audit_state.Session.{Session}
+use Rattle.hsms_log.specs.declared.audit_state.LineChecker.{LineChecker}
+use Rattle.hsms_log.specs.declared.verdict.Why.{Why}
+use Rattle.hsms_log.specs.LineFormat.{settings_limit, line_limit}
+use Rattle.hsms_log.specs.Log.{EncodesLog}
+use Rattle.hsms_log.specs.Counters.{Counters}
+use Rattle.hsms_log.specs.Verdict.{FailsAfter, is_sent, is_taken, is_discarded, is_expired}
+
+-- the numbers of entries by kind
+pub record Counts (tally : Counters) (log : List Entry) : Type 0 where
+  pub entries : tally.entries ≡ length log
+  pub sent : tally.sent ≡ count_by (λ entry. is_sent entry.event) log
+  pub taken : tally.taken ≡ count_by (λ entry. is_taken entry.event) log
+  pub discarded : tally.discarded ≡ count_by (λ entry. is_discarded entry.event) log
+  pub expired : tally.expired ≡ count_by (λ entry. is_expired entry.event) log
+
+-- the counts after one entry more
+abbrev pub counted : Counters → Entry → Counters
+counted old entry = record {
+  lines = old.lines + 1;
+  entries = old.entries + 1;
+  sent = old.sent + (if is_sent entry.event then 1 else 0);
+  taken = old.taken + (if is_taken entry.event then 1 else 0);
+  discarded = old.discarded + (if is_discarded entry.event then 1 else 0);
+  expired = old.expired + (if is_expired entry.event then 1 else 0);
+}
+
+-- the session and the tally stand after these lines, which spell a run
+abbrev pub Tracks : Session → Counters → List (List ℕ) → Type 0
+Tracks session tally lines =
+    (log : List Entry) × EncodesLog lines session.settings log × HasView session.settings log session.tracker × Counts tally log
+
+-- What judging a line left, by what it answered: that the line doesn't fail, and then what was known after the lines
+-- before it is known after it, and it is counted; or why it fails after them, and it isn't.
+abbrev pub IsChecked : (old new : ℕ) → (Before After : List (List ℕ) → Type 0) → List ℕ → Option Why → Type 0
+IsChecked old new Before After line None =
+    (new ≡ old + 1) × ((before : List (List ℕ)) → Before before → After (before ++ line ∷ []))
+IsChecked old new Before After line (Some why) =
+    (new ≡ old) × ((before : List (List ℕ)) → Before before → FailsAfter before line why)
+
+-- the judge stands after these lines, which don't fail
+pub record Follows (line_checker : LineChecker) (lines : List (List ℕ)) : Type 0 where
+  pub number : line_checker.tally.lines ≡ length lines
+  pub state : MatchOption line_checker.session ((lines ≡ []) × Counts line_checker.tally []) (λ session. Tracks session line_checker.tally lines)
+
+-- the greatest length of the next line, without its end
+abbrev pub limit_after : Option Session → ℕ
+limit_after None = settings_limit
+limit_after (Some session) = line_limit session.settings.max
+
+-- how many octets have header and text of the message of an event
+abbrev pub message_size : Event → ℕ
+message_size (Sent frame) = 10 + length frame.text
+message_size (Taken frame) = 10 + length frame.text
+message_size (Discarded frame) = 10 + length frame.text
+message_size _ = 0
+
+-- the settings were read, and they allow the message of an entry
+abbrev pub Allows : Option Session → Entry → Type 0
+Allows None entry = ⊥
+Allows (Some session) entry = message_size entry.event ≤ session.settings.max

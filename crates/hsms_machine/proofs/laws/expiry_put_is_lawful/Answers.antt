@@ -1,5 +1,0 @@
-use Rattle.hsms_machine.proofs.Expiring.{expiry_put}
-use Rattle.hsms_machine.proofs.laws.expiry_put_is_lawful.Goals as goal
-
-pub returns : goal.returns
-returns c = expiry_put

@@ -1,3 +1,0 @@
-pub mod Asked
-pub mod Described
-pub mod Ranges

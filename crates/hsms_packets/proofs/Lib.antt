@@ -1,6 +1,0 @@
-mod Options
-mod Behind
-mod OneReading
-mod Behaving
-mod Staying
-mod Stepping

@@ -1,4 +1,0 @@
-use Rattle.hsms_packets.proofs.segment.+tagged.Given as goal
-
-abbrev pub decreases-tagged : goal.decreases-tagged
-decreases-tagged l = l.left

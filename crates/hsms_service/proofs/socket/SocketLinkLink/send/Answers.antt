@@ -1,4 +1,0 @@
-use Rattle.hsms_service.proofs.socket.SocketLinkLink.send.Goals as goal
-
-pub returns-in_default-clause-sent : goal.returns-in_default-clause-sent
-returns-in_default-clause-sent g c = c.failed.ensures

@@ -1,4 +1,0 @@
-use Rattle.hsms_service.proofs.socket.SocketLinkLink.wait.Goals as goal
-
-pub returns-in-Err-2 : goal.returns-in-Err-2
-returns-in-Err-2 g c = c.failed.ensures

@@ -1,7 +1,0 @@
-pub mod HexMessages
-pub mod HexRuns
-pub mod HexSpelling
-pub mod HexSteps
-pub mod LineEnds
-pub mod NextFrames
-pub mod Runs

@@ -1,6 +1,0 @@
-use Rattle.std.proofs.Common.{arith}
-use Rattle.secs_text.proofs.Blocks.{digits_right}
-use Rattle.secs_text.proofs.laying.lay_digits.Goals as goal
-
-pub returns-clause-laid : goal.returns-clause-laid
-returns-clause-laid c = rw (c.split_at.ensures.back, c.from.ensures, digits_right c.args.octet (omega arith)) at c.lay_word.ensures.laid

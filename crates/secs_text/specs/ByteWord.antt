@@ -1,0 +1,17 @@
+-- Words of values that are single octets, as they are printed (this project's own notation).
+use Rattle.std.specs.Prelude.{◌≡◌, ℕ, List, [], ◌∷◌, ◌++◌, Option, Some, length}
+use Rattle.secs_text.specs.CanonicalTokens.{IsWord}
+
+-- a space, and a word that spells this octet
+pub record IsShortWord (reads : List ℕ → Option (List ℕ)) (octet : ℕ) (text : List ℕ) : Type 0 where
+  pub word : List ℕ
+  pub is_word : IsWord word
+  pub encodes_to : reads word ≡ Some (octet ∷ [])
+  pub parts : text ≡ 0x20 ∷ word
+
+-- words that spell these octets, each of so many octets with a space before it, and then a rest
+abbrev pub AreShortWords : (List ℕ → Option (List ℕ)) → ℕ → List ℕ → List ℕ → List ℕ → Type 0
+AreShortWords reads size [] text rest = text ≡ rest
+AreShortWords reads size (octet ∷ octets) text rest =
+    (first : List ℕ) × (after : List ℕ) × IsShortWord reads octet first × (length first ≡ size) × (text ≡ first ++ after)
+    × AreShortWords reads size octets after rest

@@ -1,0 +1,136 @@
+//! Fast paths for tokens in canonical spacing: several are read at once where they stand as `print` writes them.
+
+ghost use Rattle.std.specs.Prelude.{◌≡◌, ◌≤◌, ◌<◌, ◌+◌, length, true, false, Some, IfSome, IfNone, OnSome};
+ghost use Rattle.secs_text.specs.CanonicalTokens.{IsOpening, IsWait, IsHead, NamesType, IsCounted, IsSmall, IsLettered};
+ghost use Rattle.secs_text.specs.RemainingTokens.{left, octets_left};
+ghost use Rattle.secs_text.specs.Octets.{is_of_word};
+
+use crate::byte_class::{is_digit, is_of_word};
+use crate::token::Count;
+use crate::tokens::Tokens;
+use crate::type_name::format_named;
+use crate::word::{leading_number, number_of_digits};
+use secs_item::Format;
+
+/// A type name of one or two octets at the front, and how many it has. A space and a `[` stand behind it.
+#[inline(always)]
+fn name_front(octets: &[u8]) -> Option<(Format, usize)>
+    ensures names { IfSome result (λ n. NamesType n.0 n.1 octets.now) }
+    ensures within { IfSome result (λ n. n.1 + 2 ≤ length octets.now) }
+{
+    match octets {
+        [_, b' ', b'[', ..] => Some((format_named(&octets[..1])?, 1)),
+        [_, _, b' ', b'[', ..] => Some((format_named(&octets[..2])?, 2)),
+        _ => None,
+    }
+}
+
+/// The number that digits at the front spell, and how many they are. A `]` stands behind them.
+#[inline(always)]
+fn count_front(octets: &[u8]) -> Option<(u64, usize)>
+    ensures counts { IfSome result (λ n. IsCounted n.0 n.1 octets.now) }
+    ensures within { IfSome result (λ n. n.1 < length octets.now) }
+{
+    match octets {
+        [digit, b']', ..] if is_digit(*digit) => Some((u64::from(*digit - b'0'), 1)),
+        _ => long_count_front(octets),
+    }
+}
+
+/// The same, whatever number of digits it is.
+#[inline(never)]
+fn long_count_front(octets: &[u8]) -> Option<(u64, usize)>
+    ensures counts { IfSome result (λ n. IsCounted n.0 n.1 octets.now) }
+    ensures within { IfSome result (λ n. n.1 < length octets.now) }
+{
+    let (size, number) = leading_number(octets);
+    if size == octets.len() || octets[size] != b']' {
+        return None;
+    }
+    let (digits, _) = octets.split_at(size);
+    let number = number_of_digits(digits, number)?;
+    Some((number, size))
+}
+
+/// Takes a type name and the count behind it, if the name has one or two octets, and both stand as they are printed.
+#[inline(always)]
+pub fn next_opening(tokens: &mut Tokens) -> Option<(Format, Count)>
+    ensures taken { IfSome result (λ o. IsOpening o.0 o.1 (left tokens.old) (left tokens.new)) }
+    ensures no_longer { octets_left tokens.new ≤ octets_left tokens.old }
+    ensures none { IfNone result (tokens.new ≡ tokens.old) }
+{
+    let (_, rest) = tokens.text.split_at(tokens.place);
+    let (format, name) = name_front(rest)?;
+    let (_, rest) = rest.split_at(name + 2);
+    let (number, digits) = count_front(rest)?;
+    let at = tokens.place + name + 1;
+    tokens.place += name + digits + 3;
+    Some((format, Count { at, number }))
+}
+
+/// Takes a `W` that stands behind one space.
+#[inline(always)]
+pub fn next_wait(tokens: &mut Tokens) -> bool
+    ensures taken { result ≡ true → IsWait (left tokens.old) (left tokens.new) }
+    ensures no_longer { octets_left tokens.new ≤ octets_left tokens.old }
+    ensures none { result ≡ false → tokens.new ≡ tokens.old }
+{
+    let (_, rest) = tokens.text.split_at(tokens.place);
+    let [b' ', b'W', after, ..] = rest else {
+        return false;
+    };
+    if is_of_word(*after) {
+        return false;
+    }
+    tokens.place += 2;
+    true
+}
+
+/// The number that one or two digits at the front spell, and how many they are. No digit is behind them.
+#[inline(always)]
+fn small_number(octets: &[u8]) -> Option<(u8, usize)>
+    ensures small { IfSome result (λ n. IsSmall n.0 n.1 octets.now) }
+    ensures within { IfSome result (λ n. n.1 < length octets.now) }
+{
+    match octets {
+        [ones, after, ..] if is_digit(*ones) && !is_digit(*after) => Some((*ones - b'0', 1)),
+        [tens, ones, after, ..]
+            if is_digit(*tens) && *tens != b'0' && is_digit(*ones) && !is_digit(*after) => {
+            Some((10 * (*tens - b'0') + (*ones - b'0'), 2))
+        }
+        _ => None,
+    }
+}
+
+/// The number that one or two digits spell behind a letter at the front, and how many octets it has with the letter.
+#[inline(always)]
+fn lettered_number(letter: u8, octets: &[u8]) -> Option<(u8, usize)>
+    ensures lettered { IfSome result (λ n. IsLettered letter n.0 n.1 octets.now) }
+    ensures within { IfSome result (λ n. n.1 < length octets.now) }
+{
+    let (first, rest) = octets.split_first()?;
+    if *first != letter {
+        return None;
+    }
+    let (number, size) = small_number(rest)?;
+    Some((number, size + 1))
+}
+
+/// Takes the head of a message, if its stream and function have one or two digits each.
+#[inline(always)]
+pub fn next_head(tokens: &mut Tokens) -> Option<(u8, u8)>
+    ensures taken { IfSome result (λ h. IsHead h.0 h.1 (left tokens.old) (left tokens.new)) }
+    ensures stream { IfSome result (λ h. h.0 < 128) }
+    ensures shorter { OnSome result (octets_left tokens.new < octets_left tokens.old) }
+    ensures none { IfNone result (tokens.new ≡ tokens.old) }
+{
+    let (at, rest) = tokens.past_white();
+    let (stream, first) = lettered_number(b'S', rest)?;
+    let (_, subsequent) = rest.split_at(first);
+    let (function, second) = lettered_number(b'F', subsequent)?;
+    if is_of_word(subsequent[second]) {
+        return None;
+    }
+    tokens.place = at + (first + second);
+    Some((stream, function))
+}
