@@ -11,7 +11,7 @@ returns g c =
     let front = c.args.front.now in
     let text = c.args.text.now in
     let digits = c.digits_of_few-digits.result in
-    let size : ◌≡◌ {A = ℕ} 28 (2 * length front) = ap (λ (n : ℕ). 2 * n) (sym c.known_input-front) in
+    let size : ◌≡◌ {A = ℕ} 28 (2 * length front) = ap (λ (n : ℕ). 2 * n) (sym c.told-front) in
     let is : take 28 digits ≡ encode_lower front = ap (λ (n : ℕ). take n digits) size ∙ c.digits_of_few-digits.ensures in
     let one = appends_same Before (Given c.append_chunk.new.out) _ _ (take 28 digits) (encode_lower front) is c.append_chunk.ensures in
     let two = appends_then Before (Given c.append_chunk.new.out) (Given c.give_some.new.out) _ _ _ (encode_lower front) (encode_lower text) one c.give_some.ensures in

@@ -9,7 +9,7 @@ use Rattle.hsms_log.proofs.hexadecimal.digits_of_sixteen.Goals as goal
 pub returns : goal.returns
 returns c =
     let v = c.args.octets.now in
-    let long = c.found_fact-octets in
+    let long = c.told-octets in
     let high = c.digits_of_values-high.ensures ∙ ap (map digit_of) (lanes_of_two _ _ _ v (lanes_loaded v) (lanes_of_one v 16 4 long)) ∙ map-map digit_of _ v in
     let low = c.digits_of_values-low.ensures ∙ ap (map digit_of) (lanes_of_two _ _ _ v (lanes_loaded v) (lanes_of_one v 16 15 long)) ∙ map-map digit_of _ v in
     let highs = ap length high ∙ length-map v _ ∙ long in

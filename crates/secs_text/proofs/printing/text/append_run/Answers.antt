@@ -10,5 +10,5 @@ pub returns-clause-text : goal.returns-clause-text
 returns-clause-text c =
     let octets = c.args.octets.now in
     let all : list_all is_quotable octets ≡ true =
-    ap (λ (o : List ℕ). list_all is_quotable o) (sym (take_all c.loop-octet.octet-index octets (omega (arith, c.loop-octet-test.false, c.found_fact-octets)))) ∙ sym c.loop-octet.invariant ∙ c.if-not-are_quotable.false in
-    run_appended c.args.quoted octets all (omega (arith, c.found_fact-octets)) c.append_quote-at.ensures (appended_same octets (take_all 8 octets (omega (arith, c.found_fact-octets))) (rw c.as_slice-2.ensures at c.append_word.ensures.appended_text))
+    ap (λ (o : List ℕ). list_all is_quotable o) (sym (take_all c.loop-octet.octet-index octets (omega (arith, c.loop-octet-test.false, c.told-octets)))) ∙ sym c.loop-octet.invariant ∙ c.if-not-are_quotable.false in
+    run_appended c.args.quoted octets all (omega (arith, c.told-octets)) c.append_quote-at.ensures (appended_same octets (take_all 8 octets (omega (arith, c.told-octets))) (rw c.as_slice-2.ensures at c.append_word.ensures.appended_text))
