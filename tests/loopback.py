@@ -1277,7 +1277,7 @@ def failed_attempts_are_told_once():
     same(
         told.splitlines(),
         [
-            f"hsms: it tries again: {refused_by}or see --address and --port",
+            f"hsms: it tries again: {refused_by}or check --address and --port",
             "hsms: it tries again: no file descriptor is left: close some, or raise the limit (ulimit -n)",
         ],
     )
