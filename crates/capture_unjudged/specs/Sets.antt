@@ -3,7 +3,7 @@ use Rattle.std.specs.Prelude.{◌≡◌, ◌||◌, ◌++◌, ◌==◌, ℕ, zero
 use Rattle.std.specs.List.{list_any}
 use Rattle.capture_log.specs.SocketPair.{turned}
 use Rattle.capture_log.specs.declared.socket_pair.Pair.{Pair}
-use Rattle.capture_log.specs.contracts.pair.PairPartialEq.TheImpl as same_pair
+use Rattle.capture_log.specs.contracts.socket_pair.PairPartialEq.TheImpl as same_pair
 use Rattle.capture_unjudged.specs.declared.pairs.Pairs.{Pairs}
 
 -- how many at the front are lower than a number

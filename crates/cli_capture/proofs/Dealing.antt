@@ -12,7 +12,7 @@ use Rattle.capture_tcp.specs.TcpStreams.{Seen}
 use Rattle.capture_log.specs.SocketPair.{IsOfPeer, pairs_at, turned}
 use Rattle.capture_log.specs.declared.written_log.WrittenLog.{WrittenLog}
 use Rattle.capture_log.specs.declared.socket_pair.Pair.{Pair}
-use Rattle.capture_log.specs.contracts.pair.PairPartialEq.TheImpl as same_pair
+use Rattle.capture_log.specs.contracts.socket_pair.PairPartialEq.TheImpl as same_pair
 use Rattle.cli_capture.specs.declared.tracked_connection.Flow.{Flow}
 use Rattle.cli_capture.specs.declared.tracked_connection.ConnectionState.{ConnectionState}
 use Rattle.cli_capture.specs.declared.tracked_connection.ConnectionState.TheVariants as stage

@@ -6,7 +6,7 @@ use Rattle.capture_pcap.specs.declared.segment.Segment.{Segment}
 use Rattle.capture_tcp.specs.declared.packet.Side.{Side}
 use Rattle.capture_log.specs.SocketPair.{IsOfPeer, has_syn, turned}
 use Rattle.capture_log.specs.declared.socket_pair.Pair.{Pair}
-use Rattle.capture_log.specs.contracts.pair.PairPartialEq.TheImpl as same_pair
+use Rattle.capture_log.specs.contracts.socket_pair.PairPartialEq.TheImpl as same_pair
 use Rattle.cli_capture.specs.declared.tracked_connection.Flow.{Flow}
 use Rattle.cli_capture.specs.declared.tracked_connection.ConnectionState.{ConnectionState}
 use Rattle.cli_capture.specs.declared.tracked_connection.ConnectionState.TheVariants as stage

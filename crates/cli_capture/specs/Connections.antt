@@ -17,7 +17,7 @@ use Rattle.capture_midstream.specs.SyntheticHandshake.{IsStart}
 use Rattle.capture_log.specs.SocketPair.{IsOfPeer, has_syn, turned}
 use Rattle.capture_log.specs.declared.written_log.WrittenLog.{WrittenLog}
 use Rattle.capture_log.specs.declared.socket_pair.Pair.{Pair}
-use Rattle.capture_log.specs.contracts.pair.PairPartialEq.TheImpl as same_pair
+use Rattle.capture_log.specs.contracts.socket_pair.PairPartialEq.TheImpl as same_pair
 use Rattle.cli_capture.specs.declared.report.OutputMode.{OutputMode}
 use Rattle.cli_capture.specs.declared.report.OutputMode.TheVariants.{Log, Verdicts}
 use Rattle.cli_capture.specs.declared.report.Report.{Report}

@@ -2,7 +2,7 @@ use Rattle.std.proofs.Common.{ℕ, ◌<◌, refl, sym, ap, subst, ◌∙◌}
 use Rattle.std.proofs.lemmas.Result.{err_from_is_err_and}
 use Rattle.capture_pcap.specs.declared.fault.FileFault.TheVariants as stop
 use Rattle.capture_pcap.specs.BlockReader.{CountsOn, Reading}
-use Rattle.capture_pcap.specs.contracts.packets.Packets.{the_view}
+use Rattle.capture_pcap.specs.contracts.packet_reader.Packets.{the_view}
 use Rattle.capture_pcap.proofs.BlockSteps.{counts_on, end_step, err_step, pass_step, size_fits, step_is_within, takes_front, takes_on}
 use Rattle.capture_pcap.proofs.packet_reader.Packets.next.Goals as goal
 

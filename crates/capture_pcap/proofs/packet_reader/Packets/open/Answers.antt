@@ -3,7 +3,7 @@ use Rattle.std.proofs.lemmas.Result.{err_from_is_err_and}
 use Rattle.capture_pcap.specs.declared.block_reader.Format.{Format}
 use Rattle.hsms_frame.specs.ReadAhead.{ReadsMore}
 use Rattle.capture_pcap.specs.BlockReader.{OpensFor}
-use Rattle.capture_pcap.specs.contracts.packets.Packets.{the_view}
+use Rattle.capture_pcap.specs.contracts.packet_reader.Packets.{the_view}
 use Rattle.capture_pcap.proofs.ReaderSteps.{opening_is_there}
 use Rattle.capture_pcap.proofs.BlockSteps.{not_opened, opened, takes_header}
 use Rattle.capture_pcap.proofs.packet_reader.Packets.open.Goals as goal
