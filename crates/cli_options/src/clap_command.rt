@@ -168,7 +168,9 @@ pub fn command<'a>(alloc: Global) -> Result<Command<'a>, AllocError>
 {
     let mut hsms = Command::new(alloc, "hsms")
         .bin_name("hsms")?
-        .about("Audit HSMS session logs and packet captures, decode and encode messages, run a host or equipment endpoint")
+        .about(
+            "Audit HSMS session logs and packet captures, decode and encode messages, run a host or equipment endpoint",
+        )
         .version(VERSION)
         .after_help(help!())
         .subcommand_required(true);

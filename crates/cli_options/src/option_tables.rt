@@ -72,8 +72,7 @@ const T7_HELP: &str = "T7 not selected timeout in ms: 1 to 3600000 [default: 100
 
 pub const T8: Numbered = Numbered("t8", LEAST_TIME, GREATEST_TIME, Some(5_000));
 
-const T8_HELP: &str =
-    "T8 network intercharacter timeout in ms: 1 to 3600000 [default: 5000]";
+const T8_HELP: &str = "T8 network intercharacter timeout in ms: 1 to 3600000 [default: 5000]";
 
 pub const LINKTEST: Numbered = Numbered("linktest", 0, GREATEST_TIME, Some(0));
 

@@ -74,9 +74,7 @@ pub fn words_for(alloc: Global, failure: &Failure) -> Result<String, AllocError>
             Ok(at) => return placed(alloc, input, at, sentence),
             Err(_) => sentence,
         },
-        Known::Packets => {
-            "this is a packet capture: use hsms capture (docs/CAPTURES.md)"
-        }
+        Known::Packets => { "this is a packet capture: use hsms capture (docs/CAPTURES.md)" }
         Known::Capture => said_of(name, CAPTURE_SENTENCES).unwrap_or(sentence),
         Known::Nothing => sentence,
     };
