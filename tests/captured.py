@@ -473,11 +473,11 @@ def left_out_cases() -> Iterator[Case]:
     pass_lines = lines_of("pass entries=3 sent=1 taken=1")
     yield (
         "packets that are left out", capture.octets, Options(),
-        [*pass_lines, "# 4 packets left out: short 1, fragment 1, cut 1, header 1"], None, 0,
+        [*pass_lines, "# 4 packets skipped: short 1, fragment 1, truncated 1, header 1"], None, 0,
     )
     one = selected()
     one.capture.packet(one.when, b"")
-    yield "one that is left out", one.capture.octets, Options(), [*pass_lines, "# 1 packet left out: short 1"], None, 0
+    yield "one that is left out", one.capture.octets, Options(), [*pass_lines, "# 1 packet skipped: short 1"], None, 0
 
 
 def worked_cases() -> Iterator[Case]:
@@ -507,7 +507,7 @@ def worked_cases() -> Iterator[Case]:
     yield "almost zstd", bytes.fromhex("28b52ffc") + late, Options(), [], "Capture Unknown octet=0", 2
     yield "almost gzip", bytes.fromhex("1f8a0800") + late, Options(), [], "Capture Unknown octet=0", 2
     yield "another port", late, Options(port=5001), ["# not judged: HSMS at another port: 5000"], "NoConnection", 2
-    yield "another link", of_link(147), Options(), ["# 14 packets left out: link 14"], "NoConnection", 2
+    yield "another link", of_link(147), Options(), ["# 14 packets skipped: link 14"], "NoConnection", 2
     yield "cut within a packet", front[:-1], Options(), lines_of(
         "incomplete packet=5 pass entries=2 sent=1 taken=0", "incomplete packet=5 pass entries=2 sent=0 taken=1"
     ), "CutOff", 2
@@ -596,7 +596,7 @@ def header_cases() -> Iterator[Case]:
     """Headers before the segment."""
     short = lines_of("pass entries=3 sent=1 taken=1")
     wide = [line.replace("10.0.0.1", "[fe80::1]").replace("10.0.0.2", "[fe80::2]") for line in short]
-    left_out = "# 5 packets left out: "
+    left_out = "# 5 packets skipped: "
     header, fragment = [left_out + "header 5"], [left_out + "fragment 5"]
     for shape, lines in ((1, wide), (8, wide), ("routing", wide), (9, header), ("fragment", fragment)):
         capture = Capture(is_ipv6=True)
@@ -621,11 +621,11 @@ def wide_cases(log: List[str]) -> Iterator[Case]:
     yield "a port again", one_after_another(same), Options(), one + one, None, 0
     more = log + ["# packet 6", f"{BEGIN // 1000 + 3} down"]
     yield "two peers, in a log", one_after_another(other), Options(log="host"), more, "Peer packet=9", 2
-    others = ["# not judged: 1 session of other addresses (--with)"]
+    others = ["# not judged: 1 session of other addresses (--peer)"]
     yield "one of two peers", one_after_another(other), Options(with_="10.0.0.1"), one + others, None, 0
     yield "both, by the address of the one that listens", one_after_another(other), Options(with_="10.0.0.2"), one + [
         line.replace("10.0.0.1", "10.0.0.3") for line in one], None, 0
-    none = ["# not judged: 2 sessions of other addresses (--with)"]
+    none = ["# not judged: 2 sessions of other addresses (--peer)"]
     yield "none of two peers", one_after_another(other), Options(with_="::1"), none, "NoConnection", 2
     again = [f"# packet {int(line.split()[2]) + 6}" if line.startswith("#") else
              f"{int(line.split()[0]) + 1000} {line.split(' ', 1)[1]}" for line in more[1:]]
@@ -651,7 +651,7 @@ def wide_cases(log: List[str]) -> Iterator[Case]:
     lines = [log[0]]
     for packet, time, words in ((3, 2, "up"), (4, 3, f"> {SELECT[0][1]}"), (5, 4, f"< {SELECT[1][1]}"), (0, 4, "down"),
                                 (9, 5002, "up"), (10, 5003, f"> {SELECT[0][1]}"), (11, 5004, f"< {SELECT[1][1]}")):
-        lines += [f"# packet {packet}" if packet else "# replaced", f"{BEGIN // 1000 + time} {words}"]
+        lines += [f"# packet {packet}" if packet else "# assumed: replaced by a new connection", f"{BEGIN // 1000 + time} {words}"]
     yield "replaced, in a log", replaced, Options(log="host"), lines, None, 0
     yield "more than is held", far_ahead(), Options(), lines_of(
         "incomplete packet=6 pass entries=3 sent=1 taken=1"), "Full packet=6", 2
@@ -702,7 +702,7 @@ def with_more(ports: Iterable[Tuple[int, int]], way=ACTIVE, data=LINKTEST, octet
 def unjudged_cases(log: List[str]) -> Iterator[Case]:
     """Sessions that are not judged."""
     passes, is_refused = lines_of("pass entries=4 sent=1 taken=1"), ("NotJudged", 2)
-    one = "# not judged: 1 session that was running before the capture (--joined)"
+    one = "# not judged: 1 session that was running before the capture (--midstream)"
     running = contents(f"{TOP}/tests/captures/running.pcap")
     open_one = lines_of("pass entries=3 sent=1 taken=1")
     yield "running", running, Options(), open_one + [one], *is_refused
@@ -737,7 +737,7 @@ def unjudged_cases(log: List[str]) -> Iterator[Case]:
     yield "a port is given", given_port, Options(port=5001), named + [f"{at_one}5000"], None, 0
     peer = Options(with_="10.0.0.1")
     elsewhere = with_more([(41000, 5000), (41000, 5010)], hosts=(3, 4))
-    of_others = "# not judged: 2 sessions of other addresses (--with)"
+    of_others = "# not judged: 2 sessions of other addresses (--peer)"
     yield "an address is given", elsewhere, peer, passes + [of_others], None, 0
     all_of_it = with_more([(41000, 5010), (41000, 5000)], octets=elsewhere)
     parts = f"{one}; {of_others[14:]}; {at_one[14:]}5010"

@@ -35,10 +35,10 @@ SMALL = [
     (["audit"], "examples/late-reply.log"),
     (["explain"], "examples/late-reply.log"),
     (["explain", "--utc"], "examples/late-reply.log"),
-    (["explain", "--form", "json"], "examples/late-reply.log"),
+    (["explain", "--format", "json"], "examples/late-reply.log"),
     (["capture", "--t3", "1000"], "examples/late-reply.pcap"),
     (["capture", "--log", "equipment"], "examples/late-reply.pcap"),
-    (["capture", "--joined", "--log", "host"], "tests/captures/joined-status-1.pcap"),
+    (["capture", "--midstream", "--log", "host"], "tests/captures/joined-status-1.pcap"),
     (["capture"], "tests/captures/running.pcap"),
     (["show"], "examples/cut-off.bin"),
 ]

@@ -97,7 +97,7 @@ def difference(log: bytes) -> Optional[str]:
     for excerpt in (WHOLE, excerpt_of(log)):
         words, wanted = ["explain", *excerpt.words()], explaining.explain(log, excerpt)
         told = answer_of(words, log)
-        in_json, in_html = (answer_of([*words, "--form", form], log) for form in ("json", "html"))
+        in_json, in_html = (answer_of([*words, "--format", form], log) for form in ("json", "html"))
         are_answers = all((it.status, it.error) == (audited.status, b"") for it in (told, in_json, in_html))
         is_text = told.output == wanted.text and wanted.text.endswith(audited.output)
         if not (are_answers and is_text and objects_of(in_json.output) == [list(it.items()) for it in wanted.objects]):
@@ -105,7 +105,7 @@ def difference(log: bytes) -> Optional[str]:
             return f"{' '.join(words)}\n{shown}\ncommand: {told}\nin JSON: {in_json}\naudit: {audited}"
         fault = pages.fault_of(in_html.output, wanted.unescaped, excerpt.is_utc)
         if fault:
-            return f"{' '.join(words)} --form html\nlog: {log[:LONGEST_SHOWN].hex()}\n{fault}\npage: {in_html}"
+            return f"{' '.join(words)} --format html\nlog: {log[:LONGEST_SHOWN].hex()}\n{fault}\npage: {in_html}"
     return None
 
 

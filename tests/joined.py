@@ -1,12 +1,12 @@
 #!/usr/bin/env python3
-"""Compares what `hsms capture --joined` writes of sessions that were running before the capture with a second reading.
+"""Compares what `hsms capture --midstream` writes of sessions that were running before the capture with a second reading.
 
 Random lawful sessions (made_sessions.py) go over the wire, and the capture lacks all packets up to some packet, or all
 of one direction. Each capture is judged, and written as the log of the host and of the equipment: output, standard
 error and status have to be those of the second reading, octet by octet. No log of a lawful session may fail, and none
 of the messages may be made up or stand in another order. Where no packet is swapped and nothing is told to be missing,
 all is told from some message on. Some captures have sessions of other devices and at other ports too, or the session is
-of another device. The smallest captures are read first, in captures/, and each without `--joined`, which shows no
+of another device. The smallest captures are read first, in captures/, and each without `--midstream`, which shows no
 connection, but a session that was running.
 
 Use: tests/joined.py [SESSIONS] [SEED]. SESSIONS is how many, 1,000 if left out, and SEED is 1. It runs what `rt ci` has
@@ -122,7 +122,7 @@ def differs(octets: bytes, told: joined.Told, options: Options, program: Optiona
     """What is wrong with the command's answers to a capture, of which this is told."""
     for role in (None, "host", "equipment") if program else ():
         asked = replace(options, log=role)
-        words = ["capture", "--joined", *asked.words()]
+        words = ["capture", "--midstream", *asked.words()]
         found, wanted = answer_of(words, octets, program), second(told, asked, unjudged_in(octets, asked))
         if found != wanted:
             return f"{' '.join(words)}\n  second reading: {wanted}\n  command: {found}"
@@ -143,9 +143,9 @@ def wrong_with_smallest(name: str, program: Optional[str]) -> Optional[str]:
     found = verdicts(told, Options())
     if found != wanted:
         return f"{found}, incomplete by {told.missing}"
-    running = b"# not judged: 1 session that was running before the capture (--joined)\n"
+    running = b"# not judged: 1 session that was running before the capture (--midstream)\n"
     if program and answer_of(["capture"], octets, program) != Answer(2, running, b"hsms: NoConnection\n"):
-        return "without --joined it is passed over"
+        return "without --midstream it is passed over"
     return differs(octets, told, Options(), program)
 
 
@@ -165,10 +165,10 @@ def wrong_with_devices(program: Optional[str]) -> Optional[str]:
         comment = f"# not judged: 1 session of another device: {other}\n"
         wanted = Answer(1, (lines + comment).encode(), b"") if device else Answer(
             2, (lines + comment).encode(), b"hsms: NotJudged\n")
-        found = answer_of(["capture", "--joined", "--device", str(device)], octets, program)
+        found = answer_of(["capture", "--midstream", "--device", str(device)], octets, program)
         if found != wanted:
             return f"--device {device}: {found}"
-    neither = answer_of(["capture", "--joined", "--device", "7"], octets, program) if program else None
+    neither = answer_of(["capture", "--midstream", "--device", "7"], octets, program) if program else None
     both = Answer(2, b"# not judged: 2 sessions of other devices: 0, 5\n", b"hsms: NoConnection\n")
     return None if neither in (None, both) else str(neither)
 
@@ -191,7 +191,7 @@ def wrong_with_replaced(program: Optional[str]) -> Optional[str]:
     counts = ["entries=10 sent=4 taken=4", "entries=10 sent=4 taken=4", "entries=3 sent=1 taken=1", "entries=3 sent=1 taken=1"]
     ends = ["host active", "equipment passive"] * 2
     lines = [f"{NAMES} {end}: pass {count} discarded=0 expired=0 waiting=0\n" for end, count in zip(ends, counts)]
-    found = answer_of(["capture", "--joined"], replaced(), program)
+    found = answer_of(["capture", "--midstream"], replaced(), program)
     return None if found == Answer(0, "".join(lines).encode(), b"") else str(found)
 
 
@@ -217,13 +217,13 @@ def wrong_with_left_out(program: Optional[str]) -> Optional[str]:
         ends = ["host active", "equipment passive"] * 2
         lines = [f"{NAMES} {end}: pass {count} discarded=0 expired=0 waiting=0\n" for end, count in zip(ends, counts)]
         octets = left_out(is_told)
-        found = answer_of(["capture", "--joined"], octets, program)
+        found = answer_of(["capture", "--midstream"], octets, program)
         if found != Answer(0, "".join(lines).encode(), b""):
             return str(found)
-        log = answer_of(["capture", "--joined", "--log", "host"], octets, program).output.decode()
-        if log.count(" up\n") != (2 if is_told else 1) or log.count("left out") != (2 if is_told else 0):
+        log = answer_of(["capture", "--midstream", "--log", "host"], octets, program).output.decode()
+        if log.count(" up\n") != (2 if is_told else 1) or log.count("skipped") != (2 if is_told else 0):
             return log
-        if is_told and not log.index("ffffffff\n") < log.index("# packet 1 left out") < log.index("# packet 3\n"):
+        if is_told and not log.index("ffffffff\n") < log.index("# packet 1 skipped") < log.index("# packet 3\n"):
             return log
     return None
 
@@ -272,7 +272,7 @@ def wrong_with_forgotten(program: Optional[str]) -> Optional[str]:
         counts = {first: "entries=4 sent=1 taken=1", second: "entries=5 sent=2 taken=2"}
         lines = [f"{name} {end}: pass {counts[name]} discarded=0 expired=0 waiting=0\n"
                  for name in names for end in ("host active", "equipment passive")]
-        found = answer_of(["capture", "--joined"], forgotten(later), program)
+        found = answer_of(["capture", "--midstream"], forgotten(later), program)
         if found != Answer(0, "".join(lines).encode(), b""):
             return f"{later} later ones: {found}"
     return None
@@ -294,7 +294,7 @@ def two_at_once(hosts) -> bytes:
 def wrong_with_two_at_once(program: Optional[str]) -> Optional[str]:
     """In one log the second session is refused where it would begin, behind all of the first one."""
     for hosts, fault in (((1, 2), "Overlap"), ((3, 2), "Peer")) if program else ():
-        found = answer_of(["capture", "--joined", "--log", "host"], two_at_once(hosts), program)
+        found = answer_of(["capture", "--midstream", "--log", "host"], two_at_once(hosts), program)
         lines = found.output.decode().splitlines()
         if (found.status, found.error) != (2, f"hsms: {fault} packet=7\n".encode()) or len(lines) != 1 + 2 * (3 + 6):
             return f"{fault}: {found}"

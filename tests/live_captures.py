@@ -97,7 +97,7 @@ class Capturing:
 
 def served_logs(way, port):
     """The logs of the end that connects and of the other one, once both have ended."""
-    again = ["--again", "--connections", str(way.connections)] if way.connections > 1 else []
+    again = ["--reconnect", "--connections", str(way.connections)] if way.connections > 1 else []
     others = {"address": way.address, "send": True}
     script = {way.active: {}, OTHER_ROLE[way.active]: {}}
     script["host"] = {"script": SCRIPT}

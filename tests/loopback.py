@@ -657,7 +657,7 @@ class Chatter:
 
 def link_is_tested_in_each_connection():
     port = free_port()
-    serving = Serving("equipment", "passive", port, "--again", "--connections", "2", "--linktest", "100", "--t6", "150")
+    serving = Serving("equipment", "passive", port, "--reconnect", "--connections", "2", "--linktest", "100", "--t6", "150")
     for _ in range(2):
         peer = Peer.connected(port)
         peer.send(SELECT)
@@ -710,11 +710,11 @@ def script_is_sent():
 
 
 def scripts_of_several_connections():
-    """With `--again` all is sent where it was in each connection."""
+    """With `--reconnect` all is sent where it was in each connection."""
     for broken, status in ((False, 0), (True, 1)):
         peers = Listening()
         serving = Serving(
-            "host", "active", peers.port, "--again", "--connections", "2", "--t5", "50", "--all-sent", script=b"S1F1 W ."
+            "host", "active", peers.port, "--reconnect", "--connections", "2", "--t5", "50", "--all-sent", script=b"S1F1 W ."
         )
         for number in range(2):
             peer = peers.next_one()
@@ -785,7 +785,7 @@ IN_TURN = [
 def replies_are_given_in_turn():
     """Whether the primaries come one by one or all at once, and in each connection anew."""
     peers = Listening()
-    options = ["--again", "--connections", "2", "--t5", "50", "--answer"]
+    options = ["--reconnect", "--connections", "2", "--t5", "50", "--answer"]
     serving = Serving("host", "active", peers.port, *options, script=SEVERAL, send=False)
     numbered = list(enumerate(IN_TURN, start=100))
     asked = [data(stream, function, system, wait=True) for system, (stream, function, _) in numbered]
@@ -1108,7 +1108,7 @@ def command_line_is_refused():
         ("--t5", ["0", "3600001"]),
         ("--linktest", ["-1", "3600001"]),
     ):
-        lines += [WORDS + ["--again", option, value] for value in values]
+        lines += [WORDS + ["--reconnect", option, value] for value in values]
     lines += [WORDS + [option, "x"] for option in ("--send", "--answer", "--all-sent")]
     lines += [WORDS + options for options in (["--once"], ["--connections", "1"], ["--t5", "10000"])]
     lines += [WORDS + ["--once", "--connections", "2", "--t5", "50"]]
@@ -1160,7 +1160,7 @@ def served_again(serving, count):
 def equipment_listens_on():
     """Ten connections: some are separated, and some break off before, while or after the peer is selected."""
     port = free_port()
-    serving = Serving("equipment", "passive", port, "--again", "--connections", "10")
+    serving = Serving("equipment", "passive", port, "--reconnect", "--connections", "10")
     for number in range(10):
         peer = Peer.connected(port)
         if number % 5 == 1:
@@ -1181,7 +1181,7 @@ def equipment_listens_on():
 
 
 def host_of(peers, count, *options):
-    return Serving("host", "active", peers.port, "--again", "--connections", str(count), *options, script=b"S1F1 W .")
+    return Serving("host", "active", peers.port, "--reconnect", "--connections", str(count), *options, script=b"S1F1 W .")
 
 
 PRIMARY = data(1, 1, 2, wait=True)
@@ -1190,7 +1190,7 @@ PRIMARY = data(1, 1, 2, wait=True)
 def replies_hold_in_each_connection():
     port = free_port()
     serving = Serving(
-        "equipment", "passive", port, "--again", "--connections", "2", "--answer", script=b"S6F12 <B 0x00> .", send=False
+        "equipment", "passive", port, "--reconnect", "--connections", "2", "--answer", script=b"S6F12 <B 0x00> .", send=False
     )
     for _ in range(2):
         peer = Peer.connected(port)
@@ -1244,7 +1244,7 @@ def script_is_sent_once():
 def peer_is_away_for_a_while():
     """A host whose peer isn't there yet tries again after T5, and waits as long between two connections."""
     port = free_port()
-    serving = Serving("host", "active", port, "--again", "--connections", "2", "--t5", "300", script=b"")
+    serving = Serving("host", "active", port, "--reconnect", "--connections", "2", "--t5", "300", script=b"")
     time.sleep(A_WHILE)
     same(serving.run.poll(), None)
     peers = socket.create_server((HERE, port))
@@ -1264,7 +1264,7 @@ def peer_is_away_for_a_while():
 def failed_attempts_are_told_once():
     """With `-v` each kind of failure has one line, however often an attempt fails so; without it there is none."""
     port = free_port()
-    options = ["--again", "--t5", "50"]
+    options = ["--reconnect", "--t5", "50"]
     serving, silent = (Serving("host", "active", port, *options, *words) for words in (["-v"], []))
     time.sleep(A_WHILE)
     # No further file can be opened then.
@@ -1273,27 +1273,27 @@ def failed_attempts_are_told_once():
     same(silent.killed(signal.SIGTERM), (-signal.SIGTERM, "", ""))
     status, log, told = serving.killed(signal.SIGTERM)
     same((status, log), (-signal.SIGTERM, ""))
-    refused_by = f"connection refused by {HERE}:{port}: nobody listens there. Start the other end first, "
+    refused_by = f"connection refused by {HERE}:{port}: nothing listens there. Start the other end first, "
     same(
         told.splitlines(),
         [
-            f"hsms: it tries again: {refused_by}or see --address and --port",
-            "hsms: it tries again: no file descriptor is left for a connection: end what holds them, or allow more (ulimit -n)",
+            f"hsms: it tries again: {refused_by}or check --address and --port",
+            "hsms: it tries again: no file descriptor is left: close some, or raise the limit (ulimit -n)",
         ],
     )
 
 
 def two_processes_again():
     port = free_port()
-    equipment = Serving("equipment", "passive", port, "--again", "--connections", "10")
-    host = Serving("host", "active", port, "--again", "--connections", "10", "--t5", "20", script=SCRIPT)
+    equipment = Serving("equipment", "passive", port, "--reconnect", "--connections", "10")
+    host = Serving("host", "active", port, "--reconnect", "--connections", "10", "--t5", "20", script=SCRIPT)
     served_again(host, 10)
     served_again(equipment, 10)
 
 
 def terminated_between_connections():
     port = free_port()
-    serving = Serving("equipment", "passive", port, "--again")
+    serving = Serving("equipment", "passive", port, "--reconnect")
     for _ in range(2):
         peer = Peer.connected(port)
         peer.send(SELECT + control(9, 3))
@@ -1308,7 +1308,7 @@ def terminated_between_connections():
 def timers_go_on():
     """T7 runs out in a second connection as in the first, by the same clock."""
     port = free_port()
-    serving = Serving("equipment", "passive", port, "--again", "--connections", "2", "--t7", "300")
+    serving = Serving("equipment", "passive", port, "--reconnect", "--connections", "2", "--t7", "300")
     for _ in range(2):
         peer = Peer.connected(port)
         same(peer.rest(), b"")
@@ -1321,7 +1321,7 @@ def timers_go_on():
 
 def port_is_in_use_again():
     with socket.create_server((HERE, 0)) as taken:
-        serving = Serving("equipment", "passive", taken.getsockname()[1], "--again")
+        serving = Serving("equipment", "passive", taken.getsockname()[1], "--reconnect")
         refused(serving, 3, "Link")
 
 

@@ -89,9 +89,9 @@ LATE_TOLD = b"""\
        answers line 3 after 5 ms
      5      10 > data 0000 00000002 S1F1 W .
      6   46000 down
-       FAIL T3Overdue: a reply is overdue, and no `t3` says so
-            concerns line 5
-            goes on as if `45010 t3 00000002` stood before it
+       FAIL T3Overdue: no reply came within T3, and no `t3` is logged
+            open transaction: line 5
+            continues as if `45010 t3 00000002` were logged before it
 """
 
 # A log of more lines than the ten that `tail` alone begins with.
@@ -108,8 +108,8 @@ LATE_OBJECTS = b"""\
 {"type":"line","line":5,"time":10,"mark":">","kind":"data","session":"0000","system":"00000002",\
 "stream":1,"function":1,"wait":true,"notation":"S1F1 W ."}
 {"type":"line","line":6,"time":46000,"kind":"down",\
-"failures":[{"rule":"T3Overdue","sentence":"a reply is overdue, and no `t3` says so","concerns":5,\
-"remedy":"goes on as if `45010 t3 00000002` stood before it","put":"45010 t3 00000002"}]}
+"failures":[{"rule":"T3Overdue","sentence":"no reply came within T3, and no `t3` is logged","concerns":5,\
+"remedy":"continues as if `45010 t3 00000002` were logged before it","put":"45010 t3 00000002"}]}
 """
 
 # A connection of a capture that goes on, and the verdicts on it; and the log of its host.
@@ -219,7 +219,7 @@ def tries():
     yield from ((shown_in_pieces, [pieces, "--hex"], wanted) for pieces, wanted in HEX_SHOWN)
     yield from ((told_of, ["show", LINES, HEX + rest, "--hex"], LINES) for rest in (b"", HEX[:28]))
     yield from ((told_of, ["show", LINES, MESSAGES + rest], LINES) for rest in (b"", MESSAGES[:17]))
-    for told, *form in ((LATE_TOLD,), (LATE_OBJECTS, "--form", "json")):
+    for told, *form in ((LATE_TOLD,), (LATE_OBJECTS, "--format", "json")):
         yield from ((told_of, ["explain", told, LATE + rest, *form], told) for rest in (b"", b"46001 up"))
     yield explained_after_tail, [LATE, LATE_TOLD], LATE_TOLD
     yield explained_after_tail, [LONG_LOG, LONG_TOLD], LONG_TOLD

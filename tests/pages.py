@@ -1,4 +1,4 @@
-"""What a page of `hsms explain --form html` has to be, by the text of the same log.
+"""What a page of `hsms explain --format html` has to be, by the text of the same log.
 
 `fault_of(page, text, is_utc)` reads the page with `html.parser` and answers what is wrong with it, if anything is: tags
 that don't balance, a tag or an attribute that no page has, an id that stands twice, a link that leads nowhere, or words
@@ -211,7 +211,7 @@ def check_groups(section: Node, told: Told):
     failing = {(line.number, it[0].split(":")[0][5:]) for line in told.lines if line for it in line.failures}
     groups = {}
     for item in section.all("li"):
-        match = re.match(r"(\w+) line (\d+): .*?(?:; (\d+) more like it, up to line (\d+))?\Z", item.text())
+        match = re.match(r"(\w+) line (\d+): .*?(?:; (\d+) more like it, the last at line (\d+))?\Z", item.text())
         check_link(item.one("a"))
         rule, first, more, last = match[1], int(match[2]), int(match[3] or 0), int(match[4] or match[2])
         if (first, rule) not in failing or (last, rule) not in failing and more < 3:
@@ -221,7 +221,7 @@ def check_groups(section: Node, told: Told):
     if is_judged and not {rule for _, rule in failing} <= {rule for rule, _, _ in groups} and len(groups) < 256:
         raise Fault(f"groups {groups}, failures {failing}")
     for words in told.end:
-        rest = re.match(r"(\w+): and (\d+) more like line (\d+), up to line (\d+)\Z", words)
+        rest = re.match(r"(\w+): (\d+) more like line (\d+), the last at line (\d+)\Z", words)
         if rest and groups.get((rest[1], int(rest[3]), int(rest[4]))) != int(rest[2]) + 2:
             raise Fault(f"{words}, and {groups}")
 
@@ -231,8 +231,8 @@ def cells_of(words: str) -> List[str]:
     kind, _, *counts = words.split(" ")
     counted = dict(it.split("=") for it in counts)
     way = counts[0].split("=")[0]
-    greatest = f"{counted['greatest']} (line {counted['line']})" if "line" in counted else ""
-    names = "answered aborted expired rejected ended waiting least median p99".split()
+    greatest = f"{counted['max']} (line {counted['line']})" if "line" in counted else ""
+    names = "answered aborted expired rejected ended waiting min median p99".split()
     return [f"{kind} W {way}", counted[way], *(counted.get(name, "") for name in names), greatest]
 
 

@@ -149,7 +149,7 @@ def a_send_is_given_up_after_t8():
 
 
 def it_closes_after_its_peer():
-    """Once the session is over it only reads, until the peer closes."""
+    """Once the session has ended it only reads, until the peer closes."""
     serving, peer = selected("--t8", "600000")
     peer.send(control(9, 2), control(5, 3), control(5, 4))
     same(serving.line_soon("down"), True)
@@ -211,11 +211,11 @@ def is_closed_and_waits_on(serving, peer, log):
 
 def it_closes_before_it_waits_for_the_next():
     """A passive end listens for its next peer, and an active one waits for T5, which is ten minutes."""
-    serving, peer = selected("--again", "--t8", "200")
+    serving, peer = selected("--reconnect", "--t8", "200")
     peer.send(control(9, 2))
     is_closed_and_waits_on(serving, peer, [*EQUIPMENT_LOG[:3], "< ffff0000000900000002", "down"])
     peers = Listening()
-    serving = Serving("host", "active", peers.port, "--again", "--t5", "600000", "--t8", "200", script=b"")
+    serving = Serving("host", "active", peers.port, "--reconnect", "--t5", "600000", "--t8", "200", script=b"")
     peer = peers.accepted()
     peer.wants(SELECT)
     peer.send(SELECTED)
@@ -227,7 +227,7 @@ def a_failed_link_is_closed_before_the_next(library):
     """At once, be T5 and T8 as long as they may."""
     peers = Listening()
     how = {"env": {"LD_PRELOAD": library, "REFUSE_SEND": "1"}}
-    serving = Serving("host", "active", peers.port, "--again", "--t5", "600000", "--t8", "600000", **how)
+    serving = Serving("host", "active", peers.port, "--reconnect", "--t5", "600000", "--t8", "600000", **how)
     is_closed_and_waits_on(serving, peers.accepted(), ["up", "> ffff0000000100000001", "down"])
 
 

@@ -2,7 +2,7 @@
 """Tells each fault of the command, without words and with them: by `-v`, by HSMS_VERBOSE in the environment, and at a
 terminal.
 
-Without them standard error has one line, the fault's name. With them the words follow, which docs/FORMATS.md shows in
+Without them standard error has one line, the fault's name. With them the words follow, which docs/CLI.md shows in
 its table, and nothing else changes. The terminal is a pseudo-terminal at standard error. `Endless` isn't tried: it
 takes 4,294,967,295 messages or reads; nor is `Full`, which takes 64 MB that wait. It runs what `rt ci` has built, or
 the program that it is given. The last line is `N passed, M failed`.
@@ -60,17 +60,17 @@ def cases_of_words():
     value = "invalid value '1' for '--max <N>': 1 is not in 256..=33554432"
     yield Case(["audit", "--max"], 2, "command line", ["unexpected argument '--max' found. Usage: hsms audit [OPTIONS] < LOG"])
     yield Case(["show", "--max", "1"], 2, "command line", [value])
-    own = "--role, --active and --log are host or equipment, --link is active or passive, --with is an IP address, "
-    own += "--only is failures, --form is text, json or html, --bare goes with --hex alone, "
-    own += "and --once, --connections and --t5 with --again"
+    own = "--role, --active and --log take host or equipment; --link active or passive; --peer an IP address; "
+    own += "--only failures; --format text, json or html; --bare needs --hex; "
+    own += "--once, --connections and --t5 need --reconnect"
     yield Case(["show", "--bare"], 2, "command line", [own])
     yield Case(["explain", "--only", "all"], 2, "command line", [own])
     for form in ("xml", "HTML", "JSON", ""):
-        yield Case(["explain", "--form", form], 2, "command line", [own])
+        yield Case(["explain", "--format", form], 2, "command line", [own])
     for option in ("--active", "--log"):
         yield Case(["capture", option, "both"], 2, "command line", [own])
     for address in ("", "10.0.0", "10.0.0.256", "010.0.0.1", "::1%lo", "[::1]", "10.0.0.1:5000", "localhost"):
-        yield Case(["capture", "--with", address], 2, "command line", [own])
+        yield Case(["capture", "--peer", address], 2, "command line", [own])
     for options in (["--once"], ["--connections", "2"], ["--t5", "10000"]):
         yield Case([*HERE_AT, "1", *options], 2, "command line", [own])
     port = "invalid value '0' for '--port <N>': 0 is not in 1..=65535"
@@ -79,43 +79,43 @@ def cases_of_words():
 
 
 def cases_of_inputs():
-    syntax = 'this can\'t stand here; a message is S1F1 W <A "text"> ., its end is a full stop'
+    syntax = 'unexpected token; a message is S1F1 W <A "text"> . and ends with a full stop'
     yield from notation(b"S1F1 W .\nS1F1 W", "Syntax at=15", [f"line 2, column 7: {syntax}", "S1F1 W", "      ^"])
     yield from notation(b"\tS1F1 \xff .\n", "Syntax at=6", [f"line 1, column 7: {syntax}", " S1F1 ? .", "      ^"])
     # (of a long line 60 octets before the place are shown, and 40 from there on)
     long = b"S1F1 <A " + 60 * b"0x41 " + b"? >." + 60 * b" "
     shown = (60 * "0x41 ")[-60:] + ("? >." + 60 * " ")[:40]
     yield from notation(long, "Syntax at=308", [f"line 1, column 309: {syntax}", shown, 60 * " " + "^"])
-    number = "this is no value of its type, or out of its range"
+    number = "not a value of this type, or out of range"
     yield from notation(
         b"S1F3 W <U1 256> .", "Number at=11", [f"line 1, column 12: {number}", "S1F3 W <U1 256> .", 11 * " " + "^"]
     )
-    count = "the number in these brackets isn't how many values follow"
+    count = "the number in brackets does not match the number of values"
     yield from notation(
         b"\n\nS1F1 <B [2] 0x00> .", "Count at=10", [f"line 3, column 9: {count}", "S1F1 <B [2] 0x00> .", 8 * " " + "^"]
     )
-    deep = "lists are nested deeper here than --depth: give a greater one, or fewer lists"
+    deep = "lists are nested deeper than --depth: raise --depth, or nest fewer lists"
     yield from notation(
         b"S1F1 <L <L>> .", "Deep at=8", [f"line 1, column 9: {deep}", "S1F1 <L <L>> .", 8 * " " + "^"], "--depth", "1"
     )
-    yield from notation(b" " * 67108865, "Input", ["the input is longer than 67108864 octets: give it in parts"])
-    large = "a value or a list of a message has more than 16777215 octets or elements"
+    yield from notation(b" " * 67108865, "Input", ["the input is longer than 67108864 bytes: split it"])
+    large = "a value or list has more than 16777215 bytes or elements"
     yield Case(["encode"], 2, "TooLarge", [large], b'S1F1 <A "' + (1 << 24) * b"x" + b'"> .')
-    greater = "a message is longer than --max: give a greater one, or see whether the input is what it should be"
+    greater = "a message is longer than --max: raise --max, or check that the input is HSMS data"
     yield Case(["encode", "--max", "256"], 2, "TooLong length=313", [greater], b'S1F1 <A "' + 300 * b"x" + b'"> .')
     yield Case(["show"], 2, "TooLong length=1633837924", [greater], b"abcdefghijklmnopqrstuvw")
-    capture = "this is a pcap file, a capture of packets: hsms capture reads it, and docs/CAPTURES.md tells more"
+    capture = "this is a packet capture: use hsms capture (docs/CAPTURES.md)"
     with open(f"{TOP}/examples/late-reply.pcap", "rb") as file:
         yield Case(["show"], 2, "TooLong length=3569595041", [capture], file.read())
     for front, length in (("a1b2c3d4", 2712847316), ("4d3cb2a1", 1295823521), ("a1b23c4d", 2712812621)):
         yield Case(["show"], 2, f"TooLong length={length}", [capture], bytes.fromhex(front) + 20 * b"\0")
     yield Case(["show"], 2, "TooLong length=168627466", [capture], bytes.fromhex("0a0d0d0a") + 24 * b"\0")
-    short = "a message's length is below 10, so these aren't HSMS messages, or some octets are missing before it"
+    short = "a message length is below 10: this is not HSMS data, or bytes are missing before it"
     yield Case(["show"], 2, "TooShort length=9", [short], b"\0\0\0\x09")
-    yield Case(["show"], 2, "CutOff", ["the input ends within a message: its last octets are missing"], b"\0\0\0\x0a\0")
-    digits = "this line isn't octets in hexadecimal digits: without --hex the input is read as octets"
+    yield Case(["show"], 2, "CutOff", ["the input ends inside a message"], b"\0\0\0\x0a\0")
+    digits = "this line is not hexadecimal; without --hex the input is read as bytes"
     yield Case(["show", "--hex"], 2, "NoHex line=2", [digits], b"\nxyz\n")
-    bare = "this line isn't one message within --max: lines of a log have no length, and ask for --bare too"
+    bare = "this line is not exactly one message within --max; lines of a log have no length bytes: add --bare"
     yield Case(["show", "--hex"], 2, "NoMessage line=1", [bare], b"ffff0000000100000001\n")
 
 
@@ -160,44 +160,44 @@ def two_pairs():
 
 
 def cases_of_captures():
-    cut = "the capture ends within a packet, or is empty: end the program that writes it first, or see what cut it off"
+    cut = "the file is empty or ends inside a packet: stop the capturing program first, or check what truncated it"
     yield Case(["capture"], 2, "CutOff", [cut])
     yield Case(["capture"], 2, "CutOff", [cut], captures.half_a_packet().octets)
-    other = "here the file isn't one of pcap or pcapng: give the one that tcpdump, tshark or Wireshark wrote, unpacked"
+    other = "not a valid pcap or pcapng file here: use an uncompressed file from tcpdump, tshark or Wireshark"
     yield Case(["capture"], 2, "Capture Unknown octet=0", [other], captures.other_octets().octets + bytes(24))
-    none = "no connection came up at --port: is this the port of HSMS, and does the capture begin before the connection does, or is --joined given?"
+    none = "no connection came up at --port: check the port; if the capture starts inside a session, add --midstream"
     yield Case(["capture"], 2, "NoConnection", [none], captures.no_connection().octets)
     yield Case(["capture", "--port", "5001"], 2, "NoConnection", [none], captures.late_reply().octets)
-    judged = "the last line of the output names HSMS that was not judged: give --joined, its --device or its --port"
+    judged = "the last line of the output names HSMS data that was not audited: add --midstream, its --device or its --port"
     with open(f"{TOP}/tests/captures/running.pcap", "rb") as file:
         running = file.read()
     yield Case(["capture"], 2, "NotJudged", [judged], running)
     yield Case(["capture", "--port", "5000"], 2, "NotJudged", [judged], running)
-    lost = "this packet shows that octets are missing: capture again at the end itself, whole packets (-s 0), and none dropped"
+    lost = "this packet shows that the capture lost data: capture at the end itself, whole packets (-s 0), without drops"
     yield Case(["capture"], 2, "Lost packet=8", [lost], captures.gap().octets)
-    length = "a message is shorter than 10 octets or longer than --max: is this the port of HSMS? Else give a greater --max"
+    length = "a message is shorter than 10 bytes or longer than --max: is this the HSMS port? If so, raise --max"
     yield Case(["capture"], 2, "Length packet=6", [length], captures.wrong_length().octets)
-    differs = "what this packet brings again isn't what came first: capture nearer to the end, where one device alone sends it"
+    differs = "a retransmission carries other data than the original: capture closer to the end, where one device sends it"
     yield Case(["capture"], 2, "Differs packet=5", [differs], differing().octets)
-    time = "this packet has no time, or none that a log can have: capture again with times, or leave the packet out"
+    time = "this packet has no usable time stamp: capture with time stamps, or remove the packet"
     yield Case(["capture"], 2, "Time packet=1", [time], one_timeless().octets)
-    over = "here a connection comes up while another one is up, and a log has one at a time: without --log each is judged"
+    over = "a connection starts while another is up, and a log holds one at a time: leave out --log to audit each"
     yield Case(["capture", "--log", "host"], 2, "Overlap packet=6", [over], two_at_once().octets)
-    peer = "this connection is one of other addresses, and a log is of two: say by --with which peer is meant"
+    peer = "this connection has other addresses, and a log holds one pair of addresses: choose one with --peer"
     yield Case(["capture", "--log", "host"], 2, "Peer packet=7", [peer], two_pairs().octets)
 
 
 def cases_of_devices():
-    read = "standard input can't be read: see that it is open, and no folder"
+    read = "cannot read standard input: is it open, and not a directory?"
     folder = {"stdin": os.open("/", os.O_RDONLY)}
     for words in (["show"], ["audit"], ["encode"], ["capture"], [*HERE_AT, "1", "--send"]):
         yield Case(words, 3, "Read", [read], how=folder)
-    write = "standard output can't be written: see that the disk isn't full, and that its reader goes on"
+    write = "cannot write standard output: is the disk full, or the pipe closed?"
     full = {"stdout": os.open("/dev/full", os.O_WRONLY)}
     yield Case(["encode"], 3, "Write", [write], b"S1F1 .", full)
     for words in (["capture"], ["capture", "--log", "host"]):
         yield Case(words, 3, "Write", [write], captures.late_reply().octets, full)
-    log = "the log can't be written: see that standard output is open, the disk isn't full, and its reader goes on"
+    log = "cannot write the log: is standard output open, the disk full, or the pipe closed?"
     yield Case([*LISTENS, "--address", HERE, "--port", str(free_port())], 3, "Log", [log], how=full)
 
 
@@ -207,7 +207,7 @@ def little_memory():
 
 
 def cases_of_memory():
-    memory = "memory is wanting: give the command more, or a smaller input"
+    memory = "out of memory: provide more, or split the input"
     long = b'S1F1 <A "' + (24 << 20) * b"x" + b'"> .'
     little = {"preexec_fn": little_memory}
     for words in (["encode"], [*HERE_AT, "1", "--send"]):
@@ -227,34 +227,34 @@ def no_low_ports():
 
 def cases_of_ways():
     """Links that the system doesn't allow, or knows no way to."""
-    no_answer = "no answer from 224.0.0.1:5000: see --address, the network, and what stands between"
+    no_answer = "no answer from 224.0.0.1:5000: check --address, the network and firewalls"
     yield Case([*END, "--address", "224.0.0.1", "--port", "5000"], 3, "Link", [no_answer])
     with open("/proc/sys/net/ipv4/ip_unprivileged_port_start", encoding="ascii") as file:
         are_low_ports_kept = int(file.read()) > 1
     if are_low_ports_kept:
-        kept = "the system doesn't allow port 1: take one from 1024 on"
+        kept = "no permission to use port 1: choose a port from 1024 up"
         yield Case([*LISTENS, "--address", HERE, "--port", "1"], 3, "Link", [kept], how={"preexec_fn": no_low_ports})
 
 
 def cases_of_links():
     port = free_port()
-    refused = f"connection refused by {HERE}:{port}: nobody listens there."
-    refused += " Start the other end first, or see --address and --port"
+    refused = f"connection refused by {HERE}:{port}: nothing listens there."
+    refused += " Start the other end first, or check --address and --port"
     yield Case([*HERE_AT, str(port)], 3, "Link", [refused])
     peers = Listening()
-    in_use = f"port {peers.port} is in use: another program listens there. End it, or take another --port"
-    for options in ([], ["--again"]):
+    in_use = f"port {peers.port} is in use: stop the program that uses it, or choose another --port"
+    for options in ([], ["--reconnect"]):
         yield Case([*LISTENS, "--address", HERE, "--port", str(peers.port), *options], 3, "Link", [in_use])
-    no_host = "no such host: {}. See --address, an IP address or a name that this machine can look up"
+    no_host = "unknown host: {}. --address takes an IP address or a resolvable host name"
     for name in ("no.such.host.invalid", "256.256.256.256"):
         yield Case([*END, "--address", name, "--port", "5000"], 3, "Link", [no_host.format(name)])
-    foreign = "192.0.2.1 is no address of this machine, where a passive end listens: see --address"
+    foreign = "192.0.2.1 is not an address of this machine: a passive end cannot listen there. Check --address"
     yield Case([*LISTENS, "--address", "192.0.2.1", "--port", str(port)], 3, "Link", [foreign])
-    turns = "all turns are used, and the connection was up: give more --turns"
+    turns = "the turn limit was reached while the connection was up: raise --turns"
     waits = Listening()
     yield Case([*HERE_AT, str(waits.port), "--turns", "0", "--t8", "10"], 3, "Turns", [turns])
     waits.listener.close()
-    broke = "the connection broke: the other end reset it, or took nothing for T8. The log tells how far it came"
+    broke = "the connection failed: the peer reset it, or accepted no data for T8. The log shows how far it got"
     with ResettingPeer() as resets:
         yield Case([*HERE_AT, str(resets.port)], 3, "Link", [broke])
     peers.listener.close()
@@ -324,7 +324,7 @@ def told_at_terminal(words, octets, env):
 def at_terminal():
     """A fault is explained at a terminal, unless HSMS_VERBOSE has another value than 1."""
     fault = "hsms: CutOff\n"
-    worded = f"{fault}the input ends within a message: its last octets are missing\n"
+    worded = f"{fault}the input ends inside a message\n"
     octets = b"\0\0\0\x0a\0"
     for value, told in ((None, worded), ("1", worded), ("0", fault), ("", fault)):
         same(told_at_terminal(["show"], octets, {"HSMS_VERBOSE": value}), (2, told))
@@ -380,13 +380,13 @@ def unreadable_words(log, audited):
 
 
 def documented(cases):
-    """Each sentence stands in the table of docs/FORMATS.md, but for what is the user's in it."""
-    with open(f"{TOP}/docs/FORMATS.md", encoding="utf-8") as file:
+    """Each sentence stands in the table of docs/CLI.md, but for what is the user's in it."""
+    with open(f"{TOP}/docs/CLI.md", encoding="utf-8") as file:
         page = " ".join(file.read().split())
     for case in cases:
         sentence = case.told[0].split(": ", 1)[1] if case.told[0].startswith("line ") else case.told[0]
         if case.fault not in ("command line", "Link") and sentence not in page:
-            raise AssertionError(f"docs/FORMATS.md lacks {sentence!r}")
+            raise AssertionError(f"docs/CLI.md lacks {sentence!r}")
 
 
 def main():

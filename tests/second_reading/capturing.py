@@ -217,7 +217,7 @@ class Capture:
         if not kinds:
             return []
         each = ", ".join(f"{kind} {kinds.count(kind)}" for kind in KINDS if kind in kinds)
-        return [f"# {len(kinds)} packet{'s' if kinds[1:] else ''} left out: {each}"]
+        return [f"# {len(kinds)} packet{'s' if kinds[1:] else ''} skipped: {each}"]
 
 
 def line_of(happening: Happening, end: int, time: int) -> str:
@@ -233,7 +233,7 @@ def log_of(outcome: Outcome, end: int, options: Options) -> Tuple[str, List[int]
         lines += [f"# packet {happening.packet}", line_of(happening, end, happening.time)]
         time = happening.time
     if outcome.is_replaced:
-        lines += ["# replaced", f"{time} down"]
+        lines += ["# assumed: replaced by a new connection", f"{time} down"]
     return "".join(line + "\n" for line in lines), [happening.packet for happening in outcome.told.happenings]
 
 
@@ -306,7 +306,7 @@ def write_log(octets: bytes, options: Options) -> Answer:
         fault = None
         if happening is None:
             if outcome.is_replaced:
-                lines += ["# replaced", f"{time} down"]
+                lines += ["# assumed: replaced by a new connection", f"{time} down"]
             fault = outcome.told.fault and of_file(capture, outcome)
             current = None if current is outcome else current
         elif happening.what == "up" and peers not in (None, addresses):

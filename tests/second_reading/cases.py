@@ -74,7 +74,7 @@ def failings_of(audited: Audited) -> Set[str]:
 
 
 def timings_of(audited: Audited) -> Set[str]:
-    """The lawful expiries and ends past a timer, and what is lawful once the session is over."""
+    """The lawful expiries and ends past a timer, and what is lawful once the session has ended."""
     timings = set()
     for at, entry in enumerate(audited.entries):
         if entry.event in ("t3", "cut", "down", session.DISCARDED):

@@ -40,32 +40,32 @@ LINE_NAMED = re.compile(r"\bline (\d+)")
 Object = Dict[str, Any]
 
 SENTENCES = {
-    "unreadable": "it can't be read",
-    "Backwards": "its time is before that of the last line",
-    "NotUp": "the connection isn't up, or this `up` may not stand here",
-    "Ended": "the session is over",
-    "T3Overdue": "a reply is overdue, and no `t3` says so",
-    "LinkOverdue": "T6 or T7 has run out, and no `cut` says so",
-    "NotDue": "this timer hasn't run out",
-    "TooLong": "the frame is longer than the settings allow",
-    "PType": "its PType isn't 0",
-    "SType": "single session doesn't have its SType",
-    "ControlText": "a control message with a text",
-    "Session": "its session ID isn't that of such a message",
-    "Direction": "this end may not send or take it",
-    "NotSelected": "data, and the session isn't selected",
-    "WBit": "a reply that asks for a reply",
-    "Text": "its text is no item, or is nested too deep",
-    "SystemInUse": "its system bytes are those of an open transaction",
-    "NoTransaction": "it answers nothing that is open",
-    "SelectStatus": "a Select.rsp with status 0 while the session is selected",
-    "NoCause": "nothing is wrong with a frame that was thrown away",
+    "unreadable": "not a valid log line",
+    "Backwards": "the time is earlier than the previous entry's",
+    "NotUp": "the connection is not up, or this `up` is out of place",
+    "Ended": "the session has ended",
+    "T3Overdue": "no reply came within T3, and no `t3` is logged",
+    "LinkOverdue": "T6 or T7 has expired, and no `cut` is logged",
+    "NotDue": "no such timer has expired",
+    "TooLong": "the message is longer than MAX",
+    "PType": "PType is not 0",
+    "SType": "HSMS-SS does not use this SType",
+    "ControlText": "a control message has message text",
+    "Session": "wrong session ID for this kind of message",
+    "Direction": "this end may not send or receive this message",
+    "NotSelected": "data message while the session is not selected",
+    "WBit": "the W bit is set in a reply",
+    "Text": "the text is not one valid item, or is nested too deeply",
+    "SystemInUse": "an open transaction already has these system bytes",
+    "NoTransaction": "no matching open transaction",
+    "SelectStatus": "status 0, but the session is already selected",
+    "NoCause": "a discarded message that breaks no rule",
 }
 
 
 def sentence_of(entry: Entry, rule: str) -> str:
     if rule == "WBit" and entry.frame.kind == "primary":
-        return "a primary of stream 9 that asks for a reply"
+        return "the W bit is set in a stream 9 message"
     return SENTENCES[rule]
 
 
@@ -147,12 +147,12 @@ def remedy_of(before: Before, entry: Entry, rule: str) -> Remedy:
 def remedy_words(entry: Entry, remedy: Remedy, is_utc: bool) -> str:
     other, first = remedy
     if other is None:
-        return "goes on without it"
+        return "continues without it"
     if first is not None:
-        return f"goes on as if `{words_of(first)}` stood before it"
+        return f"continues as if `{words_of(first)}` were logged before it"
     if other.event != entry.event:
-        return "goes on as if it were thrown away"
-    return f"goes on as if its time were {date_of(other.time) if is_utc and date_of(other.time) else other.time}"
+        return "continues as if it were discarded"
+    return f"continues as if its time were {date_of(other.time) if is_utc and date_of(other.time) else other.time}"
 
 
 class Note:
@@ -179,8 +179,8 @@ class Alike:
 
     @property
     def words(self) -> List[bytes]:
-        times = f", {self.times} times" if self.times > 1 else ""
-        return [below(f"FAIL {self.rule}: like line {self.line}{times}")]
+        times = f" ({self.times} times)" if self.times > 1 else ""
+        return [below(f"FAIL {self.rule}: same as line {self.line}{times}")]
 
     @property
     def members(self) -> Object:
@@ -255,7 +255,7 @@ class Rest(NamedTuple):
     last: int
 
     def text(self) -> bytes:
-        return f"{self.rule}: and {self.count} more like line {self.like}, up to line {self.last}\n".encode()
+        return f"{self.rule}: {self.count} more like line {self.like}, the last at line {self.last}\n".encode()
 
 
 class Group:
@@ -432,14 +432,15 @@ class Telling:
         return next((at for at in self.open() if session.closes(self.entries[at], entry)), None)
 
     def tell_closing(self, entry: Entry, opener: int):
-        tie = {"answered by": "answers", "rejected by": "rejects", "expired at": "expires"}[self.tie_of(entry)]
+        tie = {"answered by": "answers", "rejected by": "rejects", "timed out at": "expires"}[self.tie_of(entry)]
+        phrase = "T3 timeout of" if tie == "expires" else tie
         line, after = self.places[opener], entry.time - self.entries[opener].time
-        self.lines[-1].notes.append(Note(f"{tie} line {line} after {after} ms", {tie: line, "after": after}))
+        self.lines[-1].notes.append(Note(f"{phrase} line {line} after {after} ms", {tie: line, "after": after}))
 
     @staticmethod
     def tie_of(entry: Entry) -> str:
         if entry.event == "t3":
-            return "expired at"
+            return "timed out at"
         return "rejected by" if entry.frame.kind == "reject" else "answered by"
 
     def positions(self) -> List[int]:
@@ -468,17 +469,17 @@ class Telling:
         frame, settings = entry.frame, self.settings
         if rule == "Ended":
             is_end = [at for at in self.positions() if Before(settings, [self.entries[at]]).is_over]
-            return f"over since line {self.places[is_end[-1]]}"
+            return f"the session ended at line {self.places[is_end[-1]]}"
         if rule == "Session":
-            return f"session {settings.device if frame.is_data else 0xFFFF:04x} expected, {frame.session:04x} came"
+            return f"expected session ID {settings.device if frame.is_data else 0xFFFF:04x}, got {frame.session:04x}"
         if rule == "NotSelected":
             entries = self.entries
             asked = [at for at in self.positions() if entries[at].frame and entries[at].frame.kind == "select.req"]
             if asked:
-                return f"no select.rsp with status 0 answers line {self.places[asked[-1]]}"
-            return "its connection has no select.req yet"
+                return f"line {self.places[asked[-1]]} has no select.rsp with status 0"
+            return "no select.req yet on this connection"
         if rule == "Text":
-            return f"{fault_of(frame.text, settings.depth).words()} of its text"
+            return f"item error: {fault_of(frame.text, settings.depth).words()}"
         return self.expected_answer(before, entry) if rule == "NoTransaction" else None
 
     def expected_answer(self, before: Before, entry: Entry) -> Optional[str]:
@@ -489,20 +490,20 @@ class Telling:
             request = entries[at].frame
             if at in known and request.kind == "primary" and frame.kind == "reply":
                 came = f"S{frame.stream}F{frame.function}"
-                return f"{reply_to(request)} expected by line {self.places[at]}, {came} came"
+                return f"line {self.places[at]} expects {reply_to(request)}, got {came}"
             return None
         same = [at for at in known if entries[at].frame.system == frame.system]
         return self.no_longer_open(same[-1]) if same else self.only_one(before, entry)
 
     def no_longer_open(self, at: int) -> Optional[str]:
-        request, front = self.entries[at], f"line {self.places[at]} has its system bytes, and"
+        request, front = self.entries[at], f"line {self.places[at]} has the same system bytes, but"
         if request.event == DISCARDED:
-            return f"{front} was thrown away"
+            return f"{front} was discarded"
         if not session.opens(request):
-            return f"{front} asks for no reply"
+            return f"{front} no W bit"
         for later in self.closings(request.event):
             if later > at and session.closes(request, self.entries[later]):
-                was = "" if self.entries[later].event == "t3" else "was "
+                was = "already " if self.entries[later].event == "t3" else "was already "
                 return f"{front} {was}{self.tie_of(self.entries[later])} line {self.places[later]}"
         return None
 
@@ -514,7 +515,7 @@ class Telling:
         if at not in self.requests(SENT):
             return None
         frame = opener.frame
-        return f"line {self.places[at]} alone awaits a reply: {reply_to(frame)} {frame.system:08x}"
+        return f"the only open primary is line {self.places[at]}: it expects {reply_to(frame)} {frame.system:08x}"
 
     def tell_concern(self, entry: Entry, rule: str):
         for at in self.open():
@@ -522,7 +523,7 @@ class Telling:
             is_oldest = rule == "T3Overdue" and opener.event == SENT and opener.frame.is_data
             is_meant = rule == "SystemInUse" and opener.event == entry.event
             if is_oldest or is_meant and opener.frame.system == entry.frame.system:
-                self.further(f"concerns line {self.places[at]}", concerns=self.places[at])
+                self.further(f"open transaction: line {self.places[at]}", concerns=self.places[at])
                 return
 
     def outcomes(self) -> List[Object]:
@@ -556,7 +557,7 @@ class Telling:
                 counts["waiting" if at in still_open else "ended"] += 1
                 continue
             closing = self.entries[end]
-            fate = {"expired at": "expired", "rejected by": "rejected", "answered by": "answered"}[self.tie_of(closing)]
+            fate = {"timed out at": "expired", "rejected by": "rejected", "answered by": "answered"}[self.tie_of(closing)]
             if fate == "answered" and closing.frame.function == 0:
                 fate = "aborted"
             counts[fate] += 1
@@ -576,14 +577,14 @@ def times_of(times: List[Tuple[int, int]]) -> Object:
     median, most = (max(least, rounded(ranked[-(-len(ranked) * share // 100) - 1])) for share in (50, 99))
     if len(ranked) < 100:
         most = greatest
-    return {"least": least, "median": median, "p99": most, "greatest": greatest, "line": line}
+    return {"min": least, "median": median, "p99": most, "max": greatest, "line": line}
 
 
 def outcome_text(outcome: Object) -> bytes:
     """What became of the primaries of a kind, in words."""
     name = f"S{outcome['stream']}F{outcome['function']}" if "stream" in outcome else "others"
     fates = ("answered", "aborted", "expired", "rejected", "ended", "waiting")
-    times = ("least", "median", "p99", "greatest", "line")
+    times = ("min", "median", "p99", "max", "line")
     words = [f" {it}={outcome[it]}" for it in fates if outcome[it]] + [f" {it}={outcome[it]}" for it in times if it in outcome]
     return f"{name} W {outcome['direction']}={outcome['opened']}{''.join(words)}\n".encode()
 
@@ -634,8 +635,8 @@ def unjudged(lines: List[bytes], excerpt: Excerpt) -> Explained:
     told = [Line(number, None, line[:limit], excerpt.is_utc) for number, line in enumerate(lines, 1)]
     for line, octets in list(zip(told, lines))[:1]:
         line.notes.append(unreadable(reasons.of_first_line(octets)))
-    why = "line 1 can't be read" if lines else "the log is empty"
-    return Explained(excerpt.shown(told)[0], f"nothing was judged: {why}", [], None, [])
+    why = "line 1 is unreadable" if lines else "the log is empty"
+    return Explained(excerpt.shown(told)[0], f"not audited: {why}", [], None, [])
 
 
 def explained(log: bytes, excerpt: Excerpt) -> Explained:
@@ -648,7 +649,7 @@ def explained(log: bytes, excerpt: Excerpt) -> Explained:
     for number, line in enumerate(lines[1:], 2):
         telling.tell(line, number)
     shown, rests = excerpt.shown(telling.lines)
-    nothing = None if telling.judged else "nothing was judged: the log has no entry"
+    nothing = None if telling.judged else "not audited: the log has no entries"
     return Explained(shown, nothing, rests, telling.failures, telling.outcomes())
 
 

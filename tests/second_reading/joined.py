@@ -293,9 +293,9 @@ def log_of(told: Told, end: int, options: Options) -> bytes:
     lines = [options.settings(end)]
     for line in told.lines:
         mark = ">" if line.end == end else "<"
-        comment = f"# packet {line.packet}" if line.packet else "# supposed"
+        comment = f"# packet {line.packet}" if line.packet else "# assumed: before the capture"
         if line.what == "left out":
-            lines.append(f"{comment} left out: what it answers isn't in the capture")
+            lines.append(f"{comment} skipped: its request is not in the capture")
             continue
         lines.append(comment)
         said = f"{mark} {line.octets[4:].hex()}" if line.what == "message" else line.what

@@ -24,7 +24,7 @@ CUSTOM = (0xBAD, 0x40000BAD)
 FIN, SYN, RST, PSH, ACK = 1, 2, 4, 8, 16
 
 # Why a packet is left out that may carry a segment, in the order in which they are told.
-KINDS = ["link", "short", "fragment", "cut", "header"]
+KINDS = ["link", "short", "fragment", "truncated", "header"]
 
 
 @dataclass(frozen=True)
@@ -283,7 +283,7 @@ def at_ipv6(rest: bytes) -> Optional[Segment]:
 def at_tcp(ends: List[str], rest: bytes, place: int, end: int) -> Segment:
     """The segment from a place on, in a packet of IP with this end: 0 says that it has all that there is."""
     if end > len(rest):
-        raise LeftOut("cut")
+        raise LeftOut("truncated")
     header, tcp = 20, rest[place:end or len(rest)]
     if len(tcp) >= header:
         header = (tcp[12] >> 4) * 4

@@ -213,7 +213,7 @@ class Before:
 
     @property
     def is_timed(self) -> bool:
-        """Whether something can be overdue: not once the session is over, nor directly after `down`."""
+        """Whether something can be overdue: not once the session has ended, nor directly after `down`."""
         return not self.is_over and not self.follows_down
 
     @property
@@ -342,7 +342,7 @@ def breaks_select_status(before: Before, direction: str, frame: Frame) -> bool:
 
 
 def breaks_no_cause(before: Before, entry: Entry) -> bool:
-    """A frame may be thrown away only once the session is over, or where it would break a rule as a taken one."""
+    """A frame may be thrown away only once the session has ended, or where it would break a rule as a taken one."""
     if entry.event != DISCARDED or before.is_over:
         return False
     return rule_of_frame(before, TAKEN, entry.frame) is None

@@ -78,9 +78,9 @@ class Unjudged:
         parts = []
         if self.running:
             were = "was" if len(self.running) == 1 else "were"
-            parts.append(f"{sessions_of(self.running)} that {were} running before the capture (--joined)")
+            parts.append(f"{sessions_of(self.running)} that {were} running before the capture (--midstream)")
         if self.elsewhere:
-            parts.append(f"{sessions_of(self.elsewhere)} of other addresses (--with)")
+            parts.append(f"{sessions_of(self.elsewhere)} of other addresses (--peer)")
         if self.given_up:
             of = "another device" if len(self.devices) == 1 else "other devices"
             count = f"{self.given_up} session{'' if self.given_up == 1 else 's'}"

@@ -25,13 +25,13 @@ abbrev pub running_part : Pairs → List ℕ
 running_part pairs =
     let count = length pairs.pairs.keys in
     if count == 0 then [] else
-    (if count == 1 then codes "1 session that was running before the capture (--joined)"
-    else sessions_text count pairs.has_more ++ codes " that were running before the capture (--joined)")
+    (if count == 1 then codes "1 session that was running before the capture (--midstream)"
+    else sessions_text count pairs.has_more ++ codes " that were running before the capture (--midstream)")
 
 abbrev pub elsewhere_part : Pairs → List ℕ
 elsewhere_part pairs =
     let count = length pairs.pairs.keys in
-    if count == 0 then [] else sessions_text count pairs.has_more ++ codes " of other addresses (--with)"
+    if count == 0 then [] else sessions_text count pairs.has_more ++ codes " of other addresses (--peer)"
 
 abbrev pub devices_part : ℕ → List ℕ → List ℕ
 devices_part sessions devices =

@@ -66,10 +66,10 @@ fn running_part(alloc: Global, running: &Pairs) -> Result<String, AllocError>
     let mut part = String::new(alloc);
     match running.count() {
         0 => {}
-        1 => part.push_str("1 session that was running before the capture (--joined)")?,
+        1 => part.push_str("1 session that was running before the capture (--midstream)")?,
         count => {
             push_sessions(&mut part, count as u64, running.has_more())?;
-            part.push_str(" that were running before the capture (--joined)")?;
+            part.push_str(" that were running before the capture (--midstream)")?;
         }
     }
     Ok(part)
@@ -82,7 +82,7 @@ fn elsewhere_part(alloc: Global, elsewhere: &Pairs) -> Result<String, AllocError
     let mut part = String::new(alloc);
     if elsewhere.count() > 0 {
         push_sessions(&mut part, elsewhere.count() as u64, elsewhere.has_more())?;
-        part.push_str(" of other addresses (--with)")?;
+        part.push_str(" of other addresses (--peer)")?;
     }
     Ok(part)
 }

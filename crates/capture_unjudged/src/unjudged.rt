@@ -16,17 +16,17 @@ use std::alloc::{AllocError, Global};
 use std::net::IpAddr;
 
 /// What looks like HSMS in a capture and is not judged: the sessions that were running before it, those of other addresses
-/// than `--with`, those of other devices, and other ports.
+/// than `--peer`, those of other devices, and other ports.
 #[derive(Drop)]
 pub struct Unjudged {
     port: u16,
     peer: Option<IpAddr>,
     settings: Settings,
-    /// Sessions that were running before the capture, without `--joined`.
+    /// Sessions that were running before the capture, without `--midstream`.
     pub(crate) running: Pairs,
-    /// Sessions of which no end has the address of `--with`.
+    /// Sessions of which no end has the address of `--peer`.
     pub(crate) elsewhere: Pairs,
-    /// How many sessions are of other devices, with `--joined`.
+    /// How many sessions are of other devices, with `--midstream`.
     pub(crate) strange: u64,
     /// Their devices.
     pub(crate) devices: Numbers,
@@ -115,7 +115,7 @@ impl Unjudged {
         self.is_complete
     }
 
-    /// Whether anything is not judged that no option leaves out. `--with` leaves out other addresses, `--port` other ports.
+    /// Whether anything is not judged that no option leaves out. `--peer` leaves out other addresses, `--port` other ports.
     pub fn is_refused(&self, has_port: bool) -> bool
         ensures { result ≡ is_refused has_port self.now }
     {

@@ -18,12 +18,18 @@ tie_word Answers = codes "answers"
 tie_word Rejects = codes "rejects"
 tie_word Expires = codes "expires"
 
+-- the start of the phrase for an entry that closes a transaction
+abbrev pub closing_word : Tie → List ℕ
+closing_word Answers = tie_word Answers
+closing_word Rejects = tie_word Rejects
+closing_word Expires = codes "T3 timeout of"
+
 -- the line that opened what an entry closes, and after how many ms
 abbrev pub closing_text : Closing → List ℕ
-closing_text c = tie_word c.tie ++ codes " line " ++ decimal c.line ++ codes " after " ++ decimal c.after ++ codes " ms"
+closing_text c = closing_word c.tie ++ codes " line " ++ decimal c.line ++ codes " after " ++ decimal c.after ++ codes " ms"
 
 abbrev pub concern_text : Concern → List ℕ
-concern_text c = codes "concerns line " ++ decimal c.line
+concern_text c = codes "open transaction: line " ++ decimal c.line
 
 abbrev pub why_name : Why → List ℕ
 why_name Unreadable = codes "unreadable"
@@ -32,14 +38,14 @@ why_name (Broken rule) = rule_name rule
 -- what is said of a rule, and of a primary of stream 9 with the W bit
 abbrev pub SaysRule : Rule → List ℕ → Type 0
 SaysRule rule words =
-    (words ≡ sentence_of rule) ⊎ ((rule ≡ WBit) × (words ≡ codes "a primary of stream 9 that asks for a reply"))
+    (words ≡ sentence_of rule) ⊎ ((rule ≡ WBit) × (words ≡ codes "the W bit is set in a stream 9 message"))
 
 -- the line by which failures are told, and how many
 abbrev pub group_text : FailureGroup → List ℕ
 group_text a =
-    codes "FAIL " ++ why_name a.why ++ codes ": like line " ++ decimal a.line ++ (if nat_lt 1 a.times then codes ", " ++ decimal a.times ++ codes " times" else [])
+    codes "FAIL " ++ why_name a.why ++ codes ": same as line " ++ decimal a.line ++ (if nat_lt 1 a.times then codes " (" ++ decimal a.times ++ codes " times)" else [])
 
 -- how many more there are, and up to which line
 abbrev pub rest_text : Rest → List ℕ
 rest_text r =
-    why_name r.why ++ codes ": and " ++ decimal r.count ++ codes " more like line " ++ decimal r.line ++ codes ", up to line " ++ decimal r.last
+    why_name r.why ++ codes ": " ++ decimal r.count ++ codes " more like line " ++ decimal r.line ++ codes ", the last at line " ++ decimal r.last

@@ -22,7 +22,7 @@ use Rattle.hsms_log.specs.Step.{entry_by}
 -- that a line can't be read is noted, and why
 abbrev pub NotesUnreadable : Reasoned → List Note → List Note → Type 0
 NotesUnreadable reasoned before after =
-    (failing : Failing) × (failing.why ≡ Unreadable) × (failing.sentence.now ≡ codes "it can't be read")
+    (failing : Failing) × (failing.why ≡ Unreadable) × (failing.sentence.now ≡ codes "not a valid log line")
     × (failing.expected ≡ Some (Form reasoned)) × (after ≡ before ++ Fails failing ∷ [])
 
 -- the course goes on with what a line carries, and this is noted of it

@@ -18,7 +18,7 @@ use hsms_machine::RepairAction;
 use std::alloc::AllocError;
 
 /// The words for a line that can't be read.
-pub const UNREADABLE: &str = "it can't be read";
+pub const UNREADABLE: &str = "not a valid log line";
 
 /// What is told of a line besides what it says.
 #[derive(Clone, Copy)]
@@ -59,7 +59,7 @@ impl Failing {
     /// That a line cannot be read, and why.
     pub fn unreadable(unreadable: Unreadable) -> Failing
         ensures why { result.why ≡ CannotBeRead }
-        ensures sentence { result.sentence.now ≡ codes "it can't be read" }
+        ensures sentence { result.sentence.now ≡ codes "not a valid log line" }
         ensures expected { result.expected ≡ Some (Form unreadable) }
     {
         Failing {

@@ -207,8 +207,8 @@ impl fmt::Display for Expected {
                 expected,
                 came,
             } => write_function(f, line, expected, came),
-            Expected::NoWait(line) => write_namesake(f, line, "asks for no reply"),
-            Expected::ThrownAway(line) => write_namesake(f, line, "was thrown away"),
+            Expected::NoWait(line) => write_namesake(f, line, "but no W bit"),
+            Expected::ThrownAway(line) => write_namesake(f, line, "but was discarded"),
             Expected::Closed { line, tie, by } => write_closed(f, line, tie, by),
             Expected::OnlyOne {
                 line,
@@ -216,9 +216,9 @@ impl fmt::Display for Expected {
                 system,
             } => write_only_one(f, line, expected, system),
             Expected::Session { expected, came } => write_session(f, expected, came),
-            Expected::Text { fault, at } => write!(f, "{fault} at={at} of its text"),
+            Expected::Text { fault, at } => write!(f, "item error: {fault} at={at}"),
             Expected::Selected(request) => write_selected(f, request),
-            Expected::Over(line) => write!(f, "over since line {line}"),
+            Expected::Over(line) => write!(f, "the session ended at line {line}"),
             Expected::Form(unreadable) => write!(f, "{unreadable}"),
         }
     }
@@ -232,7 +232,7 @@ fn write_function<W: fmt::Write>(
     expected: Function,
     came: Function,
 ) -> fmt::Result {
-    write!(f, "{expected} expected by line {line}, {came} came")
+    write!(f, "line {line} expects {expected}, got {came}")
 }
 
 // The line has its system bytes, and this is the matter with it.
@@ -241,7 +241,7 @@ fn write_namesake<W: fmt::Write>(
     line: u64,
     matter: &str,
 ) -> fmt::Result {
-    write!(f, "line {line} has its system bytes, and {matter}")
+    write!(f, "line {line} has the same system bytes, {matter}")
 }
 
 fn write_closed<W: fmt::Write>(
@@ -262,7 +262,7 @@ fn write_only_one<W: fmt::Write>(
 ) -> fmt::Result {
     write!(
         f,
-        "line {line} alone awaits a reply: {expected} {system:08x}"
+        "the only open primary is line {line}: it expects {expected} {system:08x}"
     )
 }
 
@@ -271,20 +271,20 @@ fn write_session<W: fmt::Write>(
     expected: u16,
     came: u16,
 ) -> fmt::Result {
-    write!(f, "session {expected:04x} expected, {came:04x} came")
+    write!(f, "expected session ID {expected:04x}, got {came:04x}")
 }
 
 fn write_selected<W: fmt::Write>(f: &mut fmt::Formatter<W>, request: Option<u64>) -> fmt::Result {
     match request {
-        Some(line) => write!(f, "no select.rsp with status 0 answers line {line}"),
-        None => write!(f, "its connection has no select.req yet"),
+        Some(line) => write!(f, "line {line} has no select.rsp with status 0"),
+        None => write!(f, "no select.req yet on this connection"),
     }
 }
 
 fn closed_word(tie: Tie) -> &'static str {
     match tie {
-        Tie::Answers => "was answered by",
-        Tie::Rejects => "was rejected by",
-        Tie::Expires => "expired at",
+        Tie::Answers => "but was already answered by",
+        Tie::Rejects => "but was already rejected by",
+        Tie::Expires => "but already timed out at",
     }
 }

@@ -34,7 +34,7 @@ pub struct Requests {
 }
 
 /// What is kept of a connection: the last requests of each direction, the line of the last Select.req, and the one since
-/// which the session is over.
+/// which the session has ended.
 pub struct Past {
     pub sent: Requests,
     pub received: Requests,

@@ -29,8 +29,8 @@ const BODY: &str = "</style></head>\n<body>\n";
 
 // The heads of the columns that tell what became of primaries.
 const COLUMNS: &str = "<table>\n<tr><th>Primaries</th><th>all</th><th>answered</th><th>aborted</th>\
-    <th>expired</th><th>rejected</th><th>ended</th><th>waiting</th><th>least ms</th><th>median</th><th>p99</th>\
-    <th>greatest</th></tr>\n";
+    <th>expired</th><th>rejected</th><th>ended</th><th>waiting</th><th>min ms</th><th>median</th><th>p99</th>\
+    <th>max</th></tr>\n";
 
 fn put(page: &mut Page, markup: &str) {
     page.append_chunk(markup.as_bytes());
@@ -296,7 +296,7 @@ fn write_open(page: &mut Page, links: &Links) {
     if lines.is_empty() {
         return;
     }
-    put(page, "<p class=\"open\">Not closed by a line here:");
+    put(page, "<p class=\"open\">Open transactions:");
     for line in lines {
         write_line_number(page, " <a id=\"r", Some(*line));
         write_line_number(page, " href=\"#l", links.shown_line(*line));
@@ -361,7 +361,7 @@ pub fn write_gap(page: &mut Page, gap: Gap) {
     } else {
         put_number(page, "line ", gap.to);
     }
-    put(page, " left out</div>\n");
+    put(page, " not shown</div>\n");
 }
 
 /// Writes words in a paragraph behind its front.
@@ -383,7 +383,7 @@ pub fn write_groups(page: &mut Page, groups: &Groups) {
     if count >= MOST {
         put(
             page,
-            "<p>Failures of further kinds stand at their lines alone.</p>\n",
+            "<p>Failures of other kinds are shown at their lines only.</p>\n",
         );
     }
 }
@@ -397,7 +397,7 @@ fn write_group(page: &mut Page, group: Group) {
     append_text(page, matter_of(group.why).as_bytes());
     if group.count > 1 {
         put_number(page, "; ", group.count - 1);
-        put_number(page, " more like it, up to line ", group.last);
+        put_number(page, " more like it, the last at line ", group.last);
     }
     put(page, "</li>\n");
 }
@@ -406,7 +406,7 @@ fn write_group(page: &mut Page, group: Group) {
 fn matter_of(why: Why) -> &'static str {
     match why {
         Why::Unreadable => UNREADABLE,
-        Why::Broken(Rule::WBit) => "it asks for a reply, and may not",
+        Why::Broken(Rule::WBit) => "the W bit must not be set",
         Why::Broken(rule) => sentence(rule),
     }
 }

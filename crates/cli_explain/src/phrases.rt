@@ -1,7 +1,7 @@
 //! The words that stand below a line.
 
 ghost use Rattle.std.specs.Prelude.{◌≡◌, Some};
-ghost use Rattle.cli_explain.specs.Phrases.{group_text, closing_text, concern_text, rest_text, tie_word, why_name};
+ghost use Rattle.cli_explain.specs.Phrases.{group_text, closing_text, closing_word, concern_text, rest_text, tie_word, why_name};
 
 use crate::timestamp::Moment;
 use hsms_frame::{Kind, kind};
@@ -44,7 +44,17 @@ pub fn word_of(tie: Tie) -> &'static str
     }
 }
 
-/// That an entry closes the transaction which a line opened, so many ms after it.
+// The start of the phrase for an entry that closes a transaction.
+fn closing_phrase(tie: Tie) -> &'static str
+    ensures { result.now ≡ closing_word tie }
+{
+    match tie {
+        Tie::Expires => "T3 timeout of",
+        Tie::Answers | Tie::Rejects => word_of(tie),
+    }
+}
+
+/// An entry that closes the transaction opened by a line, `after` ms later.
 #[derive(Clone, Copy)]
 pub struct Closing {
     pub tie: Tie,
@@ -56,7 +66,7 @@ impl fmt::Display for Closing {
     ghost output = { λ closing. Some (closing_text closing) };
 
     fn fmt<W: fmt::Write>(&self, f: &mut fmt::Formatter<W>) -> fmt::Result {
-        let tie = word_of(self.tie);
+        let tie = closing_phrase(self.tie);
         let line = self.line;
         let after = self.after;
         write!(f, "{tie} line {line} after {after} ms")
@@ -74,7 +84,7 @@ impl fmt::Display for Concern {
 
     fn fmt<W: fmt::Write>(&self, f: &mut fmt::Formatter<W>) -> fmt::Result {
         let line = self.line;
-        write!(f, "concerns line {line}")
+        write!(f, "open transaction: line {line}")
     }
 }
 
@@ -94,9 +104,9 @@ impl fmt::Display for FailureGroup {
         let line = self.line;
         let times = self.times;
         if times > 1 {
-            write!(f, "FAIL {name}: like line {line}, {times} times")
+            write!(f, "FAIL {name}: same as line {line} ({times} times)")
         } else {
-            write!(f, "FAIL {name}: like line {line}")
+            write!(f, "FAIL {name}: same as line {line}")
         }
     }
 }
@@ -120,7 +130,7 @@ impl fmt::Display for Rest {
         let last = self.last;
         write!(
             f,
-            "{name}: and {count} more like line {line}, up to line {last}"
+            "{name}: {count} more like line {line}, the last at line {last}"
         )
     }
 }
@@ -156,9 +166,9 @@ impl Unjudged {
     /// The same in words.
     pub fn words(self) -> &'static str {
         match self {
-            Unjudged::Empty => "nothing was judged: the log is empty",
-            Unjudged::Unreadable => "nothing was judged: line 1 can't be read",
-            Unjudged::NoEntry => "nothing was judged: the log has no entry",
+            Unjudged::Empty => "not audited: the log is empty",
+            Unjudged::Unreadable => "not audited: line 1 is unreadable",
+            Unjudged::NoEntry => "not audited: the log has no entries",
         }
     }
 }
@@ -234,7 +244,7 @@ impl fmt::Display for Put {
 impl fmt::Display for Continuation {
     fn fmt<W: fmt::Write>(&self, f: &mut fmt::Formatter<W>) -> fmt::Result {
         if let Some(put) = Put::of(self.repair_action) {
-            return write!(f, "goes on as if `{put}` stood before it");
+            return write!(f, "continues as if `{put}` were logged before it");
         }
         match self.repair_action {
             RepairAction::Raise(time) => {
@@ -242,10 +252,10 @@ impl fmt::Display for Continuation {
                     time,
                     utc: self.utc,
                 };
-                write!(f, "goes on as if its time were {moment}")
+                write!(f, "continues as if its time were {moment}")
             }
-            RepairAction::Discard => write!(f, "goes on as if it were thrown away"),
-            _ => write!(f, "goes on without it"),
+            RepairAction::Discard => write!(f, "continues as if it were discarded"),
+            _ => write!(f, "continues without it"),
         }
     }
 }

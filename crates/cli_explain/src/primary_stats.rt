@@ -80,10 +80,10 @@ impl Times {
     /// The same, each with its name.
     pub fn named(&self) -> [(&'static str, u64); 5] {
         [
-            ("least", self.least),
+            ("min", self.least),
             ("median", self.median),
             ("p99", self.most),
-            ("greatest", self.greatest),
+            ("max", self.greatest),
             ("line", self.line),
         ]
     }

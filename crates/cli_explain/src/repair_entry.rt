@@ -213,7 +213,7 @@ fn sentence_of(what: What, rule: Rule) -> &'static str
     match what {
         What::Frame(_, header) => {
             if rule == Rule::WBit && kind(header) == Kind::Primary {
-                "a primary of stream 9 that asks for a reply"
+                "the W bit is set in a stream 9 message"
             } else {
                 sentence(rule)
             }

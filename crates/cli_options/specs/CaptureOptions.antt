@@ -20,8 +20,8 @@ captured_number = record { name = codes "port"; least = 1; greatest = 65535; lef
 
 abbrev pub place_rules : List Rule
 place_rules =
-    option_of captured_number ∷ text_option (codes "with") ∷ text_option (codes "active") ∷ text_option (codes "log")
-    ∷ flag_option (codes "joined") ∷ option_of device_number ∷ []
+    option_of captured_number ∷ text_option (codes "peer") ∷ text_option (codes "active") ∷ text_option (codes "log")
+    ∷ flag_option (codes "midstream") ∷ option_of device_number ∷ []
 
 abbrev pub size_rules : List Rule
 size_rules = option_of max_number ∷ option_of depth_number ∷ []
@@ -43,7 +43,7 @@ IsPeer (Some text) (Some address) = IsIpText text address
 IsPeer _ _ = ⊥
 
 abbrev pub HasPeer : List Row → Option IpAddr → Type 0
-HasPeer rows peer = IsPeer (first_of (codes "with") rows) peer
+HasPeer rows peer = IsPeer (first_of (codes "peer") rows) peer
 
 -- the text of the option `log`, if any, that asks for the log of this role, or for none
 abbrev pub log_word : Option Role → Option Text
@@ -63,7 +63,7 @@ abbrev pub HasCapturing : List Row → Capturing → Type 0
 HasCapturing rows capturing =
     (number_in captured_number rows ≡ Some capturing.port) × HasPeer rows capturing.peer
     × (first_of (codes "log") rows ≡ log_word capturing.log) × HasActive rows capturing.active.role × HasEnd rows capturing.active.role Active capturing.active
-    × HasEnd rows (other_role capturing.active.role) Passive capturing.passive × IsFlag (codes "joined") rows capturing.joined
+    × HasEnd rows (other_role capturing.active.role) Passive capturing.passive × IsFlag (codes "midstream") rows capturing.joined
 
 -- its port is within its limits; the numbers of settings are by their type
 abbrev pub IsCapturingWithinLimits : Capturing → Type 0

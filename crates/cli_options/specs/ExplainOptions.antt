@@ -23,7 +23,7 @@ to_number = record { name = codes "to"; least = 1; greatest = 4294967295; left_o
 abbrev pub explain_rules : List Rule
 explain_rules =
     text_option (codes "only") ∷ option_of around_number ∷ option_of from_number ∷ option_of to_number
-    ∷ text_option (codes "form") ∷ flag_option (codes "utc") ∷ []
+    ∷ text_option (codes "format") ∷ flag_option (codes "utc") ∷ []
 
 -- the text of the option `only`, if any, that asks for these lines
 abbrev pub only_word : Lines → Option Text
@@ -38,7 +38,7 @@ output_format_word Html = Some (codes "html")
 
 -- the form is that which the option `form` names, and text where it is left out
 abbrev pub HasFormat : List Row → OutputFormat → Type 0
-HasFormat rows output_form = Some (unwrap_or (first_of (codes "form") rows) (codes "text")) ≡ output_format_word output_form
+HasFormat rows output_form = Some (unwrap_or (first_of (codes "format") rows) (codes "text")) ≡ output_format_word output_form
 
 -- the matches ask for this excerpt
 abbrev pub HasExcerpt : List Row → Excerpt → Type 0

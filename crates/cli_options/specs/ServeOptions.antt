@@ -69,7 +69,7 @@ handler_rules =
 
 abbrev pub again_rules : List Rule
 again_rules =
-    flag_option (codes "again") ∷ flag_option (codes "once") ∷ option_of connections_number ∷ option_of t5_number ∷ []
+    flag_option (codes "reconnect") ∷ flag_option (codes "once") ∷ option_of connections_number ∷ option_of t5_number ∷ []
 
 abbrev pub serve_rules : List Rule
 serve_rules = connection_rules ++ (time_rules ++ (limit_rules ++ (handler_rules ++ again_rules)))
@@ -115,7 +115,7 @@ limits_repeat rows =
 -- the matches say so of connections one after the other, and something of further ones only where there are some
 abbrev pub HasRepeat : List Row → Repeat → Type 0
 HasRepeat rows repeat =
-    IsFlag (codes "again") rows repeat.again × IsFlag (codes "once") rows repeat.once
+    IsFlag (codes "reconnect") rows repeat.again × IsFlag (codes "once") rows repeat.once
     × (number_in connections_number rows ≡ Some repeat.connections) × (number_in t5_number rows ≡ Some repeat.t5)
     × (limits_repeat rows ≡ true → repeat.again ≡ true)
 

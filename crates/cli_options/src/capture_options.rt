@@ -48,7 +48,7 @@ pub fn capturing_of(options: &ArgMatches<'_>) -> Option<Capturing>
         port,
         peer,
         log,
-        joined: flag_of(options, "joined"),
+        joined: flag_of(options, "midstream"),
         active,
         passive,
     })
@@ -59,7 +59,7 @@ fn peer_of(options: &ArgMatches<'_>) -> Option<Option<IpAddr>>
     ensures some { IfSome result (HasPeer (rows_of (found_of options.now))) }
     ensures none { result ≡ None → (peer : Option IpAddr) → HasPeer (rows_of (found_of options.now)) peer → ⊥ }
 {
-    match text_of(options, "with") {
+    match text_of(options, "peer") {
         Some(text) => Some(Some(text.parse::<IpAddr>().ok()?)),
         None => Some(None),
     }

@@ -71,7 +71,7 @@ pub fn excerpt_of(options: &ArgMatches<'_>) -> Option<Excerpt>
         around: number_of(options, AROUND)?,
         from: number_of(options, FROM)?,
         to: number_of(options, TO)?,
-        form: output_format_named(text_or(options, "form", "text"))?,
+        form: output_format_named(text_or(options, "format", "text"))?,
         utc: flag_of(options, "utc"),
     })
 }

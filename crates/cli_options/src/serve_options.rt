@@ -106,7 +106,7 @@ fn repeat_of(options: &ArgMatches<'_>) -> Option<Repeat>
     ensures asks { IfSome result (HasRepeat (rows_of (found_of options.now))) }
     ensures none { result ≡ None → (repeat : Repeat) → HasRepeat (rows_of (found_of options.now)) repeat → ⊥ }
 {
-    let again = flag_of(options, "again");
+    let again = flag_of(options, "reconnect");
     if !again && limits_repeat(options) {
         return None;
     }

@@ -67,16 +67,14 @@ pub fn words_for(alloc: Global, failure: &Failure) -> Result<String, AllocError>
     let name = failure.fault.to_string(alloc)?;
     let name = name.as_str();
     let (name, place) = name.split_once(" at=").unwrap_or((name, ""));
-    let sentence = said_of(name, SENTENCES).unwrap_or("see docs/FORMATS.md");
+    let sentence = said_of(name, SENTENCES).unwrap_or("see docs/CLI.md");
     let said = match &failure.known {
         Known::Said(words) => words.as_str(),
         Known::Notation(input) => match place.parse::<usize>() {
             Ok(at) => return placed(alloc, input, at, sentence),
             Err(_) => sentence,
         },
-        Known::Packets => {
-            "this is a pcap file, a capture of packets: hsms capture reads it, and docs/CAPTURES.md tells more"
-        }
+        Known::Packets => { "this is a packet capture: use hsms capture (docs/CAPTURES.md)" }
         Known::Capture => said_of(name, CAPTURE_SENTENCES).unwrap_or(sentence),
         Known::Nothing => sentence,
     };
@@ -100,69 +98,69 @@ pub fn link_words(
         ConnectError::NoDescriptor => {
             return String::from_str(
                 alloc,
-                "no file descriptor is left for a connection: end what holds them, or allow more (ulimit -n)",
+                "no file descriptor is left: close some, or raise the limit (ulimit -n)",
             );
         }
     };
     match kind {
         ErrorKind::ConnectionRefused => format!(in alloc;
-            "connection refused by {address}:{port}: nobody listens there. Start the other end first, or see --address and --port"
+            "connection refused by {address}:{port}: nothing listens there. Start the other end first, or check --address and --port"
         ),
         ErrorKind::AddrInUse => format!(in alloc;
-            "port {port} is in use: another program listens there. End it, or take another --port"
+            "port {port} is in use: stop the program that uses it, or choose another --port"
         ),
         ErrorKind::Uncategorized | ErrorKind::InvalidInput => format!(in alloc;
-            "no such host: {address}. See --address, an IP address or a name that this machine can look up"
+            "unknown host: {address}. --address takes an IP address or a resolvable host name"
         ),
         ErrorKind::AddrNotAvailable => format!(in alloc;
-            "{address} is no address of this machine, where a passive end listens: see --address"
+            "{address} is not an address of this machine: a passive end cannot listen there. Check --address"
         ),
         ErrorKind::PermissionDenied => format!(in alloc;
-            "the system doesn't allow port {port}: take one from 1024 on"
+            "no permission to use port {port}: choose a port from 1024 up"
         ),
         ErrorKind::TimedOut | ErrorKind::HostUnreachable | ErrorKind::NetworkUnreachable =>
             format!(in alloc;
-                "no answer from {address}:{port}: see --address, the network, and what stands between"
+                "no answer from {address}:{port}: check --address, the network and firewalls"
             ),
-        _ => format!(in alloc; "no connection with {address}:{port}: see --address and --port"),
+        _ => format!(in alloc; "no connection to {address}:{port}: check --address and --port"),
     }
 }
 
 // What a fault of a name says, and what to do. It is the one table of these words.
 const SENTENCES: &str = "\
-    command: see hsms --help, and --help behind a command\n\
-    TooShort: a message's length is below 10, so these aren't HSMS messages, or some octets are missing before it\n\
-    TooLong: a message is longer than --max: give a greater one, or see whether the input is what it should be\n\
-    CutOff: the input ends within a message: its last octets are missing\n\
-    NoHex: this line isn't octets in hexadecimal digits: without --hex the input is read as octets\n\
-    NoMessage: this line isn't one message within --max: lines of a log have no length, and ask for --bare too\n\
-    Input: the input is longer than 67108864 octets: give it in parts\n\
-    Syntax: this can't stand here; a message is S1F1 W <A \"text\"> ., its end is a full stop\n\
-    Number: this is no value of its type, or out of its range\n\
-    Count: the number in these brackets isn't how many values follow\n\
-    Deep: lists are nested deeper here than --depth: give a greater one, or fewer lists\n\
-    TooLarge: a value or a list of a message has more than 16777215 octets or elements\n\
-    Endless: there is more than the command counts: give the input in parts\n\
-    Read: standard input can't be read: see that it is open, and no folder\n\
-    Write: standard output can't be written: see that the disk isn't full, and that its reader goes on\n\
-    Log: the log can't be written: see that standard output is open, the disk isn't full, and its reader goes on\n\
-    Link: the connection broke: the other end reset it, or took nothing for T8. The log tells how far it came\n\
-    Turns: all turns are used, and the connection was up: give more --turns\n\
-    Memory: memory is wanting: give the command more, or a smaller input";
+    command: run hsms --help, or hsms COMMAND --help\n\
+    TooShort: a message length is below 10: this is not HSMS data, or bytes are missing before it\n\
+    TooLong: a message is longer than --max: raise --max, or check that the input is HSMS data\n\
+    CutOff: the input ends inside a message\n\
+    NoHex: this line is not hexadecimal; without --hex the input is read as bytes\n\
+    NoMessage: this line is not exactly one message within --max; lines of a log have no length bytes: add --bare\n\
+    Input: the input is longer than 67108864 bytes: split it\n\
+    Syntax: unexpected token; a message is S1F1 W <A \"text\"> . and ends with a full stop\n\
+    Number: not a value of this type, or out of range\n\
+    Count: the number in brackets does not match the number of values\n\
+    Deep: lists are nested deeper than --depth: raise --depth, or nest fewer lists\n\
+    TooLarge: a value or list has more than 16777215 bytes or elements\n\
+    Endless: the input exceeds the program's counters: split it\n\
+    Read: cannot read standard input: is it open, and not a directory?\n\
+    Write: cannot write standard output: is the disk full, or the pipe closed?\n\
+    Log: cannot write the log: is standard output open, the disk full, or the pipe closed?\n\
+    Link: the connection failed: the peer reset it, or accepted no data for T8. The log shows how far it got\n\
+    Turns: the turn limit was reached while the connection was up: raise --turns\n\
+    Memory: out of memory: provide more, or split the input";
 
-// The same of the faults of a capture, whose words are other ones.
+// The sentences for errors of `capture` that differ from those above, or exist only there.
 const CAPTURE_SENTENCES: &str = "\
-    Lost: this packet shows that octets are missing: capture again at the end itself, whole packets (-s 0), and none dropped\n\
-    Length: a message is shorter than 10 octets or longer than --max: is this the port of HSMS? Else give a greater --max\n\
-    Differs: what this packet brings again isn't what came first: capture nearer to the end, where one device alone sends it\n\
-    Full: too much waits for octets that are missing: capture again at the end itself, whole packets and none dropped\n\
-    CutOff: the capture ends within a packet, or is empty: end the program that writes it first, or see what cut it off\n\
-    Capture: here the file isn't one of pcap or pcapng: give the one that tcpdump, tshark or Wireshark wrote, unpacked\n\
-    Time: this packet has no time, or none that a log can have: capture again with times, or leave the packet out\n\
-    Overlap: here a connection comes up while another one is up, and a log has one at a time: without --log each is judged\n\
-    Peer: this connection is one of other addresses, and a log is of two: say by --with which peer is meant\n\
-    NoConnection: no connection came up at --port: is this the port of HSMS, and does the capture begin before the connection does, or is --joined given?\n\
-    NotJudged: the last line of the output names HSMS that was not judged: give --joined, its --device or its --port";
+    Lost: this packet shows that the capture lost data: capture at the end itself, whole packets (-s 0), without drops\n\
+    Length: a message is shorter than 10 bytes or longer than --max: is this the HSMS port? If so, raise --max\n\
+    Differs: a retransmission carries other data than the original: capture closer to the end, where one device sends it\n\
+    Full: too much data waits for missing packets: capture at the end itself, whole packets, without drops\n\
+    CutOff: the file is empty or ends inside a packet: stop the capturing program first, or check what truncated it\n\
+    Capture: not a valid pcap or pcapng file here: use an uncompressed file from tcpdump, tshark or Wireshark\n\
+    Time: this packet has no usable time stamp: capture with time stamps, or remove the packet\n\
+    Overlap: a connection starts while another is up, and a log holds one at a time: leave out --log to audit each\n\
+    Peer: this connection has other addresses, and a log holds one pair of addresses: choose one with --peer\n\
+    NoConnection: no connection came up at --port: check the port; if the capture starts inside a session, add --midstream\n\
+    NotJudged: the last line of the output names HSMS data that was not audited: add --midstream, its --device or its --port";
 
 // What a table says of the first word of a fault, which may have its place behind that.
 fn said_of(name: &str, table: &'static str) -> Option<&'static str> {

@@ -9,7 +9,7 @@ pub fn refused_words(alloc: Global, words: &[String]) -> Result<String, AllocErr
     let Err(error) = command(alloc)?.try_get_matches_from(words) else {
         return String::from_str(
             alloc,
-            "--role, --active and --log are host or equipment, --link is active or passive, --with is an IP address, --only is failures, --form is text, json or html, --bare goes with --hex alone, and --once, --connections and --t5 with --again",
+            "--role, --active and --log take host or equipment; --link active or passive; --peer an IP address; --only failures; --format text, json or html; --bare needs --hex; --once, --connections and --t5 need --reconnect",
         );
     };
     let text = error.to_string(alloc)?;
