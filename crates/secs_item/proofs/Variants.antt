@@ -6,7 +6,7 @@ use Rattle.secs_item.specs.declared.item.Item.{Item, roll-Item, out-Item, roll-o
 use Rattle.secs_item.specs.declared.item.Item.TheOpen.{Item-F}
 use Rattle.secs_item.proofs.Views.{view-List, view-Binary, view-Boolean, view-Ascii, view-Jis8, view-Char2, view-I1, view-I2, view-I4, view-I8, view-U1, view-U2, view-U4, view-U8, view-F4, view-F8}
 
--- Holds if the item is made of elements exactly if the value is.
+-- Holds if the item has the variant that the value's format names.
 abbrev pub Made : Value → Item → Type 0
 Made (list es) item = (v : Vec Item Global) × (item ≡ item_list v)
 Made (values (binary xs)) item = (v : Vec ℕ Global) × (item ≡ item_binary v)
@@ -54,7 +54,7 @@ pub other_variant : {A : Type 0} (make : A → Item) (w : Value) (item other : I
     → (false ≡ true → view item ≡ view other) × (view item ≡ view other → false ≡ true)
 other_variant make w item other is shown not = (λ h. absurd cc, λ e. let p = is (subst (λ (u : Value). Made u other) (sym e ∙ shown) (made other)) in absurd (not p.0 p.1))
 
--- An item that is not made of elements is not a list.
+-- An item that is not the variant `List` has no list as its value.
 no_list : (w : Value) (item : Item) → Made w item → ((v : Vec Item Global) → item ≡ item_list v → ⊥) → is_list (format_of w) ≡ false
 no_list (list es) item is not = absurd (not is.0 is.1)
 no_list (values (binary xs)) item is not = refl
