@@ -52,8 +52,8 @@ end_of_lists counts depth octets zero place = Ok place
 end_of_lists counts depth octets (suc lists) place =
     and_from_there (end_from place (elements_by (item_at (depth - suc lists)) (slice_index counts (depth - suc lists)) (drop place octets))) (end_of_lists counts depth octets lists)
 
--- The offset after the outermost unfinished list, if the innermost list has `left` elements still to come, and lists
--- may be nested `inside` deep in it.
+-- The offset after the outermost unfinished list, if the innermost list has `left` elements still to come. In the
+-- innermost list, lists may be nested `inside` deep.
 abbrev pub end_of_open : List ℕ → ℕ → List ℕ → ℕ → ℕ → ℕ → Result ℕ ItemFault
 end_of_open counts depth octets inside left place =
     and_from_there (end_from place (elements_by (item_at inside) left (drop place octets))) (end_of_lists counts depth octets (depth - 1 - inside))

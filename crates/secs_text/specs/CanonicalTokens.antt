@@ -21,7 +21,7 @@ pub record IsWord (w : List ℕ) : Type 0 where
   pub some : 0 < length w
   pub all : list_all is_of_word w ≡ true
 
--- ---- at the front of octets
+-- ---- at the start of bytes
 
 -- Holds if the byte is this token, whatever follows it.
 pub record IsSymbol (c : ℕ) (t : Token) : Type 0 where

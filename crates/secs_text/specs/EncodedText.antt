@@ -63,8 +63,8 @@ abbrev pub CollectsMore : Format → List Placed → List Placed → List ℕ �
 CollectsMore f before after old new =
     (count : Option Count) (first : List Placed) (start : List ℕ) → Collected f count first before start old → Collected f count first after start new
 
--- Values of a format that lead from the tokens `before` past the end of their item to the tokens `after`, in an item
--- with this count.
+-- Values of a format and the end of their item, which lead from the tokens `before` to the tokens `after`. The item has
+-- this count.
 pub record Closed (f : Format) (count : Option Count) (before after : List Placed) (old new : List ℕ) : Type 0 where
   pub held : Values
   pub leads : (rules : Rules) (b : Before) → walk rules (in_item b (record { count = count; so_far = nothing_of f })) before ≡ walk rules (closed b.lists b (values held)) after
@@ -112,7 +112,7 @@ IsEncoded item text = text_of item ≡ option_map (λ t. t.now) text
 abbrev pub headed_by : Head → Option Value → Content
 headed_by head item = record { stream = head.stream; function = head.function; wait = head.wait; item = item }
 
--- A message with this stream and function. Its other parts are the defaults.
+-- The message with this stream and function, with no W bit and no item yet.
 abbrev pub named_by : ℕ → ℕ → Content
 named_by stream function = record { stream = stream; function = function; wait = false; item = None }
 

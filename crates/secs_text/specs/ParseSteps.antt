@@ -11,7 +11,7 @@ abbrev pub Fails : TextFault → Step → Type 0
 Fails fault.Memory s = Unit {0}
 Fails f s = s ≡ Err f
 
--- Holds if the tokens that were left before lead to the same step as the tokens left now, which start from the state
+-- Holds if the tokens left before and the tokens left now lead to the same step. Those left now start from the state
 -- that the result gives.
 abbrev pub Reads : {X : Type 0} → Result X TextFault → Step → (X → Step) → Type 0
 Reads (Ok x) before after = before ≡ after x

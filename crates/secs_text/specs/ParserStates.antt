@@ -33,7 +33,7 @@ pub record Before : Type 0 where
   pub lists : List Opened
 
 pub data Place : Type 0 where
-  -- Where a message may begin, after these.
+  -- A message may begin, after these messages.
   start : List Content → Place
   after_head : List Content → Content → Place
   after_wait : List Content → Content → Place

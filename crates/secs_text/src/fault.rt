@@ -10,8 +10,8 @@ use thiserror::Error;
 /// of the token's first byte, counted from 0. For a missing token it is the length of the text.
 #[derive(Clone, Copy, Debug, PartialEq, Eq, Error)]
 pub enum TextFault {
-    /// A token that is not allowed at its position, a byte that begins no token or is not allowed in a quoted text, or
-    /// a missing closing quote.
+    /// A token that is not allowed at its position, a byte that begins no token or is invalid in a quoted text, or a
+    /// missing closing quote.
     #[error("unexpected at {at}")]
     Syntax { at: usize },
     /// A word at a valid position with an invalid value: in an item, a head or a count.

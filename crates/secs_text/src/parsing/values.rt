@@ -59,8 +59,8 @@ fn push_value(out: &mut Vec<u8>, format: Format, word: &[u8]) -> Result<bool, Al
     }
 }
 
-/// Appends the bytes of the next values if a value of this format is one byte, up to the first word that is not spaced
-/// as it is printed.
+/// Appends the bytes of the next values, up to the first word that is not spaced as it is printed. Appends nothing
+/// unless the values of this format are single bytes whose words have one length.
 fn parse_printed(out: &mut Vec<u8>, tokens: &mut Tokens, format: Format) -> Result<(), AllocError>
     ensures collected { OnOk result (CollectsMore format (left tokens.old) (left tokens.new) out.old.items out.new.items) }
     ensures no_longer { octets_left tokens.new ≤ octets_left tokens.old }
