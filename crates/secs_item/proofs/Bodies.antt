@@ -55,7 +55,7 @@ module _ {X : Type 0} (One : X → List ℕ → Type 0) (size : ℕ) (read : Lis
   pub each_octets : (xs : List X) (octets : List ℕ) → InOrder One xs octets → IsOctets octets
   each_octets = in_order_octets
 
--- ---- values that are single bytes
+-- ---- values that are plain bytes
 
 one_octet : (octets : List ℕ) → pieces octet 1 (length octets) octets ≡ octets
 one_octet [] = refl

@@ -39,7 +39,7 @@ fn push_values<V: Value>(octets: &mut Vec<u8>, values: &[V]) -> Result<(), Alloc
     Ok(())
 }
 
-/// Appends values that are single bytes.
+/// Appends values that are plain bytes.
 fn push_octets(octets: &mut Vec<u8>, values: &[u8]) -> Result<(), AllocError>
     ensures octets { OnOk result (octets.new.items ≡ octets.old.items ++ flat_map octet_alone values.now) }
     ensures in_range { AllByRecursion (λ n. n < 256) values.now }

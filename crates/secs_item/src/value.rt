@@ -1,4 +1,4 @@
-//! Values and their bytes, for the formats whose values are not single bytes.
+//! Values and their bytes, for the formats whose values are not plain bytes.
 
 ghost use Rattle.std.specs.Prelude.{◌≡◌, ◌++◌, ◌<◌, length, OnOk};
 ghost use Rattle.std.specs.Int.{w8, w16, w32, w64};
