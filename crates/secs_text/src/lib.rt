@@ -1,5 +1,5 @@
-//! Messages of SEMI E5 (SECS-II) and their notation, a text form that a person can read and type: `S6F11 W <L [2] <A
-//! [2] "AB"> <U1 [2] 1 255>> .`
+//! Messages of SEMI E5 (SECS-II) and their notation, a text form that a person can read and type:
+//! `S6F11 W <L [2] <A [2] "AB"> <U1 [2] 1 255>> .`
 //!
 //! [`print`] returns the printed form of a message. [`read`] and [`read_all`] read every text that is the notation of
 //! messages, and return an error with its offset for any other text. Without building a message, [`print_text`] prints
