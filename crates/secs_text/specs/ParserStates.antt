@@ -77,7 +77,7 @@ with_word (u8 xs) w = option_map (λ x. u8 (xs ++ x ∷ [])) (number_below (2 ^ 
 with_word (f4 xs) w = option_map (λ x. f4 (xs ++ x ∷ [])) (float_of 4 w)
 with_word (f8 xs) w = option_map (λ x. f8 (xs ++ x ∷ [])) (float_of 8 w)
 
--- The values with a quoted text appended. Only formats of text bytes allow one.
+-- The values with a quoted text appended. Only text bytes (`ascii`) allow one.
 abbrev pub with_quoted : Values → List ℕ → Option Values
 with_quoted (ascii xs) text = Some (ascii (xs ++ text))
 with_quoted v text = None
