@@ -199,7 +199,8 @@ impl Kept {
     }
 }
 
-/// Returns the printed form of a message text, or the `Debug` text of its error. Returns `Memory` if an allocation failed.
+/// Returns the printed form of a message text, or the `Debug` text of its error. Returns `Memory` if an allocation
+/// failed.
 fn printed_text(alloc: Global, head: Head, text: &[u8], depth: u8) -> Result<Vec<u8>, TextFault> {
     let mut block = Block::new(alloc)?;
     let mut out = Kept {
