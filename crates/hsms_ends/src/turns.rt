@@ -279,7 +279,7 @@ fn test_moment<D: TurnDesk>(end: &End<D>, pause: Option<u64>) -> Option<u64>
     end.test_due(pause?)
 }
 
-/// Starts the endpoint at the link's time, and takes at most `limit` turns while the connection is not down. Received
+/// Starts the endpoint at the link's time, and takes at most `turns` turns while the connection is not down. Received
 /// bytes are read into a slice that is not empty.
 pub fn run<L: Link, W: Sink, D: TurnDesk>(
     link: &mut L,
