@@ -42,7 +42,8 @@ IsStreamed sender receiver bytes =
     (pending : List ℕ) × (in_transit : List ℕ)
     × (octets_of (sent sender) ≡ bytes ++ in_transit) × (bytes ≡ octets_of (received receiver) ++ pending)
 
--- Holds if, after these entries of both and these bytes to each, each of these turns preserves this.
+-- Holds if each of these turns keeps both streams as in `IsStreamed`, after these entries of both endpoints and these
+-- bytes to each.
 abbrev pub AreStreamed : (host equipment : List Entry) → (to_host to_equipment : List ℕ) → List Turn → Type 0
 AreStreamed host equipment to_host to_equipment [] = Unit {0}
 AreStreamed host equipment to_host to_equipment (AtHost octets entries ∷ turns) =
