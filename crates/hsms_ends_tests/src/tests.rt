@@ -350,7 +350,7 @@ fn end_of<D: TurnDesk>(alloc: Global, settings: Settings, desk: D, first_system:
     End::new(alloc, settings, desk, first_system)
 }
 
-/// Each role has its own message handler.
+/// Checks the lines of a session. Each role has its own message handler.
 fn check_lines(
     rt: &impl Abort,
     alloc: Global,

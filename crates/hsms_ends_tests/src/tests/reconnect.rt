@@ -7,7 +7,7 @@ use super::{
 use hsms_ends::{HostDesk, Lent, Scripted, ServeFault, ServedAgain, Step, serve_again};
 use secs_text::read;
 
-/// A failed allocation is passed on.
+/// Checks that this many connections were served. A failed allocation is passed on.
 fn assert_served(
     rt: &impl Abort,
     answer: Result<ServedAgain, ServeFault>,
