@@ -56,7 +56,7 @@ agree_as a a' b b' e f g =
     let Q : List Entry → Type 0 = λ x. Agree a' x in
     subst Q f (subst P e g)
 
--- If each log has an entry that the other one does not allow, more entries change nothing.
+-- If each log has an entry after the prefixes that agree, more entries do not make the logs agree.
 both_stuck : (host equipment more rest : List Entry) (i j : ℕ) → AgreeUpTo host equipment i j → i < length host → j < length equipment → Agree (host ++ more) (equipment ++ rest) → ⊥
 both_stuck host equipment more rest i j u lt lt' g =
     let te : take i (host ++ more) ≡ take i host = take-append-le i host more (omega arith) in

@@ -10,7 +10,7 @@ use Rattle.hsms_compare.specs.declared.contradiction.Contradiction.{Contradictio
 use Rattle.hsms_compare.specs.declared.contradiction.Contradiction.TheVariants.{Differs, Unsent, Order}
 use Rattle.hsms_compare.specs.Conversation.{Agree, sent, received, sent_by, received_by}
 
--- Holds if the first i entries of the host's log and the first j of the equipment's agree, and no prefixes that agree
+-- Holds if the first i entries of the host's log and the first j of the equipment's agree. No prefixes that agree
 -- have more entries, at either end.
 pub record AgreeUpTo (host equipment : List Entry) (i j : ℕ) : Type 0 where
   pub within_host : i ≤ length host

@@ -25,8 +25,8 @@ pub record OwnEnd : Type 0 where
 abbrev pub fresh : Parameters → ℕ → OwnEnd
 fresh settings first_system = record { state = initial_state settings first_system; log = []; delivered = [] }
 
--- Holds if an endpoint processes an input as in `drive`, and the bytes that it has accepted are a prefix of those
--- that the other one has sent.
+-- Holds if an endpoint processes an input as in `drive`. The bytes that it has accepted are a prefix of those that
+-- the other one has sent.
 pub record IsTurn (desk : Desk) (own other : OwnEnd) (input : InputEvent) (next : OwnEnd) : Type 0 where
   pub accepted : List InputEvent
   pub entries : List Entry
@@ -45,7 +45,7 @@ AreTurns at_host at_equipment host equipment ((Host, input) ∷ inputs) host' eq
 AreTurns at_host at_equipment host equipment ((Equipment, input) ∷ inputs) host' equipment' =
     (next : OwnEnd) × IsTurn at_equipment equipment host input next × AreTurns at_host at_equipment host next inputs host' equipment'
 
--- The logs of two such endpoints agree, for all inputs and wherever it stops, if the numbers of each message are in
+-- The logs of two such endpoints agree, for all inputs and wherever it stops. The numbers of each message must be in
 -- their ranges (as they are in each log that a program holds).
 abbrev pub OwnEndsAgree : Type 0
 OwnEndsAgree =

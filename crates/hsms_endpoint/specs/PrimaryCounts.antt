@@ -1,5 +1,5 @@
--- The number of messages of each stream and function that were passed to a handler: by their name, in the order of
--- the first message of each (project-specific).
+-- The number of messages of each stream and function that were passed to a handler (project-specific). They are
+-- listed by name, in the order of the first message of each.
 use Rattle.std.specs.Prelude.{ℕ, ◌+◌, ◌*◌, List, unwrap_or, nat_eq}
 use Rattle.std.specs.Map.{lookup}
 use Rattle.indexmap.specs.IndexMap.{insert_entry}

@@ -66,9 +66,9 @@ answers_discarded settings selected header Session =
 answers_discarded settings selected header Text = warns settings 7 header
 answers_discarded settings selected header _ = []
 
--- The acts that follow a received frame. They depend on the settings, on whether the session was selected before it,
--- on its header, and on the rule that it would break if it were accepted. The handler's answer matters only for an
--- accepted primary.
+-- The acts that follow a received frame. They depend on the settings, its header, and whether the session was
+-- selected before it. They also depend on the rule that it would break as an accepted frame. The handler's answer
+-- matters only for an accepted primary.
 abbrev pub reaction : Parameters → Bool → Header → Option Rule → Answered → List Act
 reaction settings selected header None answer = answers_taken settings selected (kind_of header) header answer
 reaction settings selected header (Some rule) answer = answers_discarded settings selected header rule

@@ -14,8 +14,8 @@ use std::marker::Model;
 /// An endpoint of a session (SEMI E37, E37.1). It receives events and returns the new entries of its log, all at its
 /// current time in milliseconds. The frames to send are the sent entries among them, in order.
 ///
-/// Each call is accepted, or returns the first [`EndFault`] that applies, which changes nothing. After a failed
-/// allocation each call except the accessors returns `Spent`.
+/// Each call is accepted, or returns the first [`EndFault`] that applies, which changes nothing. If an allocation
+/// fails, the call returns `Memory`, and each later call except the accessors returns `Spent`.
 pub struct End<D> {
     desk: D,
     state: State,

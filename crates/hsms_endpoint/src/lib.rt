@@ -3,8 +3,8 @@
 //! An [`End`] receives events: the connection is established, time passes, bytes arrive, a message is to be sent. It
 //! returns the new entries of its log, which include what it sent. It reads no clock and opens no socket: the caller
 //! passes times, in milliseconds, and bytes. The tracker of `hsms_machine` checks each entry before it is logged, so
-//! the log passes the audit. A [`Desk`] answers the accepted messages, or a [`TurnDesk`], whose answer may depend on
-//! how many messages of that stream and function it received before. [`drive`] passes a list of inputs to an
+//! the log passes the audit. A [`Desk`] answers the accepted messages. So does a [`TurnDesk`], whose answer may
+//! depend on the number of earlier messages with that stream and function. [`drive`] passes a list of inputs to an
 //! endpoint.
 //!
 //! An endpoint is created with its settings, its message handler and its first own system bytes. The caller first

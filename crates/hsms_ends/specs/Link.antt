@@ -6,9 +6,9 @@ use Rattle.hsms_ends.specs.declared.link.Got.{Got}
 use Rattle.hsms_ends.specs.declared.link.Got.TheVariants.{Octets, Quiet, Closed}
 use Rattle.hsms_ends.specs.declared.fault.LinkFault.{LinkFault}
 
--- The record of a link: the times that `now` returned, the bytes that `wait` read and those that `send` sent, each in
--- order and if the link records them. It also has the number of waits that returned, how many of them returned
--- `Closed`, whether the last one did, and the number of failures.
+-- The record of a link: the times that `now` returned, the bytes that `wait` read and those that `send` sent. Each is
+-- in order, and only present if the link records it. It also has the number of waits that returned, how many of them
+-- returned `Closed`, whether the last one did, and the number of failures.
 pub record LinkState : Type 0 where
   pub moments : Option (List ℕ)
   pub given : Option (List ℕ)
@@ -18,8 +18,8 @@ pub record LinkState : Type 0 where
   pub closed : Bool
   pub failures : ℕ
 
--- The input from a link in a sequence of calls: the times, the bytes read, the number of waits that returned, and how
--- many of them returned `Closed`. If a wait returned, it also says whether the last one returned `Closed`.
+-- The input from a link in a sequence of calls: the times, the bytes read, and the numbers of waits that returned and
+-- of `Closed` among them. If a wait returned, it also says whether the last one returned `Closed`.
 pub record LinkInput : Type 0 where
   pub moments : List ℕ
   pub given : List ℕ

@@ -1,5 +1,5 @@
--- The answers of a message handler with replies of its own (SEMI E5: a reply has the stream of its primary and its
--- function plus one, and function 0 aborts). The W bit of a reply is not considered.
+-- The answers of a message handler with replies of its own. In SEMI E5 a reply has the stream of its primary and its
+-- function plus one, and function 0 aborts. The W bit of a reply is not considered.
 use Rattle.std.specs.Prelude.{ℕ, ◌==◌, ◌+◌, ◌-◌, Bool, ◌&&◌, List, [], ◌∷◌, filter, Option, Some, None, unwrap_or, if◌then◌else◌}
 use Rattle.std.specs.List.{list_any}
 use Rattle.secs_text.specs.declared.message.Message.{Message}

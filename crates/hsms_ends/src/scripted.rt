@@ -10,10 +10,10 @@ use hsms_frame::{Sink, Store};
 use std::marker::Model;
 
 /// A peer and a clock in memory. `now` returns the times in order, then repeats the last one; without times it
-/// returns 0. `wait` returns `Quiet` for a `None`, reads the bytes of a `Some`, at most `piece` per call, skips an
-/// empty `Some`, and returns `Closed` once the list is used up. `send` writes at most `piece` bytes per call, up to
-/// the capacity. Each `wait` and each `send` after the first `fuse` calls fails, and so does each `send` at full
-/// capacity. A test can therefore let any call fail.
+/// returns 0. `wait` returns `Quiet` for a `None`, and reads the bytes of a `Some`, at most `piece` per call. It
+/// skips an empty `Some`, and returns `Closed` once the list is used up. `send` writes at most `piece` bytes per
+/// call, up to the capacity. Each `wait` and each `send` after the first `fuse` calls fails, and so does each `send`
+/// at full capacity. A test can therefore let any call fail.
 #[derive(Drop)]
 pub struct Scripted {
     moments: Vec<u64>,

@@ -54,8 +54,8 @@ impl ServedScript {
 /// The settings line is written to the log, and the endpoint is started at the link's time. Each turn first passes
 /// the time to the endpoint. Then, if the endpoint is selected and has no open own transaction, the next step of the
 /// script is taken. Otherwise the link is waited for until a timer expires, and the endpoint processes what was
-/// received. The entries of each call of the endpoint are written at once: each entry's line to the log, then the
-/// bytes of a sent message to the link (SEMI E37, section 8, message format).
+/// received. The entries of each call of the endpoint are written at once. Each entry's line goes to the log, then
+/// the bytes of a sent message to the link (SEMI E37, section 8, message format).
 ///
 /// **The log is the text of a run of the session machine, so that `audit` passes it** (`Serves`;
 /// `laws::served_log_passes`). In this statement:
@@ -64,8 +64,8 @@ impl ServedScript {
 ///   and a part of the next one, whose entry the endpoint returned in its last call.
 /// - *of a run*: the entries that the endpoint returned for its inputs (`Accepts` of `hsms_endpoint`), in the order
 ///   of the turns (`IsStory`). Times, bytes and the results of waits are those of the link.
-/// - The link sent the bytes of the sent messages whose lines are complete in the log, in order: all of them, or a
-///   prefix if it failed. Since this holds wherever the log fails, the link is never ahead of the log.
+/// - The link sent the bytes of the sent messages whose lines are complete in the log, in order. It sent all of them,
+///   or a prefix if it failed. Since this holds wherever the log fails, the link is never ahead of the log.
 /// - `Ok` and `Link` are returned only if the last entry is `down`. `Turns` is returned only if it is not `down` and
 ///   `turns` turns were taken.
 ///

@@ -222,7 +222,7 @@ fn wait_once<L: Link, W: Sink, D: TurnDesk>(
 }
 
 /// Takes one turn of an endpoint that is not down. Passes it the time first. Then, unless that ended the connection,
-/// takes the next step of the script if one is due, or tests the link if that is due, and otherwise waits.
+/// takes the next step of the script if one is due. Otherwise tests the link if that is due, or waits.
 fn turn<L: Link, W: Sink, D: TurnDesk>(
     link: &mut L,
     log: &mut W,

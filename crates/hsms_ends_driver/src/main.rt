@@ -1,10 +1,10 @@
 //! Reads lists of inputs, passes them to endpoints, and writes the results; for `tests/driven.py`.
 //!
 //! A list is a sequence of lines of standard input. First come the settings, as in the first line of a log. Then
-//! comes `desk NUMBER MODEL REVISION`, with the first system bytes and the texts that the equipment handler sends, or
-//! `obliging NUMBER`, with the first system bytes of an endpoint whose handler answers each primary with a reply
-//! without an item. Then come the inputs: `start N`, `tick N`, `bytes OCTETS`, `send NOTATION`, `linktest`,
-//! `separate` and `lost`. The last line is `end`. Bytes, and texts of the handler, are hexadecimal; `-` means none.
+//! comes `desk NUMBER MODEL REVISION`: the first system bytes, and the texts that the equipment handler sends. Or
+//! `obliging NUMBER`: the first system bytes of an endpoint whose handler answers each primary with a reply without
+//! an item. Then come the inputs: `start N`, `tick N`, `bytes OCTETS`, `send NOTATION`, `linktest`, `separate` and
+//! `lost`. The last line is `end`. Bytes, and texts of the handler, are hexadecimal; `-` means none.
 //!
 //! For each list it writes the lines of the entries that each call returns, or `refused FAULT`, then
 //! `pending OCTETS`. The last line is `end` if `drive` has the same entries and the same pending bytes, otherwise

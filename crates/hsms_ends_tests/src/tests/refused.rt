@@ -9,8 +9,8 @@ use hsms_ends::{Scripted, ServeFault, Served, Step, serve};
 use hsms_log::{Verdict, judge};
 use std::process::Abort;
 
-/// A connection: what the peer sends, one message for each wait, the lines that each call of the endpoint adds to the
-/// log, and the bytes that it sends over the link.
+/// A connection: what the peer sends, one message for each wait; the lines that each call of the endpoint adds to the
+/// log, and the bytes that it sends.
 struct Connection {
     role: Role,
     side: Side,

@@ -99,7 +99,7 @@ fn said(alloc: Global, chance: &mut Chance) -> Result<Message, Stop> {
     Ok(read(alloc, one_of(chance, SAID)?.as_bytes(), 100)?)
 }
 
-/// Returns received bytes: mostly those that the other endpoint sent, with garbage between them.
+/// Returns received bytes: mostly those that the other endpoint sent, sometimes garbage instead.
 fn garbled(alloc: Global, chance: &mut Chance, line: Vec<u8>) -> Result<Vec<u8>, Stop> {
     match chance.below(2000) {
         0 => Ok(Vec::from_slice(alloc, &[0, 0, 0, 9])?),
