@@ -8,9 +8,10 @@
 //! as they are final, and says how they end. It is built on these:
 //!
 //! - [`DeliveryQueue`] finds which packets are delivered in order.
-//! - [`Losses`] finds where the capture lost something, from the offsets of packets and the ends of both directions after each.
-//! - [`ReassemblyBuffer`] buffers the cells of a direction by offset, and keeps the first copy of each. It finds conflicting
-//! retransmissions, and the message at an offset.
+//! - [`Losses`] finds where the capture lost something, from the offsets of packets and the ends of both directions
+//!   after each.
+//! - [`ReassemblyBuffer`] buffers the cells of a direction by offset, and keeps the first copy of each. It finds
+//!   conflicting retransmissions, and the message at an offset.
 //!
 //! In-order delivery depends on the offsets of bytes ([`numbered_place`], [`acknowledged_place`]) and on keep-alive
 //! bytes, which carry nothing ([`only_asks`]).
