@@ -5,7 +5,7 @@ ghost use Rattle.capture_unjudged.specs.Sets.{count_lower, with_number};
 
 use std::alloc::{AllocError, Global};
 
-// As many are kept: one more than a line lists.
+// The maximum number of stored numbers: one more than a line lists.
 const KEPT: usize = 9;
 
 /// The lowest nine numbers of a set, in ascending order.
