@@ -8,7 +8,7 @@ use crate::pairs::Pairs;
 use crate::unjudged::Unjudged;
 use std::alloc::{AllocError, Global};
 
-// The maximum number of numbers in the list. Two dots stand for further ones.
+// The maximum length of a list of numbers. Two dots represent further ones.
 const LISTED: usize = 8;
 
 /// Returns the line on what is not audited, with its line feed. It is empty if there is nothing.

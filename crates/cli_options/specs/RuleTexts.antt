@@ -1,9 +1,9 @@
--- What is the matter with an entry that breaks a rule.
+-- What is wrong with an entry that breaks a rule.
 use Rattle.std.specs.Prelude.{ℕ, List, codes}
 use Rattle.hsms_machine.specs.declared.rule.Rule.{Rule}
 use Rattle.hsms_machine.specs.declared.rule.Rule.TheVariants.{Backwards, NotUp, Ended, T3Overdue, LinkOverdue, NotDue, TooLong, PType, SType, ControlText, Session, Direction, NotSelected, WBit, Text, SystemInUse, NoTransaction, SelectStatus, NoCause}
 
--- the rule in a few words
+-- The rule in a few words.
 abbrev pub sentence_of : Rule → List ℕ
 sentence_of Backwards = codes "its time is before that of the last line"
 sentence_of NotUp = codes "the connection isn't up, or this `up` may not stand here"

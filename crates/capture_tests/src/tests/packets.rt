@@ -209,7 +209,7 @@ fn kind_of(record: &Record, held: &[u8]) -> &'static str {
     }
 }
 
-// Returns whether a packet without a time has 40 captured bytes and is cut, or another one is cut.
+// Returns which cut packet it is: the one without a time, of which 40 bytes are captured, or another one.
 fn cut_of(record: &Record) -> &'static str {
     if record.time.is_none() && record.link == 101 && record.held == 40 {
         "cut"
