@@ -95,7 +95,7 @@ joined k items new left gone le is j =
     ∙ some_append (drop gone items) j.0 left ∙ ap (λ (z : List (Option HeldCell)). some_octets (drop gone items) ++ z) (sym j.2)
     ∙ ap (λ (z : List ℕ). some_octets z ++ k.others) (sym is)
 
--- ---- octets that follow
+-- ---- bytes that follow
 
 some_get : (ns : List ℕ) (i : ℕ) → get_or (some_octets ns) i None ≡ slice_get (octets_of ns) i
 some_get [] zero = refl

@@ -177,7 +177,7 @@ after_loss k ps lost rises =
     let n = after_single 0 lost.0 lost.1 lost.2 (subst (AreRising 0) lost.3 rises) in
     ap (packets_after k) lost.3 ∙ ap (λ (m : ℕ). packets_after m (lost.0 ++ lost.1 ∷ lost.2)) (sym lost.4) ∙ n ∙ lost.5
 
--- Fewer than that come after one that may be lost.
+-- Fewer than 4,096 packets come after one that may be lost.
 after_watched : (needs : List Need) (ps : List Placed) (k : ℕ) → Watches needs ps → AreRising 0 ps → first_of needs ≡ Some k → packets_after k ps < 4096
 after_watched needs ps k w rises first = by_rest w.1 w.2 w.3 w.6
   where

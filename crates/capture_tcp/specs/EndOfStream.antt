@@ -17,7 +17,7 @@ broken (Some j) None = ending.Lost j
 broken None (Some k) = ending.Differs k
 broken (Some j) (Some k) = if nat_lt j k then ending.Lost j else ending.Differs k
 
--- Complete, if the connection ended before that.
+-- `Closed`, if the connection ended before that.
 abbrev pub ended_by : Bool → List Placed → Ending
 ended_by true ps = ending.Closed
 ended_by false ps = broken (loss [] ps) (difference [] ps)

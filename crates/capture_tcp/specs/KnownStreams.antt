@@ -31,9 +31,9 @@ seen_of s octets = record {
 abbrev pub packet_of : Placed → Packet
 packet_of p = record { packet = p.packet; time = p.time; from = p.place; to = p.place + length p.cells; acknowledged = p.acknowledged; reset = p.reset }
 
--- The state of one direction: its SYN's sequence number, the end of what has no gap, the offsets up to which in-order
--- packets of the other direction acknowledge it and up to which its packets do, and the out-of-order packets in the
--- order of offsets.
+-- The state of one direction: its SYN's sequence number, and the end of what has no gap. Then the offsets up to which
+-- in-order packets of the other direction acknowledge it, and up to which any of its packets do. Last the out-of-order
+-- packets, in the order of offsets.
 pub record Flow : Type 0 where
   pub base : ℕ
   pub end : ℕ

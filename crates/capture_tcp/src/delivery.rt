@@ -71,9 +71,9 @@ impl Direction {
     }
 }
 
-/// The state of both directions of a connection: where the bytes without a gap end, what was acknowledged by in-order
-/// packets and by any packet, which packets are out of order, and the latest time of the packets. Contracts see what
-/// `known` states.
+/// The state of both directions of a connection, and the latest time of the packets. For each direction: where the
+/// bytes without a gap end, what was acknowledged by in-order packets and by any packet, and which packets are out of
+/// order. Contracts see what `known` states.
 #[derive(Drop)]
 pub struct DeliveryQueue {
     active: Direction,

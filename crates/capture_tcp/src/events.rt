@@ -48,8 +48,8 @@ pub(crate) enum EmitterState {
 }
 
 impl EmitterState {
-    // Emits that the connection is established: a packet acknowledges the SYN of the passive end, or the first message
-    // is complete.
+    // Establishes the connection, if it is not yet: a packet acknowledges the SYN of the passive end, or the first
+    // message is complete.
     #[tactic(auto, using(crate::proofs::Timing::keeps_none, crate::proofs::Timing::keeps_one, crate::proofs::Timing::keeps_both))]
     pub(crate) fn come_up(
         &mut self,
@@ -81,7 +81,7 @@ impl EmitterState {
         Ok(())
     }
 
-    // Emits that the connection is closed: an end closes its stream at a packet, or resets the connection.
+    // Closes the connection, if it is established: an end closes its stream at a packet, or resets the connection.
     #[tactic(auto, using(crate::proofs::Timing::keeps_none, crate::proofs::Timing::keeps_one))]
     pub(crate) fn go_down(
         &mut self,

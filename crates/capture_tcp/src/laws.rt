@@ -95,8 +95,8 @@ pub fn streams_are_kept()
     ensures { StreamsAreKept }
 {}
 
-/// The emitted messages of each end are the first ones that the packets show of it, in their order, also if a Separate
-/// or the end of the connection skips some.
+/// The emitted messages of each end are the first ones that the packets show of it, in their order. This also holds if
+/// a Separate or the end of the connection skips some.
 #[tactic(auto, using(crate::proofs::EmittedMessages::messages_kept))]
 pub fn emitted_messages_are_shown()
     ensures { MessagesAreKept }

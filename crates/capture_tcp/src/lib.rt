@@ -1,8 +1,8 @@
 //! What the packets show of a TCP connection.
 //!
 //! The definitions are in `specs/TcpStreams.antt`: which bytes of both directions are buffered, where each packet is
-//! delivered in order, where the capture lost something, and which messages each end sent, in causal order. [`laws`]
-//! states what holds of them.
+//! delivered in order, and where the capture lost something. They also give the messages that each end sent, in causal
+//! order. [`laws`] states what holds of them.
 //!
 //! [`Connection`] processes the segments of one connection, one after another. It emits the connection's events as soon
 //! as they are final, and says how they end. It is built on these:

@@ -48,8 +48,8 @@ fn take_reached(queue: &mut VecDeque<Packet>, end: u64) -> Option<Packet>
     queue.pop_front()
 }
 
-// Removes the packets from the front that the end reaches as it advances, and passes them on. Returns the new end and
-// the greatest offset that these packets acknowledge.
+// Moves the packets from the front that the end reaches as it advances to `emitted`. Returns the new end and the
+// greatest offset that these packets acknowledge.
 #[tactic(auto, using(crate::proofs::Draining::keeps, crate::proofs::Draining::begins, crate::proofs::Draining::ends))]
 pub(crate) fn free(
     queue: &mut VecDeque<Packet>,

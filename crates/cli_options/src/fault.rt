@@ -58,8 +58,9 @@ pub fn refusal(words: Result<String, AllocError>) -> ToolFault
     }
 }
 
-/// Returns the status with which the command ends. It is 0 after success and 1 if a check fails, as when a log fails
-/// its audit. It is 2 if the input or the command line is invalid, and 3 if I/O or an allocation failed.
+/// Returns the status with which the command ends. It is 0 after success, and 1 if the result is false, for example
+/// because a log fails its audit. It is 2 if the input or the command line is invalid, and 3 if I/O or an allocation
+/// failed.
 pub fn exit_status(answer: &Result<bool, ToolFault>) -> u8
     ensures { result ≡ exit_status_of answer.now }
 {

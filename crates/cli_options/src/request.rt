@@ -58,7 +58,7 @@ pub struct Showing {
 }
 
 /// How messages are encoded: the device ID, the first system bytes, the maximum number of bytes of header and text,
-/// the maximum nesting of lists, and whether the output is lines of hexadecimal instead of bytes.
+/// and the maximum nesting of lists. `hex` selects lines of hexadecimal instead of bytes.
 #[derive(Clone, Copy, Debug)]
 pub struct Encoding {
     pub device: u16,

@@ -28,9 +28,10 @@ SentOctets false written before octets = (before ≤ length octets) × (written 
 SentOctets true written before octets = (n : ℕ) × (before ≤ n) × (n < length octets) × (written ≡ Some (take n octets))
 
 -- What was given to an output to a sink, as one list of numbers. Code that is generic over outputs passes on only
--- `Given`, and its caller needs what it knew of the sink before. The list starts with the name of the output's
--- reference to the sink, how often the sink had failed before, 1 if the sink recorded its bytes, and the number of
--- bytes that it started with. The sink's bytes follow: those that it started with, and those that it was given.
+-- `Given`, and its caller needs what it knew of the sink before. The list starts with four numbers: the name of the
+-- output's reference to the sink, how often the sink had failed before, 1 if the sink recorded its bytes, and the
+-- number of bytes that it started with. The sink's bytes follow: those that it started with, and those that it was
+-- given.
 pub record Sent (name : ℕ) (has_failed : Bool) (state : SinkState) (given : List ℕ) : Type 0 where
   pub failures : ℕ
   pub is_reported : ℕ

@@ -18,7 +18,7 @@ use std::alloc::Global;
 /// Writes the line of each message of the input, in order, up to the end of the input or the first error.
 ///
 /// `max` is the maximum number of bytes of header and text of a message. A data message is shown in notation if its
-/// text is empty or one item whose lists are nested at most `depth` levels deep, otherwise with its text in
+/// text is empty or one item whose lists are nested at most `depth` levels deep. Otherwise its text is shown in
 /// hexadecimal. The source is read in blocks: after an error other than a failed read, bytes after the shown messages
 /// may be consumed.
 ///
