@@ -78,7 +78,7 @@ Arrives a octets freed old new =
     → (difference [] (ps ++ p ∷ []) ≡ new.differs) × AreStreamsOf new.emitter.streams (ps ++ p ∷ []) × (new.losses ≡ old.losses)
     × ((emitted : List TimedEvent) → Waits true old.emitter old.due.items ps emitted → Waits true new.emitter new.due.items (ps ++ p ∷ []) emitted)
 
--- What follows from the state, and from any further packets.
+-- Holds if the state agrees with these packets and the emitted events.
 abbrev pub IsKnown : Reading → List Placed → List TimedEvent → Type 0
 IsKnown r ps emitted = Watches r.losses ps × (difference [] ps ≡ r.differs) × AreStreamsOf r.emitter.streams ps × Waits true r.emitter r.due.items ps emitted
 

@@ -218,8 +218,8 @@ is_past known p = past p.acknowledged
 abbrev pub is_beyond : List Placed → Placed → Bool
 is_beyond known p = is_past known p || nat_lt (end_of known p.from) p.place
 
--- The first packet that acknowledges what neither it, nor an earlier one, nor one of the next 4,096 carries. Or the
--- first that is out of order because of a gap that none of them fills, if it comes before.
+-- The first packet that acknowledges what neither it, nor an earlier one, nor one of the next 4,096 carries, or that
+-- follows a gap that none of them fills.
 unfoldable pub loss : List Placed → List Placed → Option ℕ
 loss before [] = None
 loss before (p ∷ ps) = if is_beyond (before ++ (p ∷ take 4096 ps)) p then Some p.packet else loss (before ++ (p ∷ [])) ps

@@ -44,7 +44,7 @@ pub struct Excerpt {
     pub to: u32,
     /// The output format.
     pub form: OutputFormat,
-    /// True if times are shown as dates in UTC. They are milliseconds since 1970.
+    /// True if times, which are milliseconds since 1970, are shown as dates in UTC.
     pub utc: bool,
 }
 

@@ -238,9 +238,9 @@ fn loss_of_an_octet(rt: std::rt::HostRuntime) -> Result<(), AllocError> {
     lose(&rt, &mut losses)
 }
 
-// A cell to store or pass, or a check: a cell; whether a copy from offset 1 on contradicts what is buffered, if the
-// given number of bytes are acknowledged; or the number of bytes of the message at an offset, of what comes before
-// another one.
+// A cell to store or pass, or a check. `Cell` checks a cell. `Copy` checks whether a copy from offset 1 on contradicts
+// what is buffered, if the given number of bytes are acknowledged. `Front` checks the number of bytes of the message at
+// an offset, of what comes before another offset.
 enum Look {
     Put(u64, Flags, &'static [u8]),
     Pass(u64),

@@ -73,7 +73,7 @@ fn failed_reads_lose_nothing(rt: std::rt::HostRuntime) -> Result<(), FileFault> 
     can_continue(&rt, rt.alloc(), &mut packets, &mut broken)
 }
 
-// Checks reading on from another source after the first one failed.
+// Checks that the rest is read from another source after the first one failed.
 fn can_continue(
     rt: &impl Abort,
     alloc: Global,
