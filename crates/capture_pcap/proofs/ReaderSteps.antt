@@ -32,8 +32,8 @@ size_is_within n (front.Begun o size) sound = sound.0
 size_is_within n (front.Described i size) sound = sound.0
 size_is_within n (front.Passed counts size) sound = sound.0
 
--- What holds of each result for a record or block: if more bytes are needed, there are fewer than in any
--- record or block.
+-- What holds of each result for a record or block: if more bytes are needed, there are fewer than in any record or
+-- block.
 abbrev pub IsFair : ℕ → Result Front CaptureFault → Type 0
 IsFair n (Ok front.More) = n < 16 + greatest
 IsFair n (Ok (front.Packet r)) = IsSound n (front.Packet r)

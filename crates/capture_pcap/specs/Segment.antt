@@ -30,8 +30,7 @@ tcp_at source target octets from end =
 
 -- ---- IPv4
 
--- Where the packet ends. Length 0 means that it extends to the end of the bytes (segmentation
--- offload).
+-- Where the packet ends. Length 0 means that it extends to the end of the bytes (segmentation offload).
 abbrev pub v4_end : List ℕ → ℕ → ℕ
 v4_end octets at = if big_at 2 (at + 2) octets == 0 then length octets else at + big_at 2 (at + 2) octets
 

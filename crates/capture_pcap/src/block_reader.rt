@@ -27,8 +27,8 @@ pub enum Opening {
     Opened(Format, usize),
 }
 
-/// The state of reading a capture file: the format, the interfaces of the section, and the number of packets and
-/// bytes that were passed. Both counts saturate.
+/// The state of reading a capture file: the format, the interfaces of the section, and the number of packets and bytes
+/// that were passed. Both counts saturate.
 #[derive(Drop)]
 pub struct Reader {
     format: Format,
@@ -123,8 +123,8 @@ impl Reader {
     }
 }
 
-/// Returns the format that the first bytes show: pcap in either byte order, with micro- or nanoseconds, or pcapng.
-/// Does not allocate.
+/// Returns the format that the first bytes show: pcap in either byte order, with micro- or nanoseconds, or pcapng. Does
+/// not allocate.
 #[tactic(auto, unfolding(crate::specs::File::opening_at))]
 pub fn format_of(octets: &[u8]) -> Result<Opening, CaptureFault>
     ensures format { result ≡ opening_at octets.now }

@@ -21,8 +21,8 @@ pub enum CaptureFault {
     /// The first bytes are those of a zstd file.
     #[error("Zstd")]
     Zstd,
-    /// A record or block claims more bytes than the maximum, or fewer than its own fields need. Or a block's
-    /// length is not a multiple of the word size.
+    /// A record or block claims more bytes than the maximum, or fewer than its own fields need. Or a block's length is
+    /// not a multiple of the word size.
     #[error("Length")]
     Length,
     /// A block's second length differs from its first.

@@ -56,8 +56,8 @@ pub enum Front {
     Passed(bool, usize),
 }
 
-/// Reads the record at the start of a pcap file's bytes, after the file's header. `parts` of the time's
-/// fraction make a millisecond.
+/// Reads the record at the start of a pcap file's bytes, after the file's header. `parts` of the time's fraction make a
+/// millisecond.
 #[tactic(auto, unfolding(crate::specs::NextBlock::pcap_at))]
 pub fn pcap_front(order: Order, parts: u32, link: u32, octets: &[u8]) -> Result<Front, CaptureFault>
     requires { 0 < parts }
@@ -87,8 +87,7 @@ pub fn pcap_front(order: Order, parts: u32, link: u32, octets: &[u8]) -> Result<
     }))
 }
 
-/// Reads the block at the start of a pcapng file's bytes, in a section with this byte order and these
-/// interfaces.
+/// Reads the block at the start of a pcapng file's bytes, in a section with this byte order and these interfaces.
 #[tactic(auto, unfolding(crate::specs::NextBlock::pcapng_at))]
 pub fn pcapng_front(
     order: Order,

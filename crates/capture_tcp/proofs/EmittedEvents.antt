@@ -426,8 +426,7 @@ early_skipped (Some m) n (Some j) es h low =
           rw (same, le-leb j n (omega (arith, ge, h))) refl
     ]
 
--- What establishes the connection by a message or an ACK. Everything then continues as once it is
--- established.
+-- What establishes the connection by a message or an ACK. Everything then continues as once it is established.
 comes : (early : Option ℕ) (n : ℕ) (es : List Entry) (proceeds : EmitterState → List Entry) → IsEarly early n → proceeds emitter_state.Over ≡ [] → proceeds (emitter_state.Running None) ≡ up_to_down (from n es) None
     → (comes_up (emitter_state.Waiting early) n).emitted ++ proceeds (comes_up (emitter_state.Waiting early) n).state ≡ entry n up ∷ up_to_down (from n (early_list early ++ es)) None
 comes None n es proceeds h over runs = ap (λ (z : List Entry). entry n up ∷ z) runs

@@ -1,5 +1,4 @@
--- What waits covers what is buffered after the end, so a drained queue moves the end to where the contiguous
--- bytes end.
+-- What waits covers what is buffered after the end, so a drained queue moves the end to where the contiguous bytes end.
 use Rattle.std.proofs.Common.{◌≡◌, ◌<◌, ◌≤◌, ◌+◌, ◌-◌, ◌++◌, ◌&&◌, inl, inr, ℕ, max, Bool, true, false, cond, nat_le, nat_lt, List, [], ◌∷◌, length, map, filter, slice_get, None, is_some, refl, sym, ap, subst, arith}
 use Rattle.std.proofs.lemmas.Bool.{le-leb, lt-leb, lt-ltb, cases_lt}
 use Rattle.capture_tcp.specs.declared.packet.Packet.{Packet}

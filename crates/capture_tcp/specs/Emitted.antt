@@ -1,5 +1,4 @@
--- Deliveries that are emitted one after another, up to where they are certainly before the end of a
--- log.
+-- Deliveries that are emitted one after another, up to where they are certainly before the end of a log.
 use Rattle.std.specs.Prelude.{◌≡◌, ◌≤◌, Bool, true, false, nat_lt, ℕ, List, [], ◌∷◌, ◌++◌, drop, map, Option, Some, None}
 use Rattle.std.specs.Option.{unwrap_or}
 use Rattle.capture_tcp.specs.declared.emitter.Emitter.{Emitter}

@@ -42,8 +42,8 @@ ended ps = shown_by (loss_shown [] ps) (ended_at ps)
 abbrev pub packets_after : ℕ → List Placed → ℕ
 packets_after k ps = length (filter (λ p. nat_lt k p.packet) ps)
 
--- True if the connection ended, or a retransmission conflicts, or the next 4,096 packets after the one
--- with missing data are present.
+-- True if the connection ended, or a retransmission conflicts, or the next 4,096 packets after the one with missing
+-- data are present.
 abbrev pub ends_for_good : Ending → List Placed → Bool
 ends_for_good ending.Closed ps = true
 ends_for_good ending.Complete ps = false
@@ -73,14 +73,13 @@ IsEnded more ps emitted e =
 abbrev pub EndsSo : Bool → List Placed → List TimedEvent → Type 0
 EndsSo more ps emitted = (e : Ending) × IsEnded more ps emitted e
 
--- Holds if, whatever follows, these are all emitted events, with this ending, by the packet that shows a
--- loss.
+-- Holds if, whatever follows, these are all emitted events, with this ending, by the packet that shows a loss.
 abbrev pub IsShownEnded : Bool → List Placed → List TimedEvent → Ending → Type 0
 IsShownEnded more ps emitted e =
     (later : List Placed) → MayFollow more ps later → (map entry_as emitted ≡ (log_of (ps ++ later)).emitted) × (e ≡ ended (ps ++ later))
 
--- Holds if, after a stop by a loss or a conflicting retransmission, everything before it is emitted. It
--- is appended to what the caller left.
+-- Holds if, after a stop by a loss or a conflicting retransmission, everything before it is emitted. It is appended to
+-- what the caller left.
 abbrev pub Finishes : Option ℕ → Option ℕ → Emitter → List Due → List TimedEvent → List TimedEvent → Ending → Type 0
 Finishes lost differs old queue emitted later e =
     (away : List TimedEvent) (more : Bool) (ps : List Placed) → AreRising 0 ps → MayFollow more ps [] → AreStreamsOf old.streams ps

@@ -38,8 +38,8 @@ abbrev pub is_at : Option ℕ → ℕ → Bool
 is_at None n = false
 is_at (Some m) n = m == n
 
--- The connection is established, if it is not yet. If an end came before at the same packet, the connection is
--- also closed.
+-- The connection is established, if it is not yet. If an end came before at the same packet, the connection is also
+-- closed.
 abbrev pub comes_up : EmitterState → ℕ → Processed
 comes_up (emitter_state.Waiting early) n =
     if is_at early n then (record { state = emitter_state.Over; emitted = entry n up ∷ entry n down ∷ [] })
@@ -60,7 +60,7 @@ says (emitter_state.Running s) n d octets =
     else (record { state = emitter_state.Running (separated_side s d (is_separate octets)); emitted = entry n (message (end_at d) octets) ∷ [] })
 says emitter_state.Over n d octets = record { state = emitter_state.Over; emitted = [] }
 
--- An end. One before the connection is established is ignored.
+-- The connection is closed, if it is established. Otherwise the packet is only recorded.
 abbrev pub closes_down : EmitterState → ℕ → Processed
 closes_down (emitter_state.Waiting early) n = record { state = emitter_state.Waiting (Some n); emitted = [] }
 closes_down (emitter_state.Running s) n = record { state = emitter_state.Over; emitted = entry n down ∷ [] }

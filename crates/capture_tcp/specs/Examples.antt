@@ -47,8 +47,8 @@ other_copy = sent active 3 1001 (Some 1001) (octet 7 ∷ []) ∷ (sent active 4 
 abbrev pub gap_at_end : List Seen
 gap_at_end = sent active 3 1001 (Some 1001) (octet 7 ∷ []) ∷ (sent active 4 1003 (Some 1001) (octet 8 ∷ []) ∷ [])
 
--- The message that packet 4 answers is missing. Packet 3, which comes after the missing message, is captured
--- before the reply.
+-- The message that packet 4 answers is missing. Packet 3, which comes after the missing message, is captured before the
+-- reply.
 abbrev pub lost_message : List Seen
 lost_message = sent active 3 1002 (Some 1002) [] ∷ (sent passive 4 1001 (Some 1002) (octet 9 ∷ []) ∷ [])
 
@@ -118,8 +118,8 @@ ResetBetween =
     recorded_of (connected (sent active 3 1001 (Some 1001) [] ∷ brings active 4 1001 1001 1 ∷ resets passive 5 1001 1015 ∷ brings active 6 1015 1001 5 ∷ []))
     ≡ entry 3 up ∷ entry 4 (message active (control 1)) ∷ entry 5 down ∷ []
 
--- The SYN carries a byte, which is not a complete message, and a reset ends the connection. It ended, and nothing
--- is emitted.
+-- The SYN carries a byte, which is not a complete message, and a reset ends the connection. It ended, and nothing is
+-- emitted.
 abbrev pub over_unreported : List Seen
 over_unreported = sent active 1 1000 None (syn ∷ octet 0 ∷ []) ∷ record (sent active 2 1002 None []) { reset = true } ∷ []
 

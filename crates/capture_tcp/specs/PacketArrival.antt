@@ -116,8 +116,7 @@ abbrev pub EmitsSettled : BothEnds → Reading → List TimedEvent → Reading �
 EmitsSettled acked old emitted new later r =
     (away : List TimedEvent) (ps : List Placed) → AreRising 0 ps → acked ≡ received_of ps → IsKnown old ps (away ++ emitted) → Outcome new ps (away ++ later) r
 
--- Holds if what is final is emitted, given that there is no conflicting retransmission before which
--- nothing is missing.
+-- Holds if what is final is emitted, given that there is no conflicting retransmission before which nothing is missing.
 abbrev pub EmitsIfSettled : BothEnds → Reading → List TimedEvent → Reading → List TimedEvent → Option Ending → Type 0
 EmitsIfSettled acked old emitted new later r = breaks_sure (first_of old.losses) old.differs ≡ false → EmitsSettled acked old emitted new later r
 

@@ -1,5 +1,4 @@
--- The times of events: each is the latest time at which a packet of the connection up to the event's own was
--- captured.
+-- The times of events: each is the latest time at which a packet of the connection up to the event's own was captured.
 use Rattle.std.specs.Prelude.{◌≡◌, ◌≤◌, ◌++◌, ◌∷◌, max, map, nat_le, if◌then◌else◌, ℕ, List, [], None}
 use Rattle.capture_tcp.specs.declared.connection.Connection.{Connection}
 use Rattle.capture_tcp.specs.declared.packet.Packet.{Packet}

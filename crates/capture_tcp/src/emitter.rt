@@ -67,8 +67,8 @@ fn is_sure(limit: Option<u64>, packet: u64) -> bool
     }
 }
 
-/// Emits the events of the deliveries at the front that are at packets before a limit, up to a reset. Returns
-/// whether there was a reset.
+/// Emits the events of the deliveries at the front that are at packets before a limit, up to a reset. Returns whether
+/// there was a reset.
 #[tactic(auto, using(crate::proofs::LaterEvents::drained_none, crate::proofs::Timing::emits_none))]
 pub(crate) fn drain(
     alloc: Global,
@@ -97,8 +97,8 @@ fn is_over(emitter_state: EmitterState) -> bool
     matches!(emitter_state, EmitterState::Over)
 }
 
-/// Emits the events of the deliveries at packets before a limit, up to the end of the connection. Returns
-/// whether the connection ended.
+/// Emits the events of the deliveries at packets before a limit, up to the end of the connection. Returns whether the
+/// connection ended.
 pub(crate) fn emit_before(
     alloc: Global,
     emitter: &mut Emitter,

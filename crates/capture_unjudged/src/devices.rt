@@ -30,8 +30,8 @@ pub(crate) fn push_devices(
     }
 }
 
-// Returns the device ID of the data message in a segment. Returns `None` if the bytes are anything other than
-// one data message.
+// Returns the device ID of the data message in a segment. Returns `None` if the bytes are anything other than one data
+// message.
 fn device_of(settings: &Settings, octets: &[u8]) -> Option<u16>
     ensures some { IfSome result (IsDevice settings.now octets.now) }
     ensures none { IfNone result ((device : ℕ) → IsDevice settings.now octets.now device → ⊥) }

@@ -4,8 +4,7 @@ use capture_log::Pair;
 use indexmap::IndexSet;
 use std::alloc::{AllocError, Global};
 
-// The maximum number of stored pairs. Of further ones, only the fact that there are some is
-// recorded.
+// The maximum number of stored pairs. Of further ones, only the fact that there are some is recorded.
 const MAX_PAIRS: usize = 4096;
 
 /// Pairs of endpoints, each counted once, whichever end is the active one.

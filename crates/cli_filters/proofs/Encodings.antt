@@ -39,8 +39,8 @@ Encodes-push device max hex system (x ∷ xs) output m f (g, rest, one, others, 
 
 -- ---- bytes and lines
 
--- Bytes that were made of messages are those of frames, and the lines of the same messages are the
--- lines of these frames.
+-- Bytes that were made of messages are those of frames, and the lines of the same messages are the lines of these
+-- frames.
 pub frames_of : (device max system : ℕ) (hex : Bool) (ms : List Content) (octets : List ℕ) → max < 2 ^ 32 → Encodes device max false system ms octets
     → (fs : List Frame) × AreFrames fs octets × Encodes device max hex system ms (outputs_of hex fs)
 frames_of device max system hex [] octets bound none = ([], none, refl)
@@ -77,8 +77,7 @@ encodes_to depth octets input ms whole noted =
     let P : List ℕ → Type 0 = λ text. Notations ms text in
     (whole.1, subst P whole.0 noted.0, noted.1)
 
--- All were encoded, and their frames were written; or a write failed, or an allocation for the lines
--- failed.
+-- All were encoded, and their frames were written; or a write failed, or an allocation for the lines failed.
 pub answers_written : (device max depth : ℕ) (hex : Bool) (system : ℕ) (octets input : List ℕ) (ms : List Content) (fs : List Frame) (r : Result (Unit {0}) ToolFault)
     (left old written : Option (List ℕ)) → IsWholeInput input_limit octets input → Notations ms octets × AllWithin depth ms → Encodes device max hex system ms (outputs_of hex fs)
     → WritesOut (outputs_of hex fs) r old written → EncodesAll device max depth hex system input r left old written

@@ -67,8 +67,7 @@ none_at_front (f ∷ fs) octets (rest, fits, others, is) short =
 
 -- ---- lines that are appended
 
--- Holds if the lines of the frames that were passed are written or buffered, and the bytes of the
--- others are left.
+-- Holds if the lines of the frames that were passed are written or buffered, and the bytes of the others are left.
 abbrev pub LinesSoFar : List ℕ → List ℕ → Option (List ℕ) → List ℕ → Option (List ℕ) → List ℕ → Type 0
 LinesSoFar octets rest old held new now =
     (fs : List Frame) → AreFrames fs octets → (appended_text : List ℕ) × (others : List Frame) × AreFrames others rest

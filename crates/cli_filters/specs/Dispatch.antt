@@ -32,8 +32,8 @@ ShowsForm form.Octets max depth input result left old new = Shows max depth inpu
 ShowsForm form.Lines max depth input result left old new = ShowsHex false max depth input result left old new
 ShowsForm form.BareLines max depth input result left old new = ShowsHex true max depth input result left old new
 
--- What is done for a task, with the states of input and output before and now. Help is printed; messages are shown
--- or encoded; a log is audited, and the result is true if it passes.
+-- What is done for a task, with the states of input and output before and now. Help is printed; messages are shown or
+-- encoded; a log is audited, and the result is true if it passes.
 abbrev pub Performs : Task → Result Bool ToolFault → SourceState → SourceState → SinkState → SinkState → Type 0
 Performs (asked.Help text) result old new before after = Prints (string_bytes text) result before.written after.written
 Performs (asked.Show s) result old new before after =

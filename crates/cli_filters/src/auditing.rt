@@ -13,8 +13,8 @@ use hsms_frame::{Sink, Source};
 use hsms_log::{AuditFault, Verdict, audit};
 use std::alloc::Global;
 
-/// Writes the line of the verdict on a log, and returns whether it passes. It passes exactly if its bytes encode a
-/// run of the session machine. Otherwise the line names the first line that continues no run, and why.
+/// Writes the line of the verdict on a log, and returns whether it passes. It passes exactly if its bytes encode a run
+/// of the session machine. Otherwise the line names the first line that continues no run, and why.
 ///
 /// # Errors
 ///

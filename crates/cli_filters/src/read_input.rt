@@ -12,8 +12,8 @@ use std::alloc::Global;
 
 const BLOCK: usize = 65536;
 
-/// Returns the bytes of an input. Returns an error with the text `Input` if it has more than `limit` bytes. Returns
-/// a failed read only if at most `limit` bytes were consumed before it.
+/// Returns the bytes of an input. Returns an error with the text `Input` if it has more than `limit` bytes. Returns a
+/// failed read only if at most `limit` bytes were consumed before it.
 #[tactic(auto, using(crate::proofs::CompleteLines::refused, crate::proofs::CompleteLines::counted, crate::proofs::CompleteLines::worded))]
 pub fn read_whole<R: Source>(
     alloc: Global,

@@ -54,13 +54,11 @@ log_word (Some role) = Some (role_word role)
 abbrev pub HasActive : List Row → Role → Type 0
 HasActive rows role = unwrap_or (first_of (codes "active") rows) (codes "host") ≡ role_word role
 
--- Holds if the matches have these settings of an end with this role and side, for a log of several
--- connections.
+-- Holds if the matches have these settings of an end with this role and side, for a log of several connections.
 abbrev pub HasEnd : List Row → Role → Side → Parameters → Type 0
 HasEnd rows role link s = (s.version ≡ 2) × (s.role ≡ role) × (s.link ≡ link) × HasNumbers rows s
 
--- Holds if the matches request this of a capture. One end is as the option says, and the other end is
--- the opposite.
+-- Holds if the matches request this of a capture. One end is as the option says, and the other end is the opposite.
 abbrev pub HasCapturing : List Row → Capturing → Type 0
 HasCapturing rows capturing =
     (number_in captured_number rows ≡ Some capturing.port) × HasPeer rows capturing.peer

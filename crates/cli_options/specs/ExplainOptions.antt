@@ -47,8 +47,8 @@ HasExcerpt rows excerpt =
     × (number_in from_number rows ≡ Some excerpt.from) × (number_in to_number rows ≡ Some excerpt.to)
     × HasFormat rows excerpt.form × IsFlag (codes "utc") rows excerpt.utc
 
--- True if the line with this number is between the first and the last one that may be shown. The maximum number is
--- no limit.
+-- True if the line with this number is between the first and the last one that may be shown. The maximum number is no
+-- limit.
 abbrev pub is_between : Excerpt → ℕ → Bool
 is_between excerpt number =
     nat_le excerpt.from number && ((excerpt.to == 4294967295) || nat_le number excerpt.to)

@@ -51,8 +51,7 @@ command_line = record {
 
 -- ---- what is requested
 
--- The form of the messages that are shown, by the flags `hex` and `bare`. The second one requires the
--- first.
+-- The form of the messages that are shown, by the flags `hex` and `bare`. The second one requires the first.
 abbrev pub form_by : Bool → Bool → Option Form
 form_by false false = Some form.Octets
 form_by true false = Some form.Lines
@@ -112,8 +111,7 @@ EncodesTo words (request.Explain excerpt) = ParsesWork words (request.Explain ex
 EncodesTo words (request.Capture capturing) = ParsesWork words (request.Capture capturing)
 EncodesTo words (request.Serve service) = ParsesWork words (request.Serve service)
 
--- Holds if the words request no work, and it is unknown whether they call for help alone, or for the
--- version alone.
+-- Holds if the words request no work, and it is unknown whether they call for help alone, or for the version alone.
 abbrev pub ParsesNothing : List Text → Type 0
 ParsesNothing words =
     (fault_of command_line words ≢ DisplayHelp ∷ []) × (fault_of command_line words ≢ DisplayVersion ∷ [])

@@ -54,8 +54,7 @@ pub fn capturing_of(options: &ArgMatches<'_>) -> Option<Capturing>
     })
 }
 
-// Returns the address that one end must have, if it is given. Returns `None` if the option's text is not an
-// address.
+// Returns the address that one end must have, if it is given. Returns `None` if the option's text is not an address.
 fn peer_of(options: &ArgMatches<'_>) -> Option<Option<IpAddr>>
     ensures some { IfSome result (HasPeer (rows_of (found_of options.now))) }
     ensures none { result ≡ None → (peer : Option IpAddr) → HasPeer (rows_of (found_of options.now)) peer → ⊥ }

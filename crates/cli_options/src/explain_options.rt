@@ -52,8 +52,7 @@ impl Excerpt {
     ghost use Rattle.std.specs.Prelude.{◌≡◌};
     ghost use Rattle.cli_options.specs.ExplainOptions.{is_between};
 
-    /// Returns true if the line with this number, from 1, is between the first and the last one that may
-    /// be shown.
+    /// Returns true if the line with this number, from 1, is between the first and the last one that may be shown.
     pub fn has_line(&self, number: u64) -> bool
         ensures { result ≡ is_between self.now number }
     {

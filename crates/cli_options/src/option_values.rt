@@ -25,8 +25,8 @@ pub fn short_of(options: &ArgMatches<'_>, number: Numbered) -> Option<u16>
     Some(number_of(options, number)? as u16)
 }
 
-/// Returns the number of an option, if it is from the minimum to the maximum. Returns the default if the option is
-/// not given.
+/// Returns the number of an option, if it is from the minimum to the maximum. Returns the default if the option is not
+/// given.
 pub fn number_of(options: &ArgMatches<'_>, number: Numbered) -> Option<u32>
     requires { IfSome (described_number number).left_out (IsOf (described_number number)) }
     ensures value { result ≡ number_in (described_number number) (rows_of (found_of options.now)) }

@@ -48,8 +48,8 @@ pub enum Task {
     Encode(Encoding),
 }
 
-/// How messages are shown: their form, the maximum number of bytes of header and text, and the maximum nesting of
-/// lists in a readable text.
+/// How messages are shown: their form, the maximum number of bytes of header and text, and the maximum nesting of lists
+/// in a readable text.
 #[derive(Clone, Copy, Debug)]
 pub struct Showing {
     pub max: u32,
@@ -57,8 +57,8 @@ pub struct Showing {
     pub form: Form,
 }
 
-/// How messages are encoded: the device ID, the first system bytes, the maximum number of bytes of header and text,
-/// and the maximum nesting of lists. `hex` selects lines of hexadecimal instead of bytes.
+/// How messages are encoded: the device ID, the first system bytes, the maximum number of bytes of header and text, and
+/// the maximum nesting of lists. `hex` selects lines of hexadecimal instead of bytes.
 #[derive(Clone, Copy, Debug)]
 pub struct Encoding {
     pub device: u16,

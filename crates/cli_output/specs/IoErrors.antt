@@ -1,5 +1,4 @@
--- I/O errors of the command: what was read of an input, the name of an error, and how often a reader or writer
--- failed.
+-- I/O errors of the command: what was read of an input, the name of an error, and how often a reader or writer failed.
 use Rattle.std.specs.Prelude.{◌≡◌, ◌≢◌, ◌⊎◌, ◌++◌, ℕ, List, codes, Option, Some, Result, Ok, Err}
 use Rattle.hsms_frame.specs.CallCounts.{next_count}
 use Rattle.cli_options.specs.declared.fault.ToolFault.{ToolFault}

@@ -46,8 +46,7 @@ abbrev pub unreadable_line : Frame → List ℕ
 unreadable_line f =
     codes "data" ++ address_of f.header ++ message_name_of f.header ++ codes " ! " ++ encode_lower f.text ++ 10 ∷ []
 
--- The line of a data message: its text is empty or one item within the depth, or it is not
--- readable.
+-- The line of a data message: its text is empty or one item within the depth, or it is not readable.
 abbrev pub DataLine : ℕ → Frame → List ℕ → Type 0
 DataLine depth f line =
     ((item : Option Value) × IsTextOf depth f.text item × (line ≡ readable_line f.header item))

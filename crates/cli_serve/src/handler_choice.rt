@@ -34,8 +34,8 @@ impl TurnDesk for ChosenHandler {
     }
 }
 
-/// Returns the message handler of a service with these replies: a host's, or equipment's with its model and
-/// software revision.
+/// Returns the message handler of a service with these replies: a host's, or equipment's with its model and software
+/// revision.
 pub fn desk_of(
     alloc: Global,
     service: &Service<'_>,

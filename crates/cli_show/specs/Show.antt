@@ -43,8 +43,8 @@ GrowsThenByFront old new lines line =
     IfRecorded old (λ octets. (n : ℕ) × (n < length line) × (new ≡ Some (octets ++ lines ++ take n line)))
 
 -- The I/O errors after `count` messages were shown; `rest` is what follows them in the input, and `lines` are their
--- lines. A read failed, and less than a complete message of the rest was consumed; a write failed within the next
--- line; or there is one more message than the command shows.
+-- lines. A read failed, and less than a complete message of the rest was consumed; a write failed within the next line;
+-- or there is one more message than the command shows.
 abbrev pub StopsBy : ℕ → ℕ → ℕ → List ℕ → List ℕ → List ℕ → Option (List ℕ) → Option (List ℕ) → Option (List ℕ) → Type 0
 StopsBy max depth count rest lines word left old new =
     ((word ≡ codes "Read") × StopsWithin max rest left × Grows old new lines)
@@ -53,8 +53,8 @@ StopsBy max depth count rest lines word left old new =
     ⊎ ((word ≡ codes "Endless") × (count ≡ 4294967295) × (f : Frame) × (after : List ℕ) × Begins max rest f after
     × LeavesPart after left × Grows old new lines)
 
--- The results after `count` messages were shown; `rest` is what follows them in the input, and `lines` are their
--- lines. Each has what is left of the input, and what was written before and is now.
+-- The results after `count` messages were shown; `rest` is what follows them in the input, and `lines` are their lines.
+-- Each has what is left of the input, and what was written before and is now.
 abbrev pub Stops : {T : Type 0} → ℕ → ℕ → ℕ → List ℕ → List ℕ → Result T ToolFault → Option (List ℕ) → Option (List ℕ)
     → Option (List ℕ) → Type 0
 Stops max depth count rest lines (Ok _) left old new = (rest ≡ []) × (left ≡ Some []) × Grows old new lines

@@ -60,8 +60,8 @@ fn digit(octet: u8) -> Option<u8>
     }
 }
 
-/// Returns the header and the text of the message in the bytes, which is within the limit for both together. The
-/// bytes of bare lines are header and text alone, without the four length bytes.
+/// Returns the header and the text of the message in the bytes, which is within the limit for both together. The bytes
+/// of bare lines are header and text alone, without the four length bytes.
 pub fn message_of(octets: &[u8], max: u32, form: Form) -> Option<(Header, &[u8])>
     ensures some { IfSome result (λ m. IsMessageOf (is_bare form) max octets.now (record { header = m.0; text = m.1.now })) }
     ensures none { result ≡ None → (f : Frame) → IsMessageOf (is_bare form) max octets.now f → ⊥ }

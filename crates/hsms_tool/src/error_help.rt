@@ -62,8 +62,8 @@ const CAPTURES: [[u8; 4]; 5] = [
 ];
 
 /// Returns the explanation of an error: what happened, and what to do. It may have several lines. For a notation it
-/// starts with the position, if the error has one: the line and the column. The line itself follows, with a mark
-/// below the position.
+/// starts with the position, if the error has one: the line and the column. The line itself follows, with a mark below
+/// the position.
 pub fn words_for(alloc: Global, failure: &Failure) -> Result<String, AllocError> {
     let name = failure.fault.to_string(alloc)?;
     let name = name.as_str();

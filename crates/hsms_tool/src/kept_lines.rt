@@ -40,8 +40,8 @@ impl<R: Read> KeptLines<R> {
         }
     }
 
-    /// Returns why the failing line cannot be read, and the line itself, with a mark. Returns `None` if the line
-    /// fails for another reason, or an allocation failed.
+    /// Returns why the failing line cannot be read, and the line itself, with a mark. Returns `None` if the line fails
+    /// for another reason, or an allocation failed.
     pub fn words_for(&self, alloc: Global, verdict: Verdict) -> Option<String> {
         match verdict {
             Verdict::Fail { line, why } if why == Why::Unreadable && !self.is_refused => {

@@ -31,8 +31,8 @@ const NO_CAPTURE: Found = Err(FileFault::Capture {
     fault: CaptureFault::Unknown,
 });
 
-// A file, the number of its bytes that are present, the chunk size, what its steps find, and the
-// final offset; or why the file is not opened.
+// A file, the number of its bytes that are present, the chunk size, what its steps find, and the final offset; or why
+// the file is not opened.
 type File = (&'static [u8], usize, usize, &'static [Found], Option<u64>);
 
 const FILES: &[File] = &[
@@ -85,8 +85,7 @@ fn can_continue(
     finds(rt, packets, &mut source, &[SYN, RESET])
 }
 
-// Opens a file, and checks what its steps find, and the final offset. A file that is not opened has
-// this error.
+// Opens a file, and checks what its steps find, and the final offset. A file that is not opened has this error.
 fn reads(
     rt: &impl Abort,
     alloc: Global,
