@@ -126,7 +126,7 @@ later ns k i j e =
     ap (λ (z : List (Option HeldCell)). get_or z i None) (some_drop k ns) ∙ get_or-drop k (some_octets ns) i None
     ∙ (let same : k + i ≡ j = omega (arith, e) in ap (λ (m : ℕ). get_or (some_octets ns) m None) same) ∙ some_get ns j
 
--- There is none.
+-- There is no byte at the offset.
 too_late : (ns : List ℕ) (k i j : ℕ) → length ns ≤ k → length ns ≤ j → get_or (some_octets (drop k ns)) i None ≡ slice_get (octets_of ns) j
 too_late ns k i j le past =
     let many = length_some ns in

@@ -46,7 +46,7 @@ one_longer more last b passive n at ends le =
     let same = cut_more message_size is_size (length l.cells) (length (l.cells ++ more passive)) n l (more passive) (omega arith) (omega arith) (omega (arith, here, le)) in
     (ap (λ (ms : List (List Cell)). flat_map (λ m. entry_of passive at [] m) ms) same.0, ap (λ (z : Left). with_left (both_longer more b) passive z) same.1)
 
--- The same for a delivery, which preserves where both streams end.
+-- A delivery is the same in longer streams, and preserves where both streams end.
 record IsLonger (more : End → List Cell) (last : End → ℕ) (b : Both) (t : Turn) : Type 0 where
   same : (delivers (due_of t) (both_longer more b)).entries ≡ (delivers (due_of t) b).entries
   left : (delivers (due_of t) (both_longer more b)).both ≡ both_longer more (delivers (due_of t) b).both

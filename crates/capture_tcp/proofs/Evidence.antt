@@ -152,7 +152,7 @@ shown_ended needs ps emitted e rises ends known w later more =
     sym (shown_sure needs ps later k w (lost_at ps k here) (leb-true 4096 (packets_after k ps) good) rises more)) in
     (then.0, same ∙ ap (shown_by (loss_shown [] (ps ++ later))) then.1)
 
--- The same if none follows.
+-- It ended, and this is reported, if nothing follows.
 pub shown_at_end : (needs : List Need) (ps : List Placed) (e : Ending) → AreRising 0 ps → e ≡ ended_at ps → IsWatched 4097 needs ps
     → shown_by (shown_of (ends_of ps) needs) e ≡ ended ps
 shown_at_end needs ps e rises now w =

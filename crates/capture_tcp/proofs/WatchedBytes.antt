@@ -38,7 +38,7 @@ past_by all active (Some n) p = refl
 past_by all passive None p = le-ltb (end_of all active) 0 (omega arith)
 past_by all passive (Some n) p = refl
 
--- The same for what it acknowledges alone.
+-- A packet acknowledges missing data exactly if the definition says so.
 pub past_is : (all : List Placed) (p : Placed) → nat_lt (other_end (ends_of all) (need_at p).from) (need_at p).acknowledged ≡ is_past all p
 past_is all p = past_by all p.from p.acknowledged p
 

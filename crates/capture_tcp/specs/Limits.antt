@@ -31,7 +31,7 @@ IsFar ps = 2 ^ 62 ≤ max (end_of ps active) (end_of ps passive)
 abbrev pub IsPast : List Placed → Placed → Type 0
 IsPast ps p = (0 < length p.cells) × EndsFar (first_kept ps p.from) p.place p.cells
 
--- Holds if the packet of a segment in the window does so.
+-- Holds if the packet of a segment in the window carries cells and ends that far ahead.
 abbrev pub EndsPast : (End → ℕ) → List Placed → Seen → Type 0
 EndsPast base ps s = (p : Placed) × (placed_after base ps s ≡ p ∷ []) × IsPast ps p
 
@@ -40,14 +40,14 @@ StopsFor stop.Far base ps s = IsFar ps
 StopsFor stop.Full base ps s = EndsPast base ps s
 StopsFor stop.Memory base ps s = Unit {0}
 
--- Holds if a connection that has not ended is given up for this, also if the caller removed earlier events.
+-- Holds if a connection that has not ended is given up for this reason, also if the caller removed earlier events.
 abbrev pub StopsBy : Connection → List TimedEvent → Seen → ConnectionFault → Type 0
 StopsBy c emitted s fault =
     (c.ending ≡ None)
     × ((base : End → ℕ) (before : List Seen) (away : List TimedEvent) → StateInvariant c (away ++ emitted) base before
     → StopsFor fault base (places base [] before) s)
 
--- Holds if it is given up whenever there is such a reason.
+-- Holds if a connection is given up whenever there is one of these reasons.
 abbrev pub ContinuesBy : Connection → List TimedEvent → Seen → Type 0
 ContinuesBy c emitted s =
     c.ending ≡ None

@@ -74,7 +74,7 @@ past_of e (n ∷ ns) = if nat_lt (other_end e n.from) n.acknowledged then Some n
 abbrev pub shown_of : BothEnds → List Need → Option ℕ
 shown_of e needs = or_else (past_of e needs) (first_of needs)
 
--- One more packet.
+-- Holds if this is the next packet after the earlier ones.
 abbrev pub IsNext : Side → Packet → BothEnds → List Placed → Placed → Type 0
 IsNext s packet ends before p = (s ≡ side_of p.from) × (packet ≡ packet_of p) × (ends ≡ ends_of (before ++ p ∷ []))
 
@@ -91,6 +91,6 @@ abbrev pub FindsLoss : List Need → Side → Packet → BothEnds → ℕ → Li
 FindsLoss old s packet ends k new =
     (before : List Placed) (p : Placed) → Watches old before → IsNext s packet ends before p → IsLoss k (before ++ p ∷ []) × IsWatched 4097 new (before ++ p ∷ [])
 
--- Holds if it is the loss, given that nothing follows.
+-- Holds if `k` is the loss, provided that nothing follows.
 abbrev pub ReturnsLoss : List Need → Option ℕ → Type 0
 ReturnsLoss needs k = (all : List Placed) → Watches needs all → k ≡ loss [] all

@@ -71,7 +71,7 @@ IsArrival a octets freed ps p =
     (a.packet ≡ packet_of p) × (a.from ≡ side_of p.from) × BringsCells p (arrival_cells a octets) × (a.acknowledged ≡ received ps p.from)
     × (freed ≡ map own_packet (turns ps (p ∷ []))) × (a.ends ≡ ends_of (ps ++ p ∷ [])) × (a.received ≡ received_of (ps ++ p ∷ []))
 
--- What is known, except for the missing data.
+-- Holds if the new state is the old one with the arrived packet, except for the missing data.
 abbrev pub Arrives : Arrival → List ℕ → List Packet → Reading → Reading → Type 0
 Arrives a octets freed old new =
     (ps : List Placed) (p : Placed) → IsArrival a octets freed ps p → difference [] ps ≡ old.differs → AreStreamsOf old.emitter.streams ps

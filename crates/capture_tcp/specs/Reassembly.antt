@@ -82,8 +82,8 @@ unfoldable pub differs : ℕ → ℕ → ℕ → List HeldCell → List (Option 
 differs base acknowledged place [] ss = false
 differs base acknowledged place (c ∷ cs) ss = differs_at base acknowledged place c ss || differs base acknowledged (place + 1) cs ss
 
--- Whether a packet with these cells contradicts those before it. What is not acknowledged must still be buffered, and
--- the packet ends before 2^64.
+-- Holds if the result is whether a packet with these cells contradicts those before it. What is not acknowledged must
+-- still be buffered, and the packet must end before 2^64.
 abbrev pub ReturnsConflict : Store → ℕ → ℕ → List Cell → Bool → Type 0
 ReturnsConflict s acknowledged place cells emitted =
     s.place ≤ acknowledged → place + length cells < 2 ^ 64 → (ps : List Placed) (d : End) → IsStoreOf s ps d
@@ -114,14 +114,14 @@ fitting upto place (Some n) = if nat_lt upto (place + n) then None else Some n
 abbrev pub piece_from : Store → ℕ → List Cell
 piece_from s place = in_piece (drop (place - s.place) s.cells)
 
--- The number of cells that are cut off the stream at an offset, if a complete message is there and ends by another
+-- Holds if this number of cells is cut off the stream at an offset: a complete message is there and ends by another
 -- offset.
 abbrev pub IsFront : Store → ℕ → ℕ → Option ℕ → Type 0
 IsFront s place upto count =
     s.place ≤ place → (ps : List Placed) (d : End) → IsStoreOf s ps d → place ≤ end_of ps d
     → count ≡ fitting upto place (message_size (drop place (stream_of ps d)))
 
--- The number of cells that are cut off, by what is buffered.
+-- Holds if this number of cells is cut off, by what is buffered.
 abbrev pub IsPiece : Store → ℕ → ℕ → Option ℕ → Type 0
 IsPiece s place upto count = s.place ≤ place → count ≡ fitting upto place (message_size (piece_from s place))
 

@@ -49,7 +49,7 @@ EmitsInTime dues emitted left later = (time : ℕ → ℕ) → AreDueTimed time 
 abbrev pub QueuesInTime : Packet → List Due → List Due → Type 0
 QueuesInTime p dues later = (time : ℕ → ℕ) → time p.packet ≡ p.time → AreDueTimed time dues → AreDueTimed time later
 
--- Holds when a packet arrives.
+-- Holds if the emitted events and the waiting deliveries keep their times when a packet arrives.
 abbrev pub ReactsInTime : Packet → Reading → List TimedEvent → Reading → List TimedEvent → Type 0
 ReactsInTime p old emitted new later =
     (time : ℕ → ℕ) → time p.packet ≡ p.time → AreDueTimed time old.due.items → AreTimed time emitted → AreDueTimed time new.due.items × AreTimed time later
@@ -67,7 +67,7 @@ FollowsInTime turns old segment octets emitted new later =
     (base : End → ℕ) (before : List Seen) (away : List TimedEvent) → StateInvariantAs None turns old (away ++ emitted) base before
     → IsInTimeOf old (away ++ emitted) (places base [] before) → IsInTimeOf new (away ++ later) (places base [] (before ++ seen_of segment octets ∷ []))
 
--- Holds for one more segment. The caller may have removed earlier events.
+-- Holds if one more segment keeps the times. The caller may have removed earlier events.
 abbrev pub TakesInTime : Connection → Seen → List TimedEvent → Connection → List TimedEvent → Type 0
 TakesInTime old s emitted new later =
     (base : End → ℕ) (before : List Seen) (away : List TimedEvent) → StateInvariant old (away ++ emitted) base before → IsInTime old (away ++ emitted) base before

@@ -16,7 +16,7 @@ appends_then A B C a b c xs ys first second = λ given has.
 pub appends_none : (A : List ℕ → Type 0) (a : List ℕ) → AppendsBytes A a A a []
 appends_none A a = λ given has. (given, has, sym (append-nil (given ++ a)))
 
--- The same text under another name.
+-- An equal text under another name.
 pub appends_same : (A B : List ℕ → Type 0) (a b xs ys : List ℕ) → xs ≡ ys → AppendsBytes A a B b xs → AppendsBytes A a B b ys
 appends_same A B a b xs ys same appends_bytes = subst (λ (o : List ℕ). AppendsBytes A a B b o) same appends_bytes
 

@@ -61,7 +61,8 @@ fn bare_line(name: &[u8], header: Header) -> [u8; 27]
     line
 }
 
-// Appends the line of such a message with a text. `address` is session ID and system bytes, as in a line.
+// Appends the line of a message with only a name, session ID, system bytes and a text. `address` is session ID and
+// system bytes, as in a line.
 #[inline(never)]
 fn give_bare_and_text<O: Output>(
     out: &mut O,

@@ -28,6 +28,6 @@ impl From<io::Error> for ConnectError {
 
 /// A receiver of each attempt to connect that fails and is repeated.
 pub trait Attempts {
-    /// Records a failed attempt. The next one follows after T5.
+    /// Records a failed attempt. An active end makes the next one after T5.
     fn failed(&mut self, error: ConnectError);
 }

@@ -30,7 +30,7 @@ impl Counters {
         Ok(got)
     }
 
-    /// Counts a wait that fails, or a failed send, which counts the same.
+    /// Counts a wait that fails. A failed send counts as a failed wait.
     pub fn failed(&mut self) -> LinkFault
         ensures { Waits (recorded_of self.old) (recorded_of self.new) [] (Err result) }
     {

@@ -86,7 +86,7 @@ stops_whole bare max depth number rest shown held (Err (Device word)) left old m
     inr (inr (is, full, proceeds, leaves, holding_out old [] mid held new shown grows out))
 stops_whole bare max depth number rest shown held (Err Memory) left old mid new grows (leaves, out) = (leaves, holding_out old [] mid held new shown grows out)
 
--- The same for a result without a value.
+-- The results without and with a value agree.
 as_done : (bare : Bool) (max depth number : ℕ) (rest shown : List ℕ) (left old new : Option (List ℕ)) → StopsAt {T = Bool} bare max depth number rest shown (Ok false) left old new
     → StopsAt {T = Unit {0}} bare max depth number rest shown (Ok tt) left old new
 as_done bare max depth number rest shown left old new stops = stops

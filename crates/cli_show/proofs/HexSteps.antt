@@ -113,7 +113,7 @@ line_stops bare max depth number input slice line fault left old mid held then n
     let P : List ℕ → Type 0 = λ xs. AppendsShown (ShowsLine bare max depth xs) (IsRefusedLine bare max number xs) (Err fault) mid then new now in
     line_stopped bare max depth number input line fault left old mid held then new now begins leaves holds (subst P same appended_text)
 
--- It is too long.
+-- The line is too long.
 abbrev FarWhy : ℕ → List ℕ → Type 0
 FarWhy number words = words ≡ at_line (codes "NoMessage") number
 

@@ -34,7 +34,7 @@ none_on octets seen n before here =
     let P : List ℕ → Type 0 = λ xs. HasNone 10 xs in
     subst P (sym (take-add seen n octets)) (All-append (λ (x : ℕ). (x == 10) ≡ false) (take seen octets) (take n (drop seen octets)) before here)
 
--- It is at an index.
+-- The first line feed is at an index.
 none_here : (octets : List ℕ) (seen place : ℕ) → IsFirstByte (is_byte 10) (drop seen octets) (Some place) → HasNone 10 (take seen octets)
     → HasNone 10 (take (seen + place) octets)
 none_here octets seen place (first, is) before =
@@ -48,7 +48,7 @@ pub none_up_to : (octets : List ℕ) (seen place : ℕ) → IsFirstByte (is_byte
 none_up_to octets seen place found before =
     let P : List ℕ → Type 0 = λ xs. IsFirstByte (is_byte 10) xs (Some place) in none_here octets seen place (subst P (after_seen octets seen) found) before
 
--- There is none.
+-- There is no line feed.
 pub none_at_all : (octets : List ℕ) (seen : ℕ) → IsFirstByte (is_byte 10) (take (length octets - seen) (drop seen octets)) None
     → HasNone 10 (take seen octets) → HasNone 10 (take (length octets) octets)
 none_at_all octets seen missing before =

@@ -36,8 +36,8 @@ FindsNext max input (Ok (Some found)) ahead left = (rest : List ℕ) × (left �
 FindsNext max input (Ok None) ahead left = (input ≡ []) × (left ≡ Some [])
 FindsNext max input (Err fault) ahead left = IsStopped max input fault left
 
--- Holds if a message was found in the same way, while bytes were buffered before a sink. All are written if no message
--- was found. A write failed only if some are buffered.
+-- Holds if the next message is searched for while bytes are buffered before a sink. All of them are written if no
+-- message was found. A write failed only if some bytes are buffered.
 abbrev pub FindsHolding : ℕ → List ℕ → Result (Option (Header × ℕ)) ToolFault → List ℕ → Option (List ℕ) → Option (List ℕ) → List ℕ
     → Option (List ℕ) → List ℕ → Type 0
 FindsHolding max input (Ok (Some found)) ahead left old held new now =

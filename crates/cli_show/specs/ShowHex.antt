@@ -179,7 +179,7 @@ FindsEnd max input (Err (Refused words)) ahead left = ⊥
 FindsEnd max input (Err (Device word)) ahead left = (word.now ≡ codes "Read") × StopsInLine max input left
 FindsEnd max input (Err Memory) ahead left = LeavesPart input left
 
--- Holds if the next line's end was found in the same way, while bytes were buffered before a sink.
+-- Holds if the next line's end is searched for while bytes are buffered before a sink.
 abbrev pub FindsEndHolding : ℕ → List ℕ → Result LineEnd ToolFault → List ℕ → Option (List ℕ) → Option (List ℕ) → List ℕ
     → Option (List ℕ) → List ℕ → Type 0
 FindsEndHolding max input (Ok end) ahead left old held new now =
