@@ -134,7 +134,7 @@ cut_stop (suc k) upto l h = by_size (message_size l.cells) refl
     by_size None e = refl
     by_size (Some n) e = rw (lt-ltb upto (l.place + n) (h n e)) refl
 
--- the first message, and then the others
+-- The first message, and then the others.
 cut_first : (upto n : ℕ) (l : Left) → message_size l.cells ≡ Some n → l.place + n ≤ upto → cut_to upto l ≡ and_then (take n l.cells) (cut_to upto (subsequent l n))
 cut_first upto n l e le =
     let there = is_size.there l.cells n e in

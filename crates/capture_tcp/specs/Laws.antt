@@ -207,7 +207,7 @@ OnlyFirstIsUp =
     (ps : List Placed) (front : List Entry) (e : Entry) (rest : List Entry) → emits ps ≡ front ++ e ∷ rest
     → (front ≡ [] → e.emitted ≡ up) × (e.emitted ≡ up → front ≡ [])
 
--- The packets of entries.
+-- Holds if P holds for the packet of each entry.
 abbrev pub EachEntry : (ℕ → Type 0) → List Entry → Type 0
 EachEntry P [] = Unit {0}
 EachEntry P (e ∷ es) = P e.packet × EachEntry P es

@@ -43,7 +43,7 @@ impl Pairs {
         self.has_more
     }
 
-    /// Adds a pair, unless it is one of them.
+    /// Adds a pair, unless it is in the set.
     pub fn add(&mut self, pair: Pair) -> Result<(), AllocError>
         ensures { OnOk result (AddsPair pair self.old self.new) }
     {

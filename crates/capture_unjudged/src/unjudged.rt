@@ -30,7 +30,7 @@ pub struct Unjudged {
     pub(crate) strange: u64,
     /// Their device IDs.
     pub(crate) devices: Numbers,
-    /// The lower port of each segment that is one message and is not of the port.
+    /// The lower port of each segment that is one message and does not use the audited port.
     pub(crate) ports: Numbers,
     is_complete: bool,
 }

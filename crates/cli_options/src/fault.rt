@@ -1,4 +1,4 @@
-//! Why the command ends before its work is done.
+//! Errors that end the command before its work is done.
 
 ghost use Rattle.std.specs.Prelude.{◌≡◌, MatchResult, Some, codes};
 ghost use Rattle.cli_options.specs.Status.{IsRefusedAs, exit_status_of, fault_text};

@@ -12,7 +12,7 @@ pub struct FailedAttempts<'a, R: Eprint> {
     address: &'a str,
     port: u16,
     is_verbose: bool,
-    // What was written.
+    // The kinds of failure that were written.
     written: Vec<ConnectError>,
 }
 

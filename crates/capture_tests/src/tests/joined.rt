@@ -68,7 +68,7 @@ const BEFORE: &[(u32, u32, usize, usize)] = &[
     (4, 4294967290, 14, 10),
 ];
 
-// Whether it reaches the number 1000.
+// A segment's first sequence number, its length, and whether it reaches the number 1000.
 const REACHING: &[(u32, usize, bool)] = &[(990, 10, true), (990, 9, false), (1001, 14, false)];
 
 // Whether a number is at or after the other one.
