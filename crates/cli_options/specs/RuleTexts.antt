@@ -1,9 +1,9 @@
--- What is the matter with an entry that breaks a rule.
+-- What is wrong with an entry that breaks a rule.
 use Rattle.std.specs.Prelude.{ℕ, List, codes}
 use Rattle.hsms_machine.specs.declared.rule.Rule.{Rule}
 use Rattle.hsms_machine.specs.declared.rule.Rule.TheVariants.{Backwards, NotUp, Ended, T3Overdue, LinkOverdue, NotDue, TooLong, PType, SType, ControlText, Session, Direction, NotSelected, WBit, Text, SystemInUse, NoTransaction, SelectStatus, NoCause}
 
--- the rule in a few words
+-- The rule in a few words.
 abbrev pub sentence_of : Rule → List ℕ
 sentence_of Backwards = codes "the time is earlier than the previous entry's"
 sentence_of NotUp = codes "the connection is not up, or this `up` is out of place"

@@ -1,4 +1,4 @@
-//! The command as it is described to `clap`: its subcommands, their options, and the ranges of these.
+//! The description of the command for `clap`: its subcommands, their options, and the ranges of these.
 
 ghost use Rattle.std.specs.Prelude.{◌≡◌, IfOk, [], false, map};
 ghost use Rattle.clap.specs.Words.{app_of, rule_of};
@@ -13,8 +13,8 @@ use crate::option_tables::{
 use clap::{Arg, ArgAction, Command, value_parser};
 use std::alloc::{AllocError, Global};
 
-// The help of a command after its options: the option of every command, and a text of its own. `clap` does not know this
-// option, which may be anywhere: the program takes it out of the words.
+// The help of a command after its options: the option of every command, and a text of its own. `clap` does not know
+// this option, which may be anywhere: the program removes it from the words.
 macro_rules! help {
     ($($text:literal)?) => {
         concat!("  -v, --verbose  Explain errors: what happened, and what to do" $(, "\n\n", $text)?)
@@ -103,9 +103,9 @@ pub struct Subcommand {
     pub name: &'static str,
     /// What it does, in the list of subcommands.
     pub about: &'static str,
-    /// How it is called, where that is to be said otherwise than by its options.
+    /// Its usage, if that differs from what its options give.
     pub usage: Option<&'static str>,
-    /// What its help says behind its options.
+    /// The text of its help after its options.
     pub help: &'static str,
     /// Its options.
     pub options: &'static [Described],
@@ -162,7 +162,7 @@ fn subcommands() -> [Subcommand; 6]
     ]
 }
 
-/// The command `hsms`, which wants one of six subcommands.
+/// Returns the command `hsms`, which requires one of six subcommands.
 pub fn command<'a>(alloc: Global) -> Result<Command<'a>, AllocError>
     ensures { IfOk result (λ command. app_of command ≡ command_line) }
 {
@@ -219,7 +219,7 @@ impl Described {
     }
 }
 
-// An option with a number in decimal.
+// Returns an option with a decimal number.
 #[tactic(auto, using(crate::proofs::Ranges::narrowed))]
 fn number_option<'a>(alloc: Global, number: Numbered, value: &'a str, help: &'a str) -> Arg<'a>
     ensures rule { rule_of result ≡ ranged_option number.0.now number.1 number.2 }
@@ -231,7 +231,7 @@ fn number_option<'a>(alloc: Global, number: Numbered, value: &'a str, help: &'a 
     ))
 }
 
-// An option with a text, which stands as `value` in the help.
+// Returns an option with a text, which the help calls `value`.
 fn word_option<'a>(alloc: Global, name: &'a str, value: &'a str, help: &'a str) -> Arg<'a>
     ensures rule { rule_of result ≡ text_option name.entry.now }
     ensures local { result.global ≡ false }

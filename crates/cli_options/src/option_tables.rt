@@ -1,5 +1,5 @@
-//! The options of the subcommands: the numbers that some of them have, and for each subcommand a table with a row for each
-//! option, which says in the words of its help what it is.
+//! The options of the subcommands: the numbers of some options, and a table of options for each subcommand. A row
+//! describes an option by the text of its help.
 
 ghost use Rattle.std.specs.Prelude.{◌≡◌, map};
 ghost use Rattle.cli_options.specs.CaptureOptions.{capture_rules};
@@ -13,21 +13,21 @@ use hsms_machine::{
     LEAST_TIME,
 };
 
-/// An option of a subcommand: its name, which stands behind two dashes, and last what its help says of it.
+/// An option of a subcommand: its name, which follows two dashes, and last its help text.
 #[derive(Clone, Copy)]
 pub enum Described {
     /// A flag.
     Flag(&'static str, &'static str),
-    /// An option with a text, which the help calls by the second word.
+    /// An option with a text value, which the help calls by the second text.
     Word(&'static str, &'static str, &'static str),
-    /// The same, where the option has to be given.
+    /// A required option with a text value.
     Needed(&'static str, &'static str, &'static str),
-    /// An option with a number, which the help calls by the word.
+    /// An option with a number, which the help calls by the text.
     Number(Numbered, &'static str, &'static str),
 }
 
-/// An option with a number in decimal: its name, the least and the greatest number, and which it is where the option is
-/// left out. Where that is none, the option has to be given.
+/// An option with a decimal number: its name, the minimum, the maximum, and the default. Without a default, the option
+/// is required.
 #[derive(Clone, Copy)]
 pub struct Numbered(pub &'static str, pub u32, pub u32, pub Option<u32>);
 
@@ -48,14 +48,14 @@ pub const SYSTEM: Numbered = Numbered("system", 0, u32::MAX, Some(1));
 
 pub const AROUND: Numbered = Numbered("around", 0, 1_000, Some(5));
 
-/// The number that stands for the last line of a log.
+/// The number that represents the last line of a log.
 pub const LAST_LINE: u32 = u32::MAX;
 
 pub const FROM: Numbered = Numbered("from", 1, LAST_LINE, Some(1));
 
 pub const TO: Numbered = Numbered("to", 1, LAST_LINE, Some(LAST_LINE));
 
-// The times of SEMI E37, in milliseconds.
+// The timers of SEMI E37, in milliseconds.
 pub const T3: Numbered = Numbered("t3", LEAST_TIME, GREATEST_TIME, Some(45_000));
 
 const T3_HELP: &str = "T3 reply timeout in ms: 1 to 3600000 [default: 45000]";
@@ -86,7 +86,7 @@ pub const PORT: Numbered = Numbered("port", 1, u16::MAX as u32, None);
 
 pub const CAPTURED_PORT: Numbered = Numbered("port", 1, u16::MAX as u32, Some(5_000));
 
-// A table of options: of each the variant with what it holds, and what the help says of it.
+// A table of options: for each the variant with its content, and its help text.
 macro_rules! options {
     ($($variant:ident($($held:expr),+) => $help:expr),+ $(,)?) => {
         [$(Described::$variant($($held),+, $help)),+]
@@ -100,7 +100,7 @@ static SHOW_OPTIONS: [Described; 4] = options![
     Flag("bare") => "With --hex: lines have no length bytes, as in session logs",
 ];
 
-/// The options of `hsms show`.
+/// Returns the options of `hsms show`.
 pub fn show_options() -> &'static [Described]
     ensures { map rule_described result.now ≡ show_command.rules }
 {
@@ -116,7 +116,7 @@ static EXPLAIN_OPTIONS: [Described; 6] = options![
     Flag("utc") => "Show times as UTC dates, if the log has ms since 1970",
 ];
 
-/// The options of `hsms explain`.
+/// Returns the options of `hsms explain`.
 pub fn explain_options() -> &'static [Described]
     ensures { map rule_described result.now ≡ explain_rules }
 {
@@ -138,7 +138,7 @@ static CAPTURE_OPTIONS: [Described; 12] = options![
     Number(DEPTH, "N") => DEPTH_HELP,
 ];
 
-/// The options of `hsms capture`.
+/// Returns the options of `hsms capture`.
 pub fn capture_options() -> &'static [Described]
     ensures { map rule_described result.now ≡ capture_rules }
 {
@@ -153,7 +153,7 @@ static ENCODE_OPTIONS: [Described; 5] = options![
     Flag("hex") => "Write one message per line, in hexadecimal",
 ];
 
-/// The options of `hsms encode`.
+/// Returns the options of `hsms encode`.
 pub fn encode_options() -> &'static [Described]
     ensures { map rule_described result.now ≡ encode_command.rules }
 {
@@ -186,7 +186,7 @@ static SERVE_OPTIONS: [Described; 23] = options![
     Number(T5, "N") => "With --reconnect: T5 connect separation time in ms: 1 to 3600000 [default: 10000]",
 ];
 
-/// The options of `hsms serve`.
+/// Returns the options of `hsms serve`.
 pub fn serve_options() -> &'static [Described]
     ensures { map rule_described result.now ≡ serve_rules }
 {

@@ -5,7 +5,7 @@ ghost use Rattle.cli_options.specs.RuleTexts.{sentence_of};
 
 use hsms_machine::Rule;
 
-/// What is the matter with an entry that breaks this rule, as the help of `hsms audit` says it.
+/// Returns what is wrong with an entry that breaks this rule, as in the help of `hsms audit`.
 pub fn sentence(rule: Rule) -> &'static str
     ensures { result.now ≡ sentence_of rule }
 {

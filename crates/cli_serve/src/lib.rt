@@ -1,8 +1,8 @@
-//! What `hsms serve` asks for: the script and the desk of the end that is served, its connections as links, and how what
-//! came of it is told.
+//! The parts of `hsms serve`: the script and the message handler of the served end, its connections as links, and the
+//! result of the command.
 //!
-//! [`serve_to`] and [`serve_again_to`] serve any link. [`connected`] makes one of TCP connections, with a clock, and
-//! [`Lines`] puts each line of a log out as a whole.
+//! [`serve_to`] and [`serve_again_to`] serve any link. [`connected`] returns a link over TCP connections, with a clock,
+//! and [`Lines`] writes each line of a log in one piece.
 #![tactic(auto)]
 
 mod attempt;

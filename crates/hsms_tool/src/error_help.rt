@@ -1,4 +1,4 @@
-//! Words for people: what a fault says, and what to do about it.
+//! Explanations for people: what an error means, and what to do about it.
 
 use crate::caret::placed;
 use cli_options::ToolFault;
@@ -6,22 +6,22 @@ use cli_serve::ConnectError;
 use std::alloc::{AllocError, Global};
 use std::io::{BufRead, ErrorKind};
 
-/// What is known of a fault besides its name.
+/// The context of an error, in addition to its name.
 #[derive(Drop)]
 pub enum Known {
-    /// Nothing more.
+    /// No context.
     Nothing,
-    /// What is to be said of it: what is wrong with the command line, or why there is no connection.
+    /// A message: what is wrong with the command line, or why there is no connection.
     Said(String),
-    /// The input begins as a file of packets does, and isn't to be one.
+    /// The input starts like a file of packets, and should not be one.
     Packets,
-    /// The input, which is to be notation.
+    /// The input, which should be notation.
     Notation(Vec<u8>),
-    /// The input is to be a capture of packets.
+    /// The input should be a capture of packets.
     Capture,
 }
 
-/// Why the command ends before its work is done, and what is known of it.
+/// Why the command ends before its work is done, with the context.
 #[derive(Drop)]
 pub struct Failure {
     pub fault: ToolFault,
@@ -29,12 +29,12 @@ pub struct Failure {
 }
 
 impl Failure {
-    /// A fault, and what is known of it.
+    /// Creates a failure from an error and its context.
     pub fn new(fault: ToolFault, known: Known) -> Failure {
         Failure { fault, known }
     }
 
-    /// A fault, and what is to be said of it, unless memory was wanting for that.
+    /// Creates a failure from an error and its message. Without a message if its allocation failed.
     pub fn said(fault: ToolFault, words: Result<String, AllocError>) -> Failure {
         Failure::new(fault, words.map_or(Known::Nothing, Known::Said))
     }
@@ -52,7 +52,7 @@ impl From<AllocError> for Failure {
     }
 }
 
-// The file of a packet capture begins so: pcap in either order of octets, in micro- and nanoseconds, and pcapng.
+// The first bytes of a packet capture file: pcap in either byte order, with micro- and nanoseconds, and pcapng.
 const CAPTURES: [[u8; 4]; 5] = [
     [0xd4, 0xc3, 0xb2, 0xa1],
     [0xa1, 0xb2, 0xc3, 0xd4],
@@ -61,8 +61,9 @@ const CAPTURES: [[u8; 4]; 5] = [
     [0x0a, 0x0d, 0x0d, 0x0a],
 ];
 
-/// The words for a fault: what happened, and what to do. They may be several lines. Of a notation they begin with the
-/// place, where the fault has one: the line and the column; the line itself follows, with a mark below the place.
+/// Returns the explanation of an error: what happened, and what to do. It may have several lines. For a notation it
+/// starts with the position, if the error has one: the line and the column. The line itself follows, with a mark below
+/// the position.
 pub fn words_for(alloc: Global, failure: &Failure) -> Result<String, AllocError> {
     let name = failure.fault.to_string(alloc)?;
     let name = name.as_str();
@@ -81,12 +82,12 @@ pub fn words_for(alloc: Global, failure: &Failure) -> Result<String, AllocError>
     String::from_str(alloc, said)
 }
 
-/// Whether a file of packets begins as this input does, of which nothing was read yet.
+/// Returns true if this input, of which nothing was read yet, starts like a file of packets.
 pub fn begins_as_capture<R: BufRead>(input: &mut R) -> bool {
     input.fill_buf().is_ok_and(|octets| CAPTURES.iter().any(|mark| octets.starts_with(mark)))
 }
 
-/// Why there is no connection.
+/// Returns why there is no connection.
 pub fn link_words(
     alloc: Global,
     address: &str,
@@ -126,7 +127,7 @@ pub fn link_words(
     }
 }
 
-// What a fault of a name says, and what to do. It is the one table of these words.
+// What an error name means, and what to do. It is the only table of these texts.
 const SENTENCES: &str = "\
     command: run hsms --help, or hsms COMMAND --help\n\
     TooShort: a message length is below 10: this is not HSMS data, or bytes are missing before it\n\
@@ -162,7 +163,7 @@ const CAPTURE_SENTENCES: &str = "\
     NoConnection: no connection came up at --port: check the port; if the capture starts inside a session, add --midstream\n\
     NotJudged: the last line of the output names HSMS data that was not audited: add --midstream, its --device or its --port";
 
-// What a table says of the first word of a fault, which may have its place behind that.
+// Returns the text in a table for the first word of an error. Its position may follow that word.
 fn said_of(name: &str, table: &'static str) -> Option<&'static str> {
     let (word, _) = name.split_once(' ').unwrap_or((name, ""));
     table
