@@ -5,7 +5,7 @@ Use: tests/second_reading.py [CASES] [SEED]. CASES is the number of audits of ra
 encodes and talks are made in proportion. Logs and notations at edges and corners, which no chance makes, come besides.
 SEED is 1 if left out; the inputs depend on these two alone. It runs what `rt ci` has built.
 
-In a talk two ends that are written from docs/ENDS.md are told long random lists; both logs have to pass the audit, with
+In a talk two ends that are written from docs/SERVE.md are told long random lists; both logs have to pass the audit, with
 the summary that the second reading counts.
 
 The last two lines tell how many logs of talks don't pass so, and how many answers differ. The smallest input with a

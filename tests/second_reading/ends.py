@@ -1,4 +1,4 @@
-"""An own end of a session, by docs/ENDS.md: what it logs and sends of what it is told.
+"""An own end of a session, by docs/SERVE.md: what it logs and sends of what it is told.
 
 What may be taken is asked of the rules in `session`. An end here never runs out of memory.
 """

@@ -1,4 +1,4 @@
-"""When `hsms serve --linktest` has to test its link, by docs/ENDS.md: an end here is told again what a log says was told.
+"""When `hsms serve --linktest` has to test its link, by docs/SERVE.md: an end here is told again what a log says was told.
 
 Octets came in whole messages, and nothing was sent by a script.
 """
