@@ -257,7 +257,7 @@ class Converter:
         yield from self.comments(rest)
 
     def words_of(self, line, form, parts):
-        """Returns an entry without its time, unless it is a data message."""
+        """Returns the part of an entry after its time. The entry is not a data message."""
         if form == "control":
             return f"{MARKS[parts['mark']]} {control(line, parts, self.system_of(line, parts))}"
         if form == "t3":
