@@ -1,4 +1,4 @@
-# Completion of the command hsms for bash: `. contrib/hsms.bash` in ~/.bashrc. A further command gets a line in `case`.
+# Bash completion for the command hsms: add `. contrib/hsms.bash` to ~/.bashrc. A new command needs a line in `case`.
 
 _hsms() {
   local word=${COMP_WORDS[COMP_CWORD]} before=${COMP_WORDS[COMP_CWORD - 1]} words

@@ -144,38 +144,44 @@ CONVERTED = {
     ),
 }
 
-FEWER = "fewer bytes than its length says (--no-length if there is none)"
+FEWER = "message length does not match its length bytes (if it has none: --no-length)"
 ENCODE = "hsms encode rejects this message: "
 
 # Text logs, each with options, and what standard error says.
 REJECTED = {
-    "nothing": ("", [], "no line is a connection, message or timeout"),
-    "no entry": ("a\n2024-03-01 10:00:00 b\n", [], "no line is a connection, message or timeout"),
+    "nothing": ("", [], "no connection, message or timeout found"),
+    "no entry": ("a\n2024-03-01 10:00:00 b\n", [], "no connection, message or timeout found"),
     "no connection": (DOWN[len(UP):], [], "line 1: an entry before the connection is up: " + DOWN.split("\n")[1]),
     "a NUL": (UP + "a\0b", [], r"line 2: a NUL byte: this is not text: a\x00b"),
     "UTF-32": (DOWN.encode("utf-32"), [], "line 1: a NUL byte"),
-    "UTF-8 with a mark and another byte": (codecs.BOM_UTF8 + UP.encode() + b"\xff", [], "line 2: not utf-8: ff"),
-    "half a character of UTF-16": (codecs.BOM_UTF16_LE + UP.encode("utf-16-le") + b"a", [], "line 2: not utf-16: 61"),
+    "UTF-8 with a mark and another byte": (codecs.BOM_UTF8 + UP.encode() + b"\xff", [], "line 2: invalid utf-8: ff"),
+    "half a character of UTF-16": (
+        codecs.BOM_UTF16_LE + UP.encode("utf-16-le") + b"a", [], "line 2: invalid utf-16: 61",
+    ),
     "a date of another form": (
         UP + "2024/03/01 10:00:01 OPENED\n", [],
-        "line 2: not one of the known forms of date and time: 2024/03/01 10:00:01 OPENED\n",
+        "line 2: expected a date and time like 2024-03-01 10:00:00.000: 2024/03/01 10:00:01 OPENED\n",
     ),
-    "a date of another form first": ("[2024-03-01 10:00:01] OPENED\n" + UP, [], "line 1: not one of the known forms"),
+    "a date of another form first": (
+        "[2024-03-01 10:00:01] OPENED\n" + UP, [], "line 1: expected a date and time like 2024",
+    ),
     "no such date": ("2023-02-29 10:00:01 CONNECT\n", [], "line 1: invalid date or time: 2023-02-29 10:00:01 CONNECT"),
     "no such time": (UP + "2024-03-01 24:00:01 x\n", [], "line 2: invalid date or time: 2024-03-01 24:00:01 x"),
-    "a date is missing": (UP + "10:00:01 x\n", [], "line 2: another form of date and time than before: 10:00:01 x"),
-    "a zone is missing": (UP + "2024-03-01T10:00:01Z x\n", [], "line 2: another form of date and time than before"),
-    "a time before the first": (UP + "2024-03-01 09:00:00 CONNECT\n", [], "line 2: a time before that of the first"),
-    "another word": (NEXT + "CONNECTED again\n", [], "line 2: not one of the known forms"),
+    "a date is missing": (UP + "10:00:01 x\n", [], "line 2: another date and time format than before: 10:00:01 x"),
+    "a zone is missing": (UP + "2024-03-01T10:00:01Z x\n", [], "line 2: another date and time format than before"),
+    "a time before the first": (
+        UP + "2024-03-01 09:00:00 CONNECT\n", [], "line 2: the time is earlier than the first entry's: 2024",
+    ),
+    "another word": (NEXT + "CONNECTED again\n", [], "line 2: unknown line format"),
     "a message without a time": (UP + "a\n--> S1F1 W\n", [], "line 3: no date and time: --> S1F1 W"),
     "bytes of another word": (
-        NEXT + "TX 00 00 00 0A FF FF 00 00 00 05 00 00 00 02\n", [], "line 2: not one of the known forms: 2024",
+        NEXT + "TX 00 00 00 0A FF FF 00 00 00 05 00 00 00 02\n", [], "line 2: unknown line format: 2024",
     ),
-    "bytes in one word": (NEXT + "TX 0000000AFFFF00000005 00000002\n", [], "line 2: not one of the known forms"),
+    "bytes in one word": (NEXT + "TX 0000000AFFFF00000005 00000002\n", [], "line 2: unknown line format"),
     "bytes of another time": (NEXT + "a\n00 00 00 0A FF FF 00 00 00 05 00 00\n", [], "line 3: no date and time"),
-    "half a byte": (NEXT + "SEND 000\n", [], "line 2: not one of the known forms"),
-    "no bytes": (NEXT + "SEND\n\n", [], "line 2: not bytes in hexadecimal: 2024-03-01 10:00:01 SEND"),
-    "no bytes further on": (NEXT + "SEND 00\n  0x00\n", [], "line 3: not bytes in hexadecimal: 0x00\n"),
+    "half a byte": (NEXT + "SEND 000\n", [], "line 2: unknown line format"),
+    "no bytes": (NEXT + "SEND\n\n", [], "line 2: expected hexadecimal bytes: 2024-03-01 10:00:01 SEND"),
+    "no bytes further on": (NEXT + "SEND 00\n  0x00\n", [], "line 3: expected hexadecimal bytes: 0x00\n"),
     "fewer bytes": (
         NEXT + "SEND 00 00 00 0B FF FF 00 00 00 05 00 00 00 02\n", [],
         f"line 2: {FEWER}: 00 00 00 0B FF FF 00 00 00 05 00 00 00 02\n",
@@ -190,47 +196,47 @@ REJECTED = {
     ),
     "a length with --no-length": (
         NEXT + "SEND 00 00 00 0A FF FF 00 00 00 05 00 00 00 02\n", ["--no-length"],
-        "line 2: this begins with its length: leave out --no-length: 00 00 00 0A",
+        "line 2: this message has length bytes: remove --no-length: 00 00 00 0A",
     ),
     "a short message": (
         NEXT + "RECV 00 00 00 01 FF\n", [],
-        "line 2: a message of 1 bytes, not 10 to 1048576 (--max): 00 00 00 01 FF\n",
+        "line 2: message length 1 is out of range 10 to 1048576 (--max): 00 00 00 01 FF\n",
     ),
     "a long message": (
         NEXT + f"RECV 00000101 {257 * '00'}\n", ["--max", "256"],
-        "line 2: a message of 257 bytes, not 10 to 256 (--max): 00 00 01 01 " + "00 " * 28 + "..\n",
+        "line 2: message length 257 is out of range 10 to 256 (--max): 00 00 01 01 " + "00 " * 28 + "..\n",
     ),
     "a line of a dump is missing": (
-        NEXT + "RECV\n  0010: FF\n", ["--no-length"], "line 3: an offset of 0010 after 0 bytes: 0010: FF",
+        NEXT + "RECV\n  0010: FF\n", ["--no-length"], "line 3: unexpected offset 0010 after 0 bytes: 0010: FF",
     ),
     "short system bytes": (
         NEXT + "--> Linktest.req SystemBytes=17\n", [],
-        "line 2: system bytes are not eight hexadecimal digits (see --decimal): 2024-03-01 10:00:01 --> L",
+        "line 2: expected system bytes of eight hexadecimal digits (or use --decimal): 2024-03-01 10:00:01 --> L",
     ),
     "hexadecimal for decimal": (NEXT + "T3 TIMEOUT 0000000A\n", ["--decimal"], "line 2: invalid decimal system bytes"),
     "past 32 bits": (NEXT + "T3 TIMEOUT 4294967296\n", ["--decimal"], "line 2: invalid decimal system bytes"),
-    "T3 of another form": (NEXT + "Reply timeout T3\n", [], "line 2: not one of the known forms"),
-    "T6 of another form": (NEXT + "T6 expired\n", [], "line 2: not one of the known forms"),
+    "T3 of another form": (NEXT + "Reply timeout T3\n", [], "line 2: unknown line format"),
+    "T6 of another form": (NEXT + "T6 expired\n", [], "line 2: unknown line format"),
     "an unknown control message": (
         NEXT + "--> Reject.req SystemBytes=00000001\n", [],
-        "line 2: a control message that cannot be made from its name",
+        "line 2: unknown control message: Reject.req\n",
     ),
-    "no status": (NEXT + "--> Select.rsp SystemBytes=00000001\n", [], "line 2: a Select.rsp without its status"),
-    "a large status": (NEXT + "<-- Select.rsp SystemBytes=00000001 Status=256\n", [], "line 2: a status above 255"),
-    "a message without system bytes": (NEXT + "--> S1F1 W\n", [], "line 2: not one of the known forms"),
+    "no status": (NEXT + "--> Select.rsp SystemBytes=00000001\n", [], "line 2: Select.rsp without a status"),
+    "a large status": (NEXT + "<-- Select.rsp SystemBytes=00000001 Status=256\n", [], "line 2: status above 255"),
+    "a message without system bytes": (NEXT + "--> S1F1 W\n", [], "line 2: unknown line format"),
     "items after another message": (UP + "<L\n>.\n", [], "line 2: no date and time: <L"),
     "the end of items": (UP + ">.\n", [], "line 2: no date and time: >."),
 }
 SML = NEXT + "--> S1F1 W SystemBytes=00000002\n"
 REJECTED.update({f"SML: {text!r}": (SML + text, [], wanted) for text, wanted in {
-    "a": "line 3: not SML: a",
-    "\n<X 1>.": "line 4: not an item type: X",
-    "<A '>": "line 3: not SML: '>",
+    "a": "line 3: invalid SML: a",
+    "\n<X 1>.": "line 4: unknown item type: X",
+    "<A '>": "line 3: invalid SML: '>",
     "<L\n<A 'ä'>>.": "line 4: not printable ASCII: 'ä'",
-    "<F4 warm>": "line 3: not a value of F4: warm",
-    "<F4 1e99>": "line 3: not a value of F4: 1e99",
-    "<BOOLEAN 2>": "line 3: not a value of BOOLEAN: 2",
-    "<L>.\n. S9F9 <L>.": "line 3: not SML: .",
+    "<F4 warm>": "line 3: invalid F4 value: warm",
+    "<F4 1e99>": "line 3: invalid F4 value: 1e99",
+    "<BOOLEAN 2>": "line 3: invalid BOOLEAN value: 2",
+    "<L>.\n. S9F9 <L>.": "line 3: invalid SML: .",
     "<L [2]\n<L>\n<U1 256>>.": f"line 2: {ENCODE}",
     "<L": f"line 2: {ENCODE}",
 }.items()})
@@ -241,7 +247,7 @@ REJECTED["SML: a message too long"] = (
     SML + SML[len(UP):] + "<B " + "1 " * 300 + ">\n" + SML[len(UP):], ["--max", "256"], f"line 3: {ENCODE}",
 )
 REJECTED["SML: no such program"] = (
-    SML, ["--hsms", "/nowhere"], "/nowhere, which --hsms names, cannot be run: No such file or directory\n",
+    SML, ["--hsms", "/nowhere"], "cannot run /nowhere (--hsms): No such file or directory\n",
 )
 
 
@@ -350,7 +356,7 @@ def effects():
                 idle = [lines[n] for n in full if log_of(lines[:n] + lines[n + 1:]) == log]
                 yield f"{name}: lines without effect in\n{text}\n{idle}", not idle
             else:
-                yield f"{name}: {log}", bool(re.match(r"line \d+: ", log)) or log.startswith("no line is")
+                yield f"{name}: {log}", bool(re.match(r"line \d+: ", log)) or log.startswith("no connection, message")
     yield f"{converted} changed logs were converted", converted > CHANGES // 2
 
 

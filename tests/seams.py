@@ -883,7 +883,7 @@ def runs(script, is_built, **how):
     if is_built:
         built_in_order(calls)
         lines = answer.error.decode().splitlines()
-        same(lines[0], "hsms: proving and building the command first")
+        same(lines[0], "hsms: proving and building the program; this takes several minutes")
         same(re.sub(r"\d+", "N", lines[1]).replace("up to N", "one").split(" at ")[0], "hsms: proving N crates, one")
         same([line[: len("hsms: N of 5 crates proved")] for line in lines[2:]], [f"hsms: {n} of 5 crates proved" for n in range(1, 6)])
         same(lines[-1], "hsms: 5 of 5 crates proved: hsms_tool")
@@ -938,7 +938,7 @@ def the_script_runs_nothing_that_was_not_built():
             same((answer.status, answer.output, f"end {name}" in calls), (3, b"", False))
             same(("end high" in calls, any(call.startswith("begin hsms_tool") for call in calls)), (name != "high",) * 2)
             log = f"{script.room}/crates/{name}/build.log"
-            same(answer.error.decode().splitlines()[-1], f"hsms: it wasn't built: {name} isn't proved; {log} says why")
+            same(answer.error.decode().splitlines()[-1], f"hsms: build failed: {name} is not proved, see {log}")
             runs(script, True)
             script.change(SOURCES[2])
 
@@ -951,7 +951,7 @@ def the_script_says_that_the_kit_is_missing():
             os.symlink(shutil.which(tool), f"{room}/bin/{tool}")
         answer, _ = script.run("show", PATH=f"{room}/bin")
         same((answer.status, answer.output), (3, b""))
-        same(answer.error.decode().splitlines()[-1].startswith("hsms: there is no rt on the path"), True)
+        same(answer.error.decode().splitlines()[-1].startswith("hsms: rt not found: "), True)
 
 
 TESTS = [
