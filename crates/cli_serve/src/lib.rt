@@ -21,3 +21,6 @@ pub use line_writer::Lines;
 pub use script::{Script, read_script};
 pub use serving::{again_result, serve_again_to, serve_result, serve_to, tool_fault_of};
 pub use tcp_link::{SocketLink, connected, unconnected};
+
+#[cfg(test)]
+mod tests;
