@@ -159,7 +159,7 @@ at_end written text before words =
     ap (λ l. written ++ l) (sym (append_assoc text before words)) ∙ sym (append_assoc written (text ++ before) words)
     ∙ sym (append-nil (written ++ (text ++ before) ++ words))
 
--- After lines without a counted failure.
+-- The output is kept after lines without a counted failure, if a failure is annotated.
 emits_new : (old new : Report) (notes : List Note) (shown_line : ExplainedLine) (why : Why) (between : Bool) → is_between old.window.excerpt shown_line.number ≡ between
     → first_why notes ≡ Some why → new.tally.first ≡ failed_at shown_line.number (Some why) → old.tally.first ≡ None
     → (NoneBefore old.tally old.groups → WritesFirst old.window.excerpt old.tally notes shown_line old.page new.page)
@@ -198,7 +198,7 @@ emits_new old new notes shown_line why false between why_is first none emits som
       },
     )
 
--- If no failure is annotated either.
+-- The output is kept if no failure is annotated either.
 emits_none : (old new : Report) → new.tally.first ≡ None → (old.window.excerpt.form ≡ Text → AddsSome old.page new.page)
     → (NoneBefore old.tally old.groups → NoneBefore new.tally new.groups) → new.window.excerpt ≡ old.window.excerpt → KeepsShown old new
 emits_none old new first some groups asked = λ excerpt written is shows.

@@ -68,7 +68,7 @@ note_counted notes k d line now next all why lt why_is so_far next_is =
     ap (λ n. either n (failed_at line rest)) next_is ∙ sym (either_assoc now (failed_at line why) (failed_at line rest))
     ∙ ap (either now) (sym (failed_either line why rest)) ∙ ap (λ w. either now (failed_at line w)) (sym here) ∙ so_far
 
--- If a value is returned, and otherwise too.
+-- A fact that holds in any case holds if a value is returned.
 pub on_ok : {T E : Type 0} (X : Type 0) (r : Result T E) → X → OnOk r X
 on_ok X (Ok _) fact = fact
 on_ok X (Err _) fact = tt
@@ -81,7 +81,7 @@ pub on_ok_three : {T E : Type 0} (A B C D : Type 0) (r : Result T E) → (A → 
 on_ok_three A B C D (Ok _) more a b c = more a b c
 on_ok_three A B C D (Err _) more a b c = tt
 
--- What grows if a value is returned.
+-- Bytes that grow if a value is returned.
 pub on_ok_grown : {T E : Type 0} (r : Result T E) (new more old : List ℕ) → new ≡ (if is_ok r then more else old) → OnOk r (new ≡ more)
 on_ok_grown (Ok _) new more old is = is
 on_ok_grown (Err _) new more old is = tt
@@ -199,7 +199,7 @@ mid_has old new mid entries counts line what log placed facts has =
     let P : CurrentState → Type 0 = λ c. HasProgress old.settings log placed c in
     subst P (sym facts.mid_is) (at_next old.settings log placed old.repaired_session has)
 
--- Nothing fails.
+-- If nothing fails, the log is still checked after the line.
 can_continue : (old new : Known) (mid : CurrentState) (entries counts : Summary) (before : List (List ℕ)) (line : List ℕ) (what : Carried)
     → LineFacts old new mid entries counts line what → LineFailsBy mid what new.repaired_session None → Tracks old entries before
     → Tracks new counts (before ++ line ∷ [])
@@ -235,7 +235,7 @@ can_continue old new mid entries counts before line carried.Nothing facts (none,
     )
 can_continue old new mid entries counts before line (carried.Unreadable reasoned) facts some tracks = absurd cc
 
--- The line fails.
+-- If the line fails, it fails after the lines before it.
 fails_so : (old new : Known) (mid : CurrentState) (entries counts : Summary) (before : List (List ℕ)) (line : List ℕ) (what : Carried) (why : Why)
     → LineFacts old new mid entries counts line what → LineFailsBy mid what new.repaired_session (Some why) → Tracks old entries before
     → FailsAfter before line why

@@ -52,7 +52,7 @@ pub concludes_after : (form : OutputFormat) (text : List ℕ) (passes : Bool) (o
     → Concludes form text passes mid new → Concludes form text passes old new
 concludes_after form text passes old mid new before shown_line = (shown_line.0, shown_line.1, shown_line.2, ends_following form old mid new shown_line.0 before shown_line.3)
 
--- If an error is returned, and otherwise too.
+-- A fact that holds in any case holds if an error is returned.
 pub on_err : {T E : Type 0} (X : Type 0) (r : Result T E) → X → OnErr r X
 on_err X (Ok _) fact = tt
 on_err X (Err _) fact = fact
@@ -67,7 +67,7 @@ HasRead old most explainer new =
 pub none_read : (old : Option (List ℕ)) (explainer : Explainer) → HasProcessed explainer [] → HasRead old 0 explainer old
 none_read old explainer reception input shown_line = ([], input, refl, shown_line, omega arith, reception)
 
--- One more read.
+-- The processed text grows with one more read.
 pub read_on : (old mid new : Option (List ℕ)) (n most next_most : ℕ) (buffer : List ℕ) (explainer next : Explainer) → HasRead old most explainer mid
     → Takes mid new n buffer → most + length (take n buffer) ≤ next_most
     → ((text : List ℕ) → HasProcessed explainer text → HasProcessed next (text ++ take n buffer)) → HasRead old next_most next new

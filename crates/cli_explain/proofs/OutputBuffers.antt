@@ -32,7 +32,7 @@ some_then old mid new (one, first) (other, second) = (one ++ other, adds_then ol
 pub adds_is : (old new : Page) (one other : List ℕ) → one ≡ other → Adds old new one → Adds old new other
 adds_is old new one other is adds = let P : List ℕ → Type 0 = λ w. Adds old new w in subst P is adds
 
--- ---- a buffer in error
+-- ---- a buffer after a failed allocation
 
 pub adds_refused : (old new : Page) (words : List ℕ) → new.shown_line.is_refused ≡ true → new.block ≡ [] → Adds old new words
 adds_refused old new words refused none = record {
@@ -41,7 +41,7 @@ adds_refused old new words refused none = record {
       (all, λ kept. let other : true ≡ false = sym refused ∙ kept in absurd cc, sym (append-nil all) ∙ ap (λ b. all ++ b) (sym none));
 }
 
--- A buffer in error accepts any words.
+-- After a failed allocation the buffer accepts any words.
 pub said_refused : (output : Option (List ℕ)) (old new : Page) → ((words : List ℕ) → Adds old new words)
     → (said : List ℕ) × IfSome output (λ words. said ≡ words) × Adds old new said
 said_refused None old new refused = ([], tt, refused [])

@@ -170,13 +170,13 @@ stepped_more old mid new entries before after last count entry left more next so
       line = line ∙ so_far.line;
     }
 
--- No entry is left.
+-- The checks are done: no entry is left.
 pub stepped_none : (most : ℕ) (old new : CurrentState) (entries left : List Entry) (before after : List Note) (count : ℕ) → count ≤ most → left ≡ []
     → Stepped old entries before count new left after → LeadsOn most old entries before new after
 stepped_none most old new entries left before after count few none all =
     let size = all.size in (all.check_result, all.leads, all.noted, (omega (arith, size, few), inl (all.left_is ∙ none)))
 
--- The maximum number of checks was made.
+-- The checks are done: the maximum number was made.
 pub stepped_most : (most : ℕ) (old new : CurrentState) (entries left : List Entry) (before after : List Note) (count : ℕ) → count ≡ most
     → Stepped old entries before count new left after → LeadsOn most old entries before new after
 stepped_most most old new entries left before after count last all =

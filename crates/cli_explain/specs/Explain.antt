@@ -25,7 +25,7 @@ abbrev pub Concludes : OutputFormat → List ℕ → Bool → Option (List ℕ) 
 Concludes form text passes old new =
     (verdict : Verdict) × HasAuditVerdict text verdict × (passes ≡ is_pass verdict) × EndsWithVerdict form old new verdict
 
--- The results for an input in an output format, each with the rest of the input, whether its end was found, and the
+-- The results for an input in an output format. Each has the rest of the input, whether its end was found, and the
 -- output before and after. Either the log was read to its end and its verdict was written last, or part of the output
 -- was written.
 abbrev pub ExplainsTo : OutputFormat → List ℕ → Result Bool ToolFault → Option (List ℕ) → Type 0 → Option (List ℕ) → Option (List ℕ) → Type 0

@@ -21,8 +21,8 @@ use Rattle.cli_explain.specs.TextOutput.{LineWritten}
 
 -- ---- in words
 
--- Holds if the words are a line with this number, followed by its annotations, and the first failure written in full
--- among them has this rule.
+-- Holds if the words are a line with this number, followed by its annotations. The first failure written in full among
+-- the annotations has this rule.
 abbrev pub FailureWritten : ℕ → Why → List ℕ → Type 0
 FailureWritten number why words =
     (shown_line : ExplainedLine) × (notes : List Note) × (failing : Failing) × (shown_line.number ≡ number) × (first_whole notes ≡ Some failing) × (failing.why ≡ why)

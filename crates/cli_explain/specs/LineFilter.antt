@@ -22,7 +22,7 @@ abbrev pub left_out : ℕ → ℕ → List ℕ
 left_out last number = if nat_lt (last + 1) number then gap_text else []
 
 -- True if the line with these annotations is written at once. If all lines are written, each is. If only failures are
--- written, a line is if it has a failure written in full, or if further lines are to be written after such a failure.
+-- written, a line is if it has a failure written in full. So are the further lines to be written after such a failure.
 abbrev pub is_written_at_once : Lines → ℕ → List Note → Bool
 is_written_at_once All subsequent notes = true
 is_written_at_once Failures subsequent notes = list_any is_whole notes || nat_lt 0 subsequent

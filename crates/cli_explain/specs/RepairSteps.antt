@@ -21,8 +21,7 @@ use Rattle.cli_explain.specs.Phrases.{SaysRule}
 
 -- ---- one check
 
--- Holds if the entry is valid after the log, or if this is the first rule that it breaks and the repair is the
--- specified one.
+-- Holds if the entry is valid after the log, or if this is the first rule that it breaks, with the specified repair.
 abbrev pub IsChecked : Parameters → List Entry → Entry → Checked → Type 0
 IsChecked settings log entry (Lawful closed) = IsFirstBroken settings log entry None
 IsChecked settings log entry (Broken failure) =
@@ -105,7 +104,7 @@ abbrev pub NotesSay : List Checked → List Note → Type 0
 NotesSay [] notes = notes ≡ []
 NotesSay (check_result ∷ more) notes = (first rest : List Note) × NoteSays check_result first × NotesSay more rest × (notes ≡ first ++ rest)
 
--- Holds if the check results are annotated, and nothing else.
+-- Holds if the check results, and only these, are annotated.
 abbrev pub Notes : List Note → List Checked → List Note → Type 0
 Notes before shown_line after = (notes : List Note) × NotesSay shown_line notes × (after ≡ before ++ notes)
 

@@ -50,7 +50,7 @@ ConcernsIn log placed event T3Overdue line = IsOldestPrimary log placed line
 ConcernsIn log placed event SystemInUse line = IsNamesake log placed event line
 ConcernsIn log placed event rule line = ⊥
 
--- Holds if a failure that involves an open transaction has the line of its opening.
+-- Holds if this is the line at which the transaction that the failure involves was opened.
 abbrev pub Concerns : CurrentState → Event → Rule → ℕ → Type 0
 Concerns repaired_session event rule line = ForEachProgress repaired_session (λ settings log placed. ConcernsIn log placed event rule line)
 

@@ -43,7 +43,7 @@ impl Note {
     }
 }
 
-/// A failure of a line: its failure kind (`sort`), its rule and the rule text, the line of the open transaction
+/// A failure of a line. It has its failure kind (`sort`), its rule and the rule text, the line of the open transaction
 /// involved, a hint, and the repair with which the log continues. An unreadable line is skipped.
 #[derive(Clone, Copy)]
 pub struct Failing {

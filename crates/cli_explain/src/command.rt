@@ -31,8 +31,8 @@ const BLOCK: usize = 4096;
 /// written.
 ///
 /// The log is read once, to its end, in blocks. The output for a block is written before the next read, which may wait,
-/// so a line is written once it has arrived. Of the log, memory holds at most a block, an incomplete line, the bytes of
-/// a frame and the lines that the filter needs before a failure. Of the output, it holds at most that of a block and of
+/// so a line is written once it has arrived. Memory holds at most a block of the log, an incomplete line, the bytes of
+/// a frame and the lines that the filter needs before failures. Of the output, it holds at most that of a block and of
 /// the line that ends in it.
 ///
 /// # Errors

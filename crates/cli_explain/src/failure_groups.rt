@@ -92,7 +92,7 @@ impl Group {
 }
 
 impl Groups {
-    /// Creates groups without failures.
+    /// Creates an empty set of groups.
     pub fn new(alloc: Global) -> Groups
         ensures { HasGroups [] result.items }
     {

@@ -1,7 +1,7 @@
 //! The output as an HTML page: a ladder diagram of the messages between the two endpoints, with a summary on top.
 //!
 //! The page is written as the lines arrive. The part on top that is known only at the end, such as the failures and the
-//! verdict, is written last, and the style moves it to the top.
+//! verdict, is written last. The style moves it to the top.
 
 use crate::annotation::{Failing, Note, UNREADABLE};
 use crate::explained_line::{Carried, ExplainedLine};

@@ -22,8 +22,8 @@ pub fn fates_add_up()
     ensures { FatesAddUp }
 {}
 
-/// If the checks of an entry leave no pending entry, the entries that they append to the log repair the entry, by the
-/// definition of a repaired log. The laws of `hsms_machine` describe that log.
+/// If the checks of an entry leave no entry pending, what they append to the log repairs it, by the definition of
+/// repaired logs. The laws of `hsms_machine` describe the repaired log.
 pub fn checked_entry_is_repaired()
     ensures { StepsRepair }
 {}

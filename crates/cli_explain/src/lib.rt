@@ -1,8 +1,8 @@
 //! `hsms explain`: the cause of a verdict on a session log.
 //!
 //! [`explain_to`] reads a log once and writes each line with its number. A frame is written as `hsms show` shows it.
-//! Below a line, it writes the earlier line that the entry closes, each rule that the entry breaks, and the repair with
-//! which the log continues. The last line is the verdict of the audit:
+//! Below a line come the earlier line that the entry closes, each rule that it breaks, and the repair with which the
+//! log continues. The last line is the verdict of the audit:
 //!
 //! ```
 //! let passes = explain_to(alloc, excerpt, &mut source, &mut sink)?;

@@ -41,8 +41,8 @@ impl Output for Memory {
     }
 }
 
-/// Output that is not yet written: in memory, followed by a block. After a failed allocation the buffer is in error: it
-/// accepts more output without an error, but returns none.
+/// Output that is not yet written: in memory, followed by a block. After a failed allocation it accepts more output
+/// without an error, but returns none.
 #[derive(Drop)]
 pub struct Page {
     alloc: Global,
@@ -140,7 +140,7 @@ impl Page {
         self.made(text)
     }
 
-    // Returns the text. If its allocation failed, returns an empty text and sets the buffer in error.
+    // Returns the text. If its allocation failed, records that and returns an empty text.
     fn made(&mut self, text: Result<String, AllocError>) -> String
         ensures { AddsSome self.old self.new }
     {
@@ -153,7 +153,7 @@ impl Page {
         }
     }
 
-    /// Sets the buffer in error: an allocation for the output failed.
+    /// Records that an allocation for the output failed. The buffer then returns no more output.
     pub fn refuse(&mut self)
         ensures { (words : List ℕ) → Adds self.old self.new words }
     {

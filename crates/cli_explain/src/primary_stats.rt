@@ -50,8 +50,8 @@ pub struct Outcome {
     pub times: Option<Times>,
 }
 
-/// The times of replies in ms: the minimum, the median, the time that 99 of 100 do not exceed, and the maximum, with
-/// the line of the last reply that took that long.
+/// The times of replies in ms: the minimum, the median, the time that 99 of 100 do not exceed, and the maximum. `line`
+/// is that of the last reply that took the maximum time.
 #[derive(Clone, Copy)]
 pub struct Times {
     pub least: u64,

@@ -22,8 +22,8 @@ enum Work {
     Audit,
 }
 
-// An input and its output, the maximum number of bytes that a read and a write move, and the numbers of reads and
-// writes that a run then makes.
+// An input and its output, and the maximum number of bytes of a read and of a write. `reads` and `writes` are the
+// numbers of calls that a run then makes.
 #[derive(Clone, Copy)]
 struct Row {
     work: Work,
