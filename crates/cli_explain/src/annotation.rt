@@ -43,8 +43,8 @@ impl Note {
     }
 }
 
-/// A failure of a line. It has its failure kind (`sort`), its rule and the rule text, the line of the open transaction
-/// involved, a hint, and the repair with which the log continues. An unreadable line is skipped.
+/// A failure of a line. It has its failure kind (`sort`), rule and rule text, the line of the open transaction
+/// involved, a hint, and the repair. An unreadable line is skipped.
 #[derive(Clone, Copy)]
 pub struct Failing {
     pub sort: u64,

@@ -22,17 +22,17 @@ use std::alloc::Global;
 // The maximum number of bytes of one read.
 const BLOCK: usize = 4096;
 
-/// Writes each line of a log with its number and its time, a frame as `hsms show` shows it, and checks the log. Below a
-/// line, it writes the line that the entry answers, rejects or reports as expired. It also writes each rule that the
-/// entry breaks, with the line involved and the repair with which the log continues. Of similar failures, the first
-/// three are written in full, and the others refer to the line of the first. After the lines come the number of these
-/// failures, how often each rule was broken, and the outcomes of the primaries that request a reply. The last line is
-/// the verdict line of `hsms audit`. Returns whether the log passes. Lines that the filter excludes are checked but not
-/// written.
+/// Checks a log, and writes each of its lines with its number and its time. A frame is written as `hsms show` shows it.
+/// Below a line, it writes the line that the entry answers, rejects or reports as expired. It also writes each rule
+/// that the entry breaks, with the line involved and the repair with which the log continues. Of similar failures, the
+/// first three are written in full, and the others refer to the line of the first. After the lines come the number of
+/// these failures, how often each rule was broken, and the outcomes of the primaries that request a reply. The last
+/// line is the verdict line of `hsms audit`. Returns whether the log passes. Lines that the filter excludes are checked
+/// but not written.
 ///
 /// The log is read once, to its end, in blocks. The output for a block is written before the next read, which may wait,
-/// so a line is written once it has arrived. Memory holds at most a block of the log, an incomplete line, the bytes of
-/// a frame and the lines that the filter needs before failures. Of the output, it holds at most that of a block and of
+/// so a line is written once it has arrived. Memory holds at most a block of the log, an incomplete line, a frame's
+/// bytes and the lines that the filter needs before failures. Of the output, it holds at most that of a block and of
 /// the line that ends in it.
 ///
 /// # Errors

@@ -3,8 +3,8 @@
 use jiff::Timestamp;
 use std::fmt;
 
-/// A time in ms. It is written as it is, or, if `utc` is set, as a date. The date is the time in ms after the start of
-/// 1970, in UTC and to the millisecond, up to the end of the year 9999.
+/// A time in ms. It is written as it is, or, if `utc` is set, as a date. The date is in UTC, counted from the start of
+/// 1970, to the millisecond, up to the end of the year 9999.
 #[derive(Clone, Copy)]
 pub struct Moment {
     pub time: u64,

@@ -10,7 +10,7 @@ const NOTATION: &str = "S6F11 W <L <A \"AB\"> <U1 1 255>> .";
 
 const FRAME: &str = "000000140000860b000000000001010241024142a50201ff\n";
 
-// Returns a text as lines of hexadecimal, with `max` 256 and depth 32.
+// Encodes a text as lines of hexadecimal, with `max` 256 and depth 32.
 fn encoded(
     alloc: Global,
     text: &str,
