@@ -1,4 +1,4 @@
-//! The words that stand below a line.
+//! Phrases below a line.
 
 ghost use Rattle.std.specs.Prelude.{◌≡◌, Some};
 ghost use Rattle.cli_explain.specs.Phrases.{group_text, closing_text, closing_word, concern_text, rest_text, tie_word, why_name};
@@ -9,7 +9,7 @@ use hsms_log::{What, Why, cause_word};
 use hsms_machine::{Cause, RepairAction};
 use std::fmt;
 
-/// What an entry is to the transaction that it closes.
+/// The relation of an entry to the transaction that it closes.
 #[derive(Clone, Copy)]
 pub enum Tie {
     Answers,
@@ -18,7 +18,8 @@ pub enum Tie {
 }
 
 impl Tie {
-    /// What an entry is to the one that it closes: a reject, an answer, or, as a `t3`, an expiry.
+    /// Returns the relation of an entry to the transaction that it closes: a reject, an answer, or, for a `t3`, an
+    /// expiry.
     pub fn of(what: What) -> Tie {
         match what {
             What::Frame(_, header) => {
@@ -33,7 +34,7 @@ impl Tie {
     }
 }
 
-/// The word that tells what an entry is to the one that it closes.
+/// Returns the word for the relation.
 pub fn word_of(tie: Tie) -> &'static str
     ensures { result.now ≡ tie_word tie }
 {
@@ -44,7 +45,7 @@ pub fn word_of(tie: Tie) -> &'static str
     }
 }
 
-// The start of the phrase for an entry that closes a transaction.
+// Returns the start of the phrase for an entry that closes a transaction.
 fn closing_phrase(tie: Tie) -> &'static str
     ensures { result.now ≡ closing_word tie }
 {
@@ -73,7 +74,7 @@ impl fmt::Display for Closing {
     }
 }
 
-/// That a failure concerns a line.
+/// The line of an open transaction that a failure involves.
 #[derive(Clone, Copy)]
 pub struct Concern {
     pub line: u64,
@@ -88,7 +89,7 @@ impl fmt::Display for Concern {
     }
 }
 
-/// That a line fails as another one before it does, so many times.
+/// One or more failures like that of an earlier line. `times` is their number.
 #[derive(Clone, Copy)]
 pub struct FailureGroup {
     pub why: Why,
@@ -111,7 +112,7 @@ impl fmt::Display for FailureGroup {
     }
 }
 
-/// That so many more lines fail as a line does, up to the last one.
+/// The number of further failures like that of `line`, up to the line `last`.
 #[derive(Clone, Copy)]
 pub struct Rest {
     pub why: Why,
@@ -135,26 +136,26 @@ impl fmt::Display for Rest {
     }
 }
 
-/// Lines that are left out: the first of them, and the last.
+/// Skipped lines: the first and the last.
 #[derive(Clone, Copy)]
 pub struct Gap {
     pub from: u64,
     pub to: u64,
 }
 
-/// Why nothing of a log was judged.
+/// Why nothing of a log was checked.
 #[derive(Clone, Copy)]
 pub enum Unjudged {
-    /// It has no line.
+    /// The log has no lines.
     Empty,
-    /// Its first line can't be read.
+    /// Its first line is unreadable.
     Unreadable,
-    /// It has no entry.
+    /// The log has no entries.
     NoEntry,
 }
 
 impl Unjudged {
-    /// Returns why nothing was judged of a log of so many lines, without settings.
+    /// Returns why a log of `lines` lines without settings was not checked.
     pub fn without_settings(lines: u64) -> Unjudged {
         if lines == 0 {
             Unjudged::Empty
@@ -163,7 +164,7 @@ impl Unjudged {
         }
     }
 
-    /// The same in words.
+    /// Returns the reason as text.
     pub fn words(self) -> &'static str {
         match self {
             Unjudged::Empty => "not audited: the log is empty",
@@ -191,7 +192,7 @@ impl fmt::Display for System {
     }
 }
 
-/// The name of the rule that is broken, or `unreadable`.
+/// Returns the name of the broken rule, or `unreadable`.
 pub fn name_of(why: Why) -> &'static str
     ensures { result.now ≡ why_name why }
 {
@@ -201,14 +202,14 @@ pub fn name_of(why: Why) -> &'static str
     }
 }
 
-/// How the log is gone on with behind a failure, where with `utc` a time is told as a date.
+/// How the log continues after a failure. `utc` selects a date instead of a time in ms.
 #[derive(Clone, Copy)]
 pub struct Continuation {
     pub repair_action: RepairAction,
     pub utc: bool,
 }
 
-/// An entry that is put before a line, as it would stand in the log.
+/// An entry that is inserted before a line, as the log would have it.
 #[derive(Clone, Copy)]
 pub enum Put {
     T3(u64, u32),
@@ -217,7 +218,7 @@ pub enum Put {
 }
 
 impl Put {
-    /// What the remedy puts before the line, if it does that.
+    /// Returns the entry that the repair inserts before the line, if it inserts one.
     pub fn of(repair_action: RepairAction) -> Option<Put> {
         match repair_action {
             RepairAction::ExpireFirst(time, system) => Some(Put::T3(time, system)),

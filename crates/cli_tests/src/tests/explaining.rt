@@ -6,7 +6,7 @@ use std::alloc::{AllocError, Global};
 use std::fmt::InlineText;
 use std::process::Abort;
 
-// Each line.
+// All lines.
 const WHOLE: Excerpt = Excerpt {
     lines: Lines::All,
     around: 5,
@@ -43,7 +43,7 @@ S1F1 W sent=1 expired=1
 fail line=6 rule=T3Overdue
 ";
 
-// A connection that isn't selected within T7, and behind it another one.
+// A connection that is not selected within T7, followed by another one.
 const CUT: &str = "hsms-log 2 host active 0 45000 6000 10000 5000 1048576 32\r
 # a comment
 
@@ -142,7 +142,7 @@ fn shows_that_nothing_was_checked(rt: HostRuntime) -> Result<(), AllocError> {
     )
 }
 
-// Failures alone, with a line around them.
+// Only failures, with one line around them.
 const FAILURES: Excerpt = Excerpt {
     lines: Lines::Failures,
     around: 1,
@@ -166,7 +166,7 @@ S1F1 W sent=1 expired=1
 fail line=6 rule=T3Overdue
 ";
 
-// Lines 2 to 4, of which the last one closes what line 3 opened.
+// Lines 2 to 4. The last one closes the transaction that line 3 opened.
 const FRONT: Excerpt = Excerpt {
     lines: Lines::All,
     around: 5,
@@ -194,7 +194,7 @@ fn shows_an_excerpt(rt: HostRuntime) -> Result<(), AllocError> {
     check_log_lines(&rt, alloc, FRONT, LATE, "Ok(false)", LATE_FRONT_TOLD)
 }
 
-// Data of another device: of the first three of a session each is told whole.
+// Data with another device ID. The first three failures of each session ID are written in full.
 const ALIKE: &str = "hsms-log 1 host active 0 45000 6000 10000 5000 1048576 32
 0 up
 0 > ffff0000000100000001
@@ -255,7 +255,7 @@ failures=7 Session=7
 fail line=5 rule=Session
 ";
 
-// From line 7 on: of those that come before nothing is told.
+// From line 7 on. Nothing is written of the earlier lines.
 const FROM_SEVEN: Excerpt = Excerpt {
     lines: Lines::All,
     around: 5,
@@ -265,7 +265,7 @@ const FROM_SEVEN: Excerpt = Excerpt {
     utc: false,
 };
 
-// The lines that fail, and none around them.
+// Only the lines that fail, and none around them.
 const BARE_FAILURES: Excerpt = Excerpt {
     lines: Lines::Failures,
     around: 0,
@@ -289,7 +289,7 @@ fn counts_failures_of_a_group(rt: HostRuntime) -> Result<(), AllocError> {
     )
 }
 
-// Replies after 12, 40 and 5 ms, one that aborts, one that is awaited; and one of the host after 301 ms.
+// Replies after 12, 40 and 5 ms, one that aborts, one that is still open; and one reply of the host after 301 ms.
 const REPLIES: &str = "hsms-log 1 host active 0 45000 6000 10000 5000 1048576 32
 0 up
 0 > ffff0000000100000001
@@ -315,7 +315,7 @@ S6F11 W received=1 answered=1 min=301 median=301 p99=301 max=301 line=12
 pass entries=14 sent=7 taken=6 discarded=0 expired=0 waiting=1
 ";
 
-// The last line alone.
+// Only the last line.
 const LAST: Excerpt = Excerpt {
     lines: Lines::All,
     around: 5,
@@ -331,7 +331,7 @@ fn shows_how_long_replies_took(rt: HostRuntime) -> Result<(), AllocError> {
     check_log_lines(&rt, alloc, LAST, REPLIES, "Ok(true)", REPLIES_TOLD)
 }
 
-// A device failed, and what was told before stands.
+// Asserts that a read or write failed, and that the earlier output is kept: a prefix of the complete output.
 fn assert_stopped(
     rt: &impl Abort,
     outcome: Outcome,
