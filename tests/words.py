@@ -2,7 +2,7 @@
 """Tells each fault of the command, without words and with them: by `-v`, by HSMS_VERBOSE in the environment, and at a
 terminal.
 
-Without them standard error has one line, the fault's name. With them the words follow, which docs/FORMATS.md shows in
+Without them standard error has one line, the fault's name. With them the words follow, which docs/CLI.md shows in
 its table, and nothing else changes. The terminal is a pseudo-terminal at standard error. `Endless` isn't tried: it
 takes 4,294,967,295 messages or reads; nor is `Full`, which takes 64 MB that wait. It runs what `rt ci` has built, or
 the program that it is given. The last line is `N passed, M failed`.
@@ -380,13 +380,13 @@ def unreadable_words(log, audited):
 
 
 def documented(cases):
-    """Each sentence stands in the table of docs/FORMATS.md, but for what is the user's in it."""
-    with open(f"{TOP}/docs/FORMATS.md", encoding="utf-8") as file:
+    """Each sentence stands in the table of docs/CLI.md, but for what is the user's in it."""
+    with open(f"{TOP}/docs/CLI.md", encoding="utf-8") as file:
         page = " ".join(file.read().split())
     for case in cases:
         sentence = case.told[0].split(": ", 1)[1] if case.told[0].startswith("line ") else case.told[0]
         if case.fault not in ("command line", "Link") and sentence not in page:
-            raise AssertionError(f"docs/FORMATS.md lacks {sentence!r}")
+            raise AssertionError(f"docs/CLI.md lacks {sentence!r}")
 
 
 def main():
