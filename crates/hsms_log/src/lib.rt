@@ -46,7 +46,7 @@ pub use diagnosis::{unreadable_entry, unreadable_settings};
 pub use fault::{AuditFault, LineFault, LogFault};
 pub use hexadecimal::{digits_of_few, digits_of_sixteen};
 pub use line::{split_at_first, without_carriage_return};
-pub use line_reader::line_checker;
+pub use line_reader::audit_text;
 pub use reading::{Line, is_blank, read_frame_line, read_line, read_plain_line};
 pub use reasons::{Form, Reason, Unreadable};
 pub use settings_line::read_settings;

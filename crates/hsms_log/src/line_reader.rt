@@ -180,7 +180,7 @@ impl LineReader {
 }
 
 /// The verdict on the text of a log, which is held whole.
-pub fn line_checker(alloc: Global, text: &[u8]) -> Result<Verdict, AllocError>
+pub fn audit_text(alloc: Global, text: &[u8]) -> Result<Verdict, AllocError>
     ensures { IfOk result (IsVerdictOn text.now) }
 {
     let mut reader = LineReader::new(alloc);

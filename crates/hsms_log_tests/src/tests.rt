@@ -7,8 +7,8 @@ use cases::{CASES, Case, ENTRIES, FIRST_LINES, NO_LINES, REPLY, SELECTED, WRITTE
 use connections::{TEXTS, Text};
 use hsms_frame::{Feed, Store};
 use hsms_log::{
-    AuditFault, Line, LineFault, LogFault, Summary, Verdict, Why, audit, audit_within,
-    line_checker, read_line, read_settings, write_entry, write_settings,
+    AuditFault, Line, LineFault, LogFault, Summary, Verdict, Why, audit, audit_text, audit_within,
+    read_line, read_settings, write_entry, write_settings,
 };
 use hsms_machine::{Entry, Rule, Settings};
 use std::alloc::{AllocError, Global};
@@ -71,7 +71,7 @@ fn audits_each_log(rt: HostRuntime) -> Result<(), Fail> {
 
 fn check_text(rt: &impl Abort, alloc: Global, text: &Text) -> Result<(), Fail> {
     let octets = joined(alloc, text.parts)?;
-    let verdict = line_checker(alloc, &octets)?;
+    let verdict = audit_text(alloc, &octets)?;
     assert_answer(rt, Ok(verdict), Ok(text.verdict), text.name);
     Ok(())
 }

@@ -1,6 +1,6 @@
 use Rattle.std.proofs.Common.{[]}
 use Rattle.hsms_log.proofs.AuditInvariants.{audited_onward}
-use Rattle.hsms_log.proofs.line_reader.line_checker.Goals as goal
+use Rattle.hsms_log.proofs.line_reader.audit_text.Goals as goal
 
 pub returns-in-Some : goal.returns-in-Some
 returns-in-Some c =
