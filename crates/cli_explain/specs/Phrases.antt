@@ -20,8 +20,8 @@ tie_word Expires = codes "expires"
 
 -- The start of the phrase for an entry that closes a transaction.
 abbrev pub closing_word : Tie → List ℕ
-closing_word Answers = tie_word Answers
-closing_word Rejects = tie_word Rejects
+closing_word Answers = codes "answers"
+closing_word Rejects = codes "rejects"
 closing_word Expires = codes "T3 timeout of"
 
 -- The line that opened the transaction that an entry closes, and the ms since then.
