@@ -18,7 +18,7 @@ HeadersAreOctets = (h : Header) → IsHeader h → IsOctets (header_octets h)
 abbrev pub MessagesAreOctets : Type 0
 MessagesAreOctets = (f : Frame) → IsFrame f → IsOctets (frame_octets f)
 
--- No message is a proper prefix of another, and no bytes encode two messages.
+-- No message is a prefix of another, and no bytes encode two messages.
 abbrev pub OneMessageAtFront : Type 0
 OneMessageAtFront =
     (f g : Frame) (x y : List ℕ) → IsFrame f → IsFrame g → frame_octets f ++ x ≡ frame_octets g ++ y → (f ≡ g) × (x ≡ y)

@@ -83,7 +83,7 @@ impl Error for ReadFault {}
 pub enum WriteFault {
     /// Header and text have more bytes than a length field can hold. Nothing was written.
     TooLong { length: u64, header: Header },
-    /// A write failed. A prefix of the bytes may be written.
+    /// A write failed. A prefix of the bytes may have been written.
     Write,
 }
 

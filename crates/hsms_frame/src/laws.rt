@@ -3,7 +3,7 @@
 
 ghost use Rattle.hsms_frame.specs.Laws.{HeadersAreOctets, MessagesAreOctets, OneMessageAtFront, SomeAnswer, OneAnswer, SomeAnswerToPending, OneAnswerToPending, GivesWhatWasPushed, AnyPiecesGiveTheSame};
 
-/// No message's bytes are a proper prefix of another's, and no bytes encode two messages. If a header's or message's
+/// No message's bytes are a prefix of another message's, and no bytes encode two messages. If a header's or message's
 /// numbers are in their ranges, each of its bytes is below 256.
 pub fn one_message_at_front()
     ensures one { OneMessageAtFront }
