@@ -1,8 +1,9 @@
-//! The session machine of HSMS (SEMI E37, E37.1): the rules for the entries of a session log, and a tracker that returns
-//! the first rule that each entry breaks. A log is a list of entries, each with its time in milliseconds. An entry is one of
-//! these events: the connection was established, a frame was sent, accepted or discarded, a timer expired, the connection
-//! was cut or closed. The tracker keeps what the rules need to know of the entries so far, and no log. It reads no clock and
-//! no socket. So an auditor can check logged entries with it, and an endpoint can check what it is about to do.
+//! The session machine of HSMS (SEMI E37, E37.1): the rules for the entries of a session log, and a tracker that
+//! returns the first rule that each entry breaks. A log is a list of entries, each with its time in milliseconds. An
+//! entry is one of these events: the connection was established, a frame was sent, accepted or discarded, a timer
+//! expired, the connection was cut or closed. The tracker keeps what the rules need to know of the entries so far, and
+//! no log. It reads no clock and no socket. So an auditor can check logged entries with it, and an endpoint can check
+//! what it is about to do.
 //!
 //! Create a tracker with the settings, and pass each entry in turn:
 //!
