@@ -13,7 +13,7 @@ use Rattle.hsms_frame.specs.Header.{header_octets, IsHeader}
 use Rattle.hsms_log.specs.LineFormat.{IsHexOf, IsMessage, message_octets, system_octets}
 use Rattle.hsms_log.proofs.LineBindings.{ok_inj}
 
--- The result of a decoder with room for this many bytes.
+-- The result of a decoder with room for four bytes.
 abbrev pub Sized : List ℕ → Result (Unit {0}) FromHexError → List ℕ → Type 0
 Sized digits r octets = MatchResult (decode_sized digits 4) (λ bytes. (r ≡ Ok (tt {0})) × (octets ≡ bytes)) (λ e. r ≡ Err e)
 

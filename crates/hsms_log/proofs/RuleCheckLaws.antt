@@ -122,7 +122,7 @@ tracked line_checker session before some follows =
     let P : Option Session → Type 0 = λ o. MatchOption o ((before ≡ []) × Counts line_checker.tally []) (λ s. Tracks s line_checker.tally before) in
     subst P some follows.state
 
--- So it has checked the line that came after them.
+-- So a check of a line by the tracked session is a check after the lines that the checker follows.
 pub checked_follows : {E : Type 0} (r : Result (Option Why) E) (old new : LineChecker) (session later : Session) (line : List ℕ)
     → old.session ≡ Some session → new.session ≡ Some later
     → IfOk r (IsChecked old.tally.lines new.tally.lines (Tracks session old.tally) (Tracks later new.tally) line)

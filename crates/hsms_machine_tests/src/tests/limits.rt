@@ -64,7 +64,7 @@ fn the_limits_of_settings(rt: HostRuntime) -> Result<(), Stop> {
     check_rows(&rt, PAST, false)
 }
 
-/// Returns the endpoints, the device ID, the maximum size and the depth.
+/// Returns the role and the side, the device ID, the maximum size and the depth.
 fn ends_of(settings: Settings) -> InlineText<160> {
     let ends = (settings.role(), settings.link());
     let limits = (settings.device(), settings.max(), settings.depth());
