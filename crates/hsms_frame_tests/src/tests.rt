@@ -230,7 +230,7 @@ fn check_refused(rt: &impl Abort, alloc: Global, source: &mut Feed) {
     match read_frame(alloc, source, 256) {
         Ok(Some(frame)) => assert_octets(rt, &frame.text, &DATA[14..]),
         Err(ReadFault::Memory) => assert_octets(rt, source.left(), &DATA[14..]),
-        _ => assert_so(rt, false, "the message, or want of memory"),
+        _ => assert_so(rt, false, "the message, or out of memory"),
     }
 }
 

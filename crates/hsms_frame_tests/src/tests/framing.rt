@@ -5,7 +5,7 @@ use std::process::Abort;
 
 // Asserts that an allocation failed, and the framer is unchanged.
 fn assert_as_before(rt: &impl Abort, framer: &Framer, fault: FrameFault, before: &[u8]) {
-    assert_so(rt, fault == FrameFault::Memory, "want of memory");
+    assert_so(rt, fault == FrameFault::Memory, "out of memory");
     assert_octets(rt, framer.pending(), before);
 }
 
