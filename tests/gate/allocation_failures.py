@@ -28,11 +28,12 @@ from dataclasses import dataclass
 from typing import Callable, List
 
 sys.dont_write_bytecode = True
+sys.path.insert(0, os.path.abspath(f"{__file__}/../../.."))
 
-from command import DRIVER, PROGRAM, TOP, answer_of, refuser
-from loopback import EQUIPMENT_LOG, HERE, HOST_LOG, SELECT, SELECTED, control, events, free_port
-from second_reading.lists import Answering, damaged
-from worked import Row, rows
+from tests.support.command import DRIVER, PROGRAM, TOP, answer_of, call_failer
+from tests.support.reference.endpoint_inputs import Answering, damaged
+from tests.support.serve_peers import EQUIPMENT_LOG, HERE, HOST_LOG, SELECT, SELECTED, control, events, free_port
+from tests.support.worked_examples import Row, rows
 
 WORKERS = 2
 
@@ -138,7 +139,7 @@ class Check:
 class Refuser:
     def __init__(self, room):
         self.room = room
-        self.library = refuser(room)
+        self.library = call_failer(room)
 
     def run(self, check, count):
         """Runs a program with one allocation refused, and says whether it came to that."""

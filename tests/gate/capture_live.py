@@ -22,9 +22,12 @@ from concurrent.futures import ThreadPoolExecutor
 from dataclasses import dataclass
 
 sys.dont_write_bytecode = True
+sys.path.insert(0, os.path.abspath(f"{__file__}/../../.."))
 
-from loopback import HERE, PROGRAM, SCRIPT, SOON, Serving, audited, events, free_port, same, times
+from tests.support.command import program_given
+from tests.support.serve_peers import HERE, SCRIPT, SOON, Serving, audited, events, free_port, same, times
 
+PROGRAM = Serving.program = program_given()
 TOOLS = ["tcpdump", "dumpcap", "editcap", "reordercap", "mergecap"]
 
 # How far the time of an entry may be from that in the log of the end, in ms.

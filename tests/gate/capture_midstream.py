@@ -14,24 +14,25 @@ built, or `--program P`; with `--alone` no program, and the second reading is co
 is `N passed, M failed`.
 """
 import argparse
+import os
 import random
 import sys
 from dataclasses import replace
 from functools import partial
 from typing import List, Optional, Tuple
 
-# The modules below leave no compiled files in the repository.
 sys.dont_write_bytecode = True
+sys.path.insert(0, os.path.abspath(f"{__file__}/../../.."))
 
-from command import PROGRAM, TOP, Answer, answer_of
-from made_captures import ACK, ACTIVE, BEGIN, FIN, PASSIVE, PUSH, RST, SELECT, SYN, Capture, Talk, message
-from made_sessions import ONE_MESSAGE, Session, captured_of, random_session
-from second_reading import joined
-from second_reading.capturing import Options
-from second_reading.packets import read_file, segment_of
-from second_reading.session import audit
-from second_reading.unjudged import Unjudged
-from second_reading.wire import Seen
+from tests.support.command import PROGRAM, TOP, Answer, answer_of
+from tests.support.pcap_writer import ACK, ACTIVE, BEGIN, FIN, PASSIVE, PUSH, RST, SELECT, SYN, Capture, Talk, message
+from tests.support.reference import midstream
+from tests.support.reference.capture_audit import Options
+from tests.support.reference.packets import read_file, segment_of
+from tests.support.reference.session import audit
+from tests.support.reference.tcp import Seen
+from tests.support.reference.unaudited import Unjudged
+from tests.support.session_generator import ONE_MESSAGE, Session, captured_of, random_session
 
 PORT, ACTIVE_PORT = 5000, 40000
 NAMES = "10.0.0.1:40000 10.0.0.2:5000"
@@ -75,17 +76,17 @@ def unjudged_in(octets: bytes, options: Options) -> Unjudged:
         else:
             unjudged.take(segment)
     for port in active_ports:
-        unjudged.give_up(joined.told_of(seen_in(octets, port), options).given_up)
+        unjudged.give_up(midstream.told_of(seen_in(octets, port), options).given_up)
     return unjudged
 
 
-def verdicts(told: joined.Told, options: Options) -> List[str]:
+def verdicts(told: midstream.Told, options: Options) -> List[str]:
     """The verdicts on both logs, where it is one that came up, with the packet of a line that fails."""
     found = []
     for end in (ACTIVE, PASSIVE):
         words = [f"incomplete packet={told.missing}"] if told.fault else []
         if told.lines:
-            log = joined.log_of(told, end, options)
+            log = midstream.log_of(told, end, options)
             audited = audit(log)
             packet = packet_of(log, audited.line) if audited.verdict.startswith("fail") else 0
             words.append(audited.verdict.replace(" rule", f" packet={packet} rule"))
@@ -99,7 +100,7 @@ def packet_of(log: bytes, line: int) -> int:
     return max((int(words[2]) for words in comments if len(words) == 3), default=0)
 
 
-def second(told: joined.Told, options: Options, unjudged: Unjudged) -> Answer:
+def second(told: midstream.Told, options: Options, unjudged: Unjudged) -> Answer:
     """What the second reading answers to a capture of one connection, of which this is told, and what isn't judged."""
     fault = "{} packet={}".format(*told.fault) if told.fault else None if told.lines else "NoConnection"
     fault = fault or ("NotJudged" if unjudged.is_refused else None)
@@ -107,7 +108,7 @@ def second(told: joined.Told, options: Options, unjudged: Unjudged) -> Answer:
     status, comment = 2 if fault else 0, "".join(f"{line}\n" for line in unjudged.lines()).encode()
     if options.log:
         end = ACTIVE if options.log == options.active else PASSIVE
-        log = joined.log_of(told, end, options) if told.lines else b""
+        log = midstream.log_of(told, end, options) if told.lines else b""
         return Answer(status, log if told.fault else log + comment, error)
     if not told.lines and not told.fault:
         return Answer(status, comment, error)
@@ -118,7 +119,7 @@ def second(told: joined.Told, options: Options, unjudged: Unjudged) -> Answer:
     return Answer(status, "".join(lines).encode() + comment, error)
 
 
-def differs(octets: bytes, told: joined.Told, options: Options, program: Optional[str]) -> Optional[str]:
+def differs(octets: bytes, told: midstream.Told, options: Options, program: Optional[str]) -> Optional[str]:
     """What is wrong with the command's answers to a capture, of which this is told."""
     for role in (None, "host", "equipment") if program else ():
         asked = replace(options, log=role)
@@ -135,7 +136,7 @@ def differs(octets: bytes, told: joined.Told, options: Options, program: Optiona
 def wrong_with_smallest(name: str, program: Optional[str]) -> Optional[str]:
     with open(f"{TOP}/tests/captures/joined-{name}.pcap", "rb") as file:
         octets = file.read()
-    told = joined.told_of(seen_in(octets), Options())
+    told = midstream.told_of(seen_in(octets), Options())
     *ends, missing = SMALLEST[name]
     lack = f"incomplete packet={missing} " if missing else ""
     each = zip(ends[::2], ends[1::2])
@@ -240,8 +241,8 @@ def linktest_first() -> bytes:
 def wrong_with_linktest_first(program: Optional[str]) -> Optional[str]:
     """A Linktest.req doesn't ask for a Select.rsp: the Select.req stands before the capture."""
     octets, options = linktest_first(), Options()
-    told = joined.told_of(seen_in(octets), options)
-    log = joined.log_of(told, ACTIVE, options).decode().splitlines()[1:]
+    told = midstream.told_of(seen_in(octets), options)
+    log = midstream.log_of(told, ACTIVE, options).decode().splitlines()[1:]
     lines = [line for line in log if not line.startswith("#")]
     found = [f"{int(time) - BEGIN // 1000} {words}" for time, words in (line.split(" ", 1) for line in lines)]
     wanted = ["1 up", "1 > ffff0000000100000007", "1 > ffff0000000500000007", "2 < ffff0000000200000007",
@@ -342,7 +343,7 @@ def wrong_with(seed: str, program: Optional[str]) -> Optional[str]:
     others, device = rng.choice([0, 0, 0, 1, 3, 10]), rng.choice([0] * 9 + [7])
     octets, is_one_way = made(rng, session, others)
     options = Options(active=rng.choice(["host", "equipment"]), t3=rng.choice([45000, 45000, 45000, 5]), device=device)
-    told = joined.told_of(seen_in(octets), options)
+    told = midstream.told_of(seen_in(octets), options)
     wrong = differs(octets, told, options, program)
     if wrong or not told.lines or device:
         return wrong

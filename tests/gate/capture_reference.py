@@ -23,16 +23,16 @@ from dataclasses import fields, replace
 from functools import partial
 from typing import Dict, Iterable, Iterator, List, Optional, Tuple
 
-# The modules below leave no compiled files in the repository.
 sys.dont_write_bytecode = True
+sys.path.insert(0, os.path.abspath(f"{__file__}/../../.."))
 
-import captures
-from command import PROGRAM, TOP, Answer, answer_of
-from made_captures import ACK, ACTIVE, BEGIN, PASSIVE, PUSH, SELECT, SYN, Capture, Talk, message
-from made_sessions import NOT_ONE_MESSAGE, ONE_MESSAGE, Made, damaged, made
-from second_reading import capturing
-from second_reading.capturing import Options
-from second_reading.session import audit
+from tests.support import capture_examples
+from tests.support.command import PROGRAM, TOP, Answer, answer_of
+from tests.support.pcap_writer import ACK, ACTIVE, BEGIN, PASSIVE, PUSH, SELECT, SYN, Capture, Talk, message
+from tests.support.reference import capture_audit
+from tests.support.reference.capture_audit import Options
+from tests.support.reference.session import audit
+from tests.support.session_generator import NOT_ONE_MESSAGE, ONE_MESSAGE, Made, damaged, made
 
 # So many of the random captures are damaged, in a hundred.
 DAMAGED = 40
@@ -44,7 +44,7 @@ LARGE = 200_000
 
 def second(octets: bytes, options: Options) -> Answer:
     """What the second reading answers."""
-    read = capturing.capture(octets, options)
+    read = capture_audit.capture(octets, options)
     return Answer(read.status, read.output, read.error)
 
 
@@ -102,7 +102,7 @@ def known(case: Made, answers: Dict[Optional[str], Answer]) -> Optional[str]:
     verdicts = verdicts_in(answers[None])
     if case.is_lawful and (answers[None].status == 1 or any("fail" in verdict for verdict in verdicts)):
         return f"a lawful session fails: {verdicts}"
-    read = capturing.Capture(case.octets, case.options)
+    read = capture_audit.Capture(case.octets, case.options)
     for outcome in read.outcomes:
         frames = [(one.end, one.octets[4:].hex()) for one in outcome.told.happenings if one.what == "message"]
         if not any(frames == session.frames[:len(frames)] for session in case.sessions):
@@ -225,7 +225,7 @@ def cut_talk(octets: int) -> bytes:
 
 
 def of_link(link: int) -> bytes:
-    octets = bytearray(captures.late_reply().octets)
+    octets = bytearray(capture_examples.late_reply().octets)
     octets[20:24] = struct.pack("<I", link)
     return bytes(octets)
 
@@ -481,7 +481,7 @@ def left_out_cases() -> Iterator[Case]:
 
 
 def worked_cases() -> Iterator[Case]:
-    late = captures.late_reply().octets
+    late = capture_examples.late_reply().octets
     short = lines_of("pass entries=3 sent=1 taken=1")
     front = selected().capture.octets
     log = ["hsms-log 2 host active 0 45000 6000 10000 5000 1048576 32"]
@@ -524,16 +524,16 @@ def worked_cases() -> Iterator[Case]:
     yield "a log without a time", without_time(), Options(log="host"), log, "Time packet=6", 2
     yield "another octet", other_octets_again(), Options(), lines_of(
         "incomplete packet=7 pass entries=3 sent=1 taken=1"), "Differs packet=7", 2
-    yield "a length of 9", captures.wrong_length("00000009ffff00000009000000").octets, Options(), lines_of(
+    yield "a length of 9", capture_examples.wrong_length("00000009ffff00000009000000").octets, Options(), lines_of(
         "incomplete packet=6 pass entries=3 sent=1 taken=1"), "Length packet=6", 2
-    yield "a length past the limit", captures.wrong_length("00000101" + "00" * 257).octets, Options(max=256), lines_of(
+    yield "a length past the limit", capture_examples.wrong_length("00000101" + "00" * 257).octets, Options(max=256), lines_of(
         "incomplete packet=6 pass entries=3 sent=1 taken=1"), "Length packet=6", 2
     for name, data, is_told in (
         ("of which the length alone is there", "00000009", True), ("of text at the port", b"HTTP/1.1 200".hex(), True),
         ("that is one past what is held", "03fffffd", True), ("as great as is held", "03fffffc0000", False),
     ):
         front = "incomplete packet=6 " if is_told else ""
-        yield f"a length {name}", captures.wrong_length(data).octets, Options(), lines_of(
+        yield f"a length {name}", capture_examples.wrong_length(data).octets, Options(), lines_of(
             front + "pass entries=3 sent=1 taken=1"), "Length packet=6" if is_told else None, 2 if is_told else 0
     yield from segment_cases()
     yield "a pure ACK behind what was not captured", ack_behind_a_gap(), Options(), lines_of(
@@ -727,7 +727,7 @@ def unjudged_cases(log: List[str]) -> Iterator[Case]:
     seen_twice = with_more(ports[1:] * 2)
     yield "eight other ports", seen_twice, Options(), passes + [listed.replace("5011", "5011")], *is_refused
     yield "the lower port", with_more([(4999, 6000)]), Options(), passes + [f"{at_one}4999"], *is_refused
-    with_late = with_more([(41000, 5000)], octets=captures.late_reply().octets)
+    with_late = with_more([(41000, 5000)], octets=capture_examples.late_reply().octets)
     yield "a log fails", with_late, Options(t3=1000), lines_of(
         "fail line=15 packet=9 rule=T3Overdue", "pass entries=12 sent=4 taken=6") + [one], None, 1
     capture = Capture(ports=(40000, 5001))

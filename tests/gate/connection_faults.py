@@ -23,20 +23,22 @@ import tempfile
 import threading
 import time
 
+sys.dont_write_bytecode = True
+sys.path.insert(0, os.path.abspath(f"{__file__}/../../.."))
+
+from tests.support.command import PROGRAM
+from tests.support.retry import is_held
+from tests.support.serve_peers import (
+    SELECT, SELECTED, Listening, Peer, Serving, control, data, equipment, events, free_port, passes, same,
+)
+
 OPTIONS = argparse.ArgumentParser(description=__doc__.split("\n")[0])
 OPTIONS.add_argument("--minutes", type=float, default=0)
 OPTIONS.add_argument("--seed", type=int, default=20261123)
 OPTIONS.add_argument("--keep", default="/tmp")
-OPTIONS.add_argument("program", nargs="?")
+OPTIONS.add_argument("program", nargs="?", default=PROGRAM)
 ASKED = OPTIONS.parse_args()
-TOP = os.path.dirname(os.path.dirname(os.path.abspath(__file__)))
-PROGRAM = ASKED.program or f"{TOP}/crates/hsms_tool/out/hsms_tool"
-sys.argv = [sys.argv[0], PROGRAM]
-sys.path.insert(0, os.path.dirname(os.path.abspath(__file__)))
-sys.dont_write_bytecode = True
-
-from held import is_held
-from loopback import Listening, Peer, SELECT, SELECTED, Serving, control, data, equipment, events, free_port, passes, same
+Serving.program = ASKED.program
 
 S1F1 = data(1, 1, 3, wait=True)
 S1F2 = data(1, 2, 2, bytes.fromhex("010241014d410131"))
@@ -139,7 +141,7 @@ def device_is_full(count, whole):
         port = free_port()
         words = ["serve", "--role", "equipment", "--link", "passive", "--address", "127.0.0.1", "--port", str(port)]
         run = subprocess.Popen(
-            [PROGRAM, *words], stdin=subprocess.DEVNULL, stdout=file, stderr=subprocess.PIPE, preexec_fn=limited
+            [Serving.program, *words], stdin=subprocess.DEVNULL, stdout=file, stderr=subprocess.PIPE, preexec_fn=limited
         )
         peer = Peer.connected(port)
         said(peer, SESSION)

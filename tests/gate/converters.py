@@ -10,6 +10,7 @@ It needs the program that `rt ci` has built. The last line is `N passed, M faile
 import codecs
 import importlib.util
 import itertools
+import os
 import random
 import re
 import subprocess
@@ -18,8 +19,9 @@ import tempfile
 
 # The module below leaves no compiled file in the repository.
 sys.dont_write_bytecode = True
+sys.path.insert(0, os.path.abspath(f"{__file__}/../../.."))
 
-from command import PROGRAM, TOP
+from tests.support.command import PROGRAM, TOP
 
 SCRIPT = f"{TOP}/contrib/text2log.py"
 SETTINGS = "hsms-log 2 host active 0 45000 6000 10000 5000 1048576 32\n"

@@ -18,9 +18,10 @@ from concurrent.futures import ProcessPoolExecutor
 from functools import partial
 
 sys.dont_write_bytecode = True
+sys.path.insert(0, os.path.abspath(f"{__file__}/../../.."))
 
-from command import LONGEST_RUN, Answer, answer_of
-from second_reading import damage
+from tests.support.command import LONGEST_RUN, Answer, answer_of
+from tests.support.reference import corruption
 
 # How many inputs a process takes at once.
 SHARE = 50
@@ -43,7 +44,7 @@ def kept(seed: str, number: int, given: bytes) -> str:
 
 def judged(seed: str, number: int):
     """What an input reaches, and what is wrong with the command's answer to it."""
-    case = damage.case(seed, number)
+    case = corruption.case(seed, number)
     answer = answer_in_time(case)
     wrong = None
     if answer != case.wanted:

@@ -23,9 +23,10 @@ from functools import partial
 from typing import List
 
 sys.dont_write_bytecode = True
+sys.path.insert(0, os.path.abspath(f"{__file__}/../../.."))
 
-from command import DRIVER, LONGEST_RUN
-from second_reading import crowds, lists, tables, talks
+from tests.support.command import DRIVER, LONGEST_RUN
+from tests.support.reference import conversations, endpoint_cases, endpoint_inputs, full_endpoints
 
 # How many lists a run of the program gets.
 SHARE = 50
@@ -66,8 +67,8 @@ def first_difference(wanted: str, answer: str) -> str:
 
 def judged(seed: str, first: int):
     """What the lists of a share reach, and what is wrong with the answers to them."""
-    listed = [lists.listed(seed, number) for number in range(first, first + SHARE)]
-    wanted = [lists.Answering(each) for each in listed]
+    listed = [endpoint_inputs.listed(seed, number) for number in range(first, first + SHARE)]
+    wanted = [endpoint_inputs.Answering(each) for each in listed]
     texts = [each.text() for each in listed]
     given = answers(texts)
     wrongs = []
@@ -85,7 +86,7 @@ def main() -> int:
     words.add_argument("--seed", default="1")
     words.add_argument("--workers", type=int, default=2)
     told = words.parse_args()
-    firsts = range(0, told.count + len(tables.lists()), SHARE)
+    firsts = range(0, told.count + len(endpoint_cases.lists()), SHARE)
     reached, failing = Counter(), 0
     with ProcessPoolExecutor(told.workers) as pool:
         for whats, wrongs in pool.map(partial(judged, told.seed), firsts):
@@ -94,8 +95,8 @@ def main() -> int:
             for wrong in wrongs:
                 print(wrong, flush=True)
     # why a message is thrown away isn't told to a list, and `hsms_ends_driver` has no desk that replies from a script
-    of_talks = [what for what in talks.TO_REACH if not what.startswith("!") and not what.endswith(" of a script")]
-    to_reach = of_talks + crowds.TO_REACH + tables.TO_REACH
+    of_talks = [what for what in conversations.TO_REACH if not what.startswith("!") and not what.endswith(" of a script")]
+    to_reach = of_talks + full_endpoints.TO_REACH + endpoint_cases.TO_REACH
     missed = [what for what in to_reach if not reached[what]]
     missed = missed if told.count >= ENOUGH else []
     for what in missed:

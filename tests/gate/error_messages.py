@@ -19,13 +19,15 @@ from dataclasses import dataclass, field
 from typing import List
 
 sys.dont_write_bytecode = True
+sys.path.insert(0, os.path.abspath(f"{__file__}/../../.."))
 
-import captures
-from held import is_held
-from loopback import HERE, Listening, PROGRAM, SELECT, SOON, free_port, same
-from second_reading import reasons, session
+from tests.support import capture_examples, pcap_writer
+from tests.support.command import TOP, program_given
+from tests.support.reference import reasons, session
+from tests.support.retry import is_held
+from tests.support.serve_peers import HERE, SELECT, SOON, Listening, free_port, same
 
-TOP = os.path.dirname(os.path.dirname(os.path.abspath(__file__)))
+PROGRAM = program_given()
 END = ["serve", "--role", "host", "--link", "active"]
 LISTENS = ["serve", "--role", "host", "--link", "passive"]
 HERE_AT = [*END, "--address", HERE, "--port"]
@@ -119,7 +121,7 @@ def cases_of_inputs():
     yield Case(["show", "--hex"], 2, "NoMessage line=1", [bare], b"ffff0000000100000001\n")
 
 
-class Timeless(captures.Capture):
+class Timeless(pcap_writer.Capture):
     """A capture whose packets have no time."""
 
     def packet(self, when, octets, kept=None):
@@ -127,56 +129,56 @@ class Timeless(captures.Capture):
 
 
 def one_timeless():
-    talk = captures.Talk(Timeless("pcapng<"))
+    talk = pcap_writer.Talk(Timeless("pcapng<"))
     return talk.capture
 
 
 def differing():
     """Octets that come again as others."""
-    talk = captures.Talk(captures.Capture())
-    data = captures.message(captures.SELECT[0][1])
+    talk = pcap_writer.Talk(pcap_writer.Capture())
+    data = pcap_writer.message(pcap_writer.SELECT[0][1])
     for octets in (data, data[:-1] + b"\x07"):
         talk.at(1)
-        talk.segment(captures.ACTIVE, 0, captures.PUSH | captures.ACK, octets)
+        talk.segment(pcap_writer.ACTIVE, 0, pcap_writer.PUSH | pcap_writer.ACK, octets)
     return talk.capture
 
 
 def two_at_once():
     """Two connections of the same addresses, of which none goes down."""
-    capture = captures.Capture()
-    captures.Talk(capture)
+    capture = pcap_writer.Capture()
+    pcap_writer.Talk(capture)
     capture.ports = (40001, 5000)
-    captures.Talk(capture, when=captures.BEGIN + 10**6)
+    pcap_writer.Talk(capture, when=pcap_writer.BEGIN + 10**6)
     return capture
 
 
 def two_pairs():
     """A connection, and then one of other addresses."""
-    capture = captures.Capture()
-    captures.Talk(capture).end(1)
+    capture = pcap_writer.Capture()
+    pcap_writer.Talk(capture).end(1)
     capture.is_ipv6 = True
-    captures.Talk(capture, when=captures.BEGIN + 10**6)
+    pcap_writer.Talk(capture, when=pcap_writer.BEGIN + 10**6)
     return capture
 
 
 def cases_of_captures():
     cut = "the capture ends within a packet, or is empty: end the program that writes it first, or see what cut it off"
     yield Case(["capture"], 2, "CutOff", [cut])
-    yield Case(["capture"], 2, "CutOff", [cut], captures.half_a_packet().octets)
+    yield Case(["capture"], 2, "CutOff", [cut], capture_examples.half_a_packet().octets)
     other = "here the file isn't one of pcap or pcapng: give the one that tcpdump, tshark or Wireshark wrote, unpacked"
-    yield Case(["capture"], 2, "Capture Unknown octet=0", [other], captures.other_octets().octets + bytes(24))
+    yield Case(["capture"], 2, "Capture Unknown octet=0", [other], capture_examples.other_octets().octets + bytes(24))
     none = "no connection came up at --port: is this the port of HSMS, and does the capture begin before the connection does, or is --joined given?"
-    yield Case(["capture"], 2, "NoConnection", [none], captures.no_connection().octets)
-    yield Case(["capture", "--port", "5001"], 2, "NoConnection", [none], captures.late_reply().octets)
+    yield Case(["capture"], 2, "NoConnection", [none], capture_examples.no_connection().octets)
+    yield Case(["capture", "--port", "5001"], 2, "NoConnection", [none], capture_examples.late_reply().octets)
     judged = "the last line of the output names HSMS that was not judged: give --joined, its --device or its --port"
     with open(f"{TOP}/tests/captures/running.pcap", "rb") as file:
         running = file.read()
     yield Case(["capture"], 2, "NotJudged", [judged], running)
     yield Case(["capture", "--port", "5000"], 2, "NotJudged", [judged], running)
     lost = "this packet shows that octets are missing: capture again at the end itself, whole packets (-s 0), and none dropped"
-    yield Case(["capture"], 2, "Lost packet=8", [lost], captures.gap().octets)
+    yield Case(["capture"], 2, "Lost packet=8", [lost], capture_examples.gap().octets)
     length = "a message is shorter than 10 octets or longer than --max: is this the port of HSMS? Else give a greater --max"
-    yield Case(["capture"], 2, "Length packet=6", [length], captures.wrong_length().octets)
+    yield Case(["capture"], 2, "Length packet=6", [length], capture_examples.wrong_length().octets)
     differs = "what this packet brings again isn't what came first: capture nearer to the end, where one device alone sends it"
     yield Case(["capture"], 2, "Differs packet=5", [differs], differing().octets)
     time = "this packet has no time, or none that a log can have: capture again with times, or leave the packet out"
@@ -196,7 +198,7 @@ def cases_of_devices():
     full = {"stdout": os.open("/dev/full", os.O_WRONLY)}
     yield Case(["encode"], 3, "Write", [write], b"S1F1 .", full)
     for words in (["capture"], ["capture", "--log", "host"]):
-        yield Case(words, 3, "Write", [write], captures.late_reply().octets, full)
+        yield Case(words, 3, "Write", [write], capture_examples.late_reply().octets, full)
     log = "the log can't be written: see that standard output is open, the disk isn't full, and its reader goes on"
     yield Case([*LISTENS, "--address", HERE, "--port", str(free_port())], 3, "Log", [log], how=full)
 

@@ -11,19 +11,20 @@ line is `N passed, M failed`.
 """
 import glob
 import json
+import os
 import sys
 import zlib
 from concurrent.futures import ProcessPoolExecutor
 from typing import List, Optional
 
-# The modules below leave no compiled files in the repository.
 sys.dont_write_bytecode = True
+sys.path.insert(0, os.path.abspath(f"{__file__}/../../.."))
 
-from command import LONGEST_SHOWN, TOP, answer_of
-import pages
-from second_reading import corners, explaining, reasons, walks
-from second_reading.explaining import WHOLE, Excerpt
-from second_reading.inputs import Chance
+from tests.support import html_check
+from tests.support.command import LONGEST_SHOWN, TOP, answer_of
+from tests.support.reference import edge_cases, explain, random_logs, reasons
+from tests.support.reference.explain import WHOLE, Excerpt
+from tests.support.reference.random_messages import Chance
 
 # The first line of a log.
 EMPTY = b"hsms-log 1 host active 0 45000 6000 10000 5000 1048576 32\n"
@@ -95,7 +96,7 @@ def difference(log: bytes) -> Optional[str]:
     """What is told of a log and what it should be, where they differ."""
     audited = answer_of(["audit"], log)
     for excerpt in (WHOLE, excerpt_of(log)):
-        words, wanted = ["explain", *excerpt.words()], explaining.explain(log, excerpt)
+        words, wanted = ["explain", *excerpt.words()], explain.explain(log, excerpt)
         told = answer_of(words, log)
         in_json, in_html = (answer_of([*words, "--form", form], log) for form in ("json", "html"))
         are_answers = all((it.status, it.error) == (audited.status, b"") for it in (told, in_json, in_html))
@@ -103,7 +104,7 @@ def difference(log: bytes) -> Optional[str]:
         if not (are_answers and is_text and objects_of(in_json.output) == [list(it.items()) for it in wanted.objects]):
             shown = f"log: {log[:LONGEST_SHOWN].hex()}\nsecond reading: {wanted}"
             return f"{' '.join(words)}\n{shown}\ncommand: {told}\nin JSON: {in_json}\naudit: {audited}"
-        fault = pages.fault_of(in_html.output, wanted.unescaped, excerpt.is_utc)
+        fault = html_check.fault_of(in_html.output, wanted.unescaped, excerpt.is_utc)
         if fault:
             return f"{' '.join(words)} --form html\nlog: {log[:LONGEST_SHOWN].hex()}\n{fault}\npage: {in_html}"
     return None
@@ -121,14 +122,14 @@ def objects_of(output: bytes) -> Optional[List[object]]:
 def help_of_rules() -> Optional[str]:
     """The help of the audit, where a rule has other words there."""
     told = answer_of(["audit", "--help"], b"").output.decode()
-    rows = [f"  {rule:<13}  {words}\n" for rule, words in explaining.SENTENCES.items() if rule != "unreadable"]
+    rows = [f"  {rule:<13}  {words}\n" for rule, words in explain.SENTENCES.items() if rule != "unreadable"]
     return None if all(row in told for row in rows) else told
 
 
 def main() -> int:
     count, seed = int(sys.argv[1]) if len(sys.argv) > 1 else 500, sys.argv[2] if len(sys.argv) > 2 else "1"
-    random = [walks.random_log(Chance(f"{seed} explain {number}")) for number in range(count)]
-    logs = [*example_logs(), *walks.logs_at_edges(), *corners.logs(), *markup(), *random, *reasons.damaged_logs(seed, 2 * count)]
+    random = [random_logs.random_log(Chance(f"{seed} explain {number}")) for number in range(count)]
+    logs = [*example_logs(), *random_logs.logs_at_edges(), *edge_cases.logs(), *markup(), *random, *reasons.damaged_logs(seed, 2 * count)]
     logs += [many_sorts(), many_kinds(), *(repeated(log) for log in random + example_logs())]
     with ProcessPoolExecutor() as pool:
         differences = [(len(log), told) for log, told in zip(logs, pool.map(difference, logs)) if told]

@@ -18,8 +18,9 @@ import sys
 import tempfile
 
 sys.dont_write_bytecode = True
+sys.path.insert(0, os.path.abspath(f"{__file__}/../../.."))
 
-from command import LONGEST_RUN, PROGRAM, TOP, Answer, answer_of, refuser
+from tests.support.command import LONGEST_RUN, PROGRAM, TOP, Answer, answer_of, call_failer
 
 NO_WRITE = (3, b"hsms: Write\n")
 NO_READ = (3, b"hsms: Read\n")
@@ -191,7 +192,7 @@ def fronts(run):
 def checks(room):
     """Each check with its name, and whether it was passed."""
     small, many = runs()
-    library = refuser(room)
+    library = call_failer(room)
     told = Run(["--help"], b"")
     yield from named(told, full_device(told))
     for run in [*small, many]:

@@ -4,7 +4,6 @@
 Every log is audited, and every wait ends. It runs what `rt ci` has built, or the program that it is given. The last
 line is `N passed, M failed`.
 """
-import itertools
 import os
 import re
 import resource
@@ -16,314 +15,27 @@ import subprocess
 import sys
 import time
 
-# The modules below leave no compiled files in the repository.
 sys.dont_write_bytecode = True
+sys.path.insert(0, os.path.abspath(f"{__file__}/../../.."))
 
-from held import is_held
-from second_reading import talks
-from second_reading.ends import End, equipment_desk, log_of, scripted_desk
-from second_reading.inputs import Chance, random_item
-from second_reading.items import encode
-from second_reading.notation import printed
-from second_reading.serving import log_again
-from second_reading.session import Settings
+from tests.support.command import program_given
+from tests.support.reference import conversations
+from tests.support.reference.ends import End, equipment_desk, log_of, scripted_desk
+from tests.support.reference.items import encode
+from tests.support.reference.linktest import log_again
+from tests.support.reference.notation import printed
+from tests.support.reference.random_messages import Chance, random_item
+from tests.support.reference.session import Settings
+from tests.support.retry import is_held
+from tests.support.serve_peers import (
+    A_WHILE, EQUIPMENT_LOG, HERE, HOST_LOG, PASSED, SCRIPT, SELECT, SELECTED, SOON, Listening, Peer, Serving, audited,
+    control, data, equipment, events, free_port, in_time, message, passes, refused, same, served, stopped, times,
+)
 
-TOP = os.path.dirname(os.path.dirname(os.path.abspath(__file__)))
-PROGRAM = sys.argv[1] if len(sys.argv) > 1 else f"{TOP}/crates/hsms_tool/out/hsms_tool"
-HERE = "127.0.0.1"
-
-# The ports that are tried, one after the other.
-PORTS = itertools.cycle(range(20000, 32768))
-for _ in range(os.getpid() % 12768):
-    next(PORTS)
-
-# How long anything may take that has to come, and how long is waited for what must not come, in seconds.
-SOON = 30
-A_WHILE = 0.5
-
-# How /proc/net/tcp tells of a socket that it listens.
-LISTENS = "0A"
-
-SELECT = bytes.fromhex("0000000affff0000000100000001")
-SELECTED = bytes.fromhex("0000000affff0000000200000001")
-PASSED = "pass entries={} sent={} taken={} discarded={} expired={} waiting={}\n"
-
-
-def free_port():
-    """A port that nobody listens at, and that no socket is given which names none: those are from 32768 on."""
-    for port in itertools.islice(PORTS, 12768):
-        with socket.socket() as found:
-            found.setsockopt(socket.SOL_SOCKET, socket.SO_REUSEADDR, 1)
-            try:
-                found.bind((HERE, port))
-                return port
-            except OSError:
-                pass
-    raise AssertionError("no port is free")
-
-
-def is_listened_at(port):
-    """Whether the system has a socket that listens at a port, of IPv4 or IPv6. To ask it takes no connection away."""
-    for table in filter(os.path.exists, ("/proc/net/tcp", "/proc/net/tcp6")):
-        with open(table, encoding="ascii") as sockets:
-            for _, address, _, state, *_ in map(str.split, sockets):
-                if state == LISTENS and address.endswith(f":{port:04X}"):
-                    return True
-    return False
-
-
-def message(session, byte2, byte3, stype, system, text=b""):
-    return struct.pack(">IHBBBBI", 10 + len(text), session, byte2, byte3, 0, stype, system) + text
-
-
-def data(stream, function, system, text=b"", wait=False, device=0):
-    return message(device, stream | (128 if wait else 0), function, 0, system, text)
-
-
-def control(stype, system, byte3=0):
-    return message(0xFFFF, 0, byte3, stype, system)
-
-
-class Serving:
-    """A running `hsms serve`."""
-
-    # All that were started.
-    started = []
-
-    def __init__(
-        self, role, link, port, *options, script=None, send=True, address=HERE, stdout=subprocess.PIPE, env=None
-    ):
-        words = [PROGRAM, "serve", "--role", role, "--link", link, "--address", address, "--port", str(port), *options]
-        self.run = subprocess.Popen(
-            words + (["--send"] if send and script is not None else []),
-            stdin=subprocess.DEVNULL if script is None else subprocess.PIPE,
-            stdout=stdout,
-            stderr=subprocess.PIPE,
-            env=env,
-        )
-        Serving.started.append(self.run)
-        self.port = port
-        self.read = b""
-        if script is not None:
-            try:
-                self.run.stdin.write(script)
-                self.run.stdin.close()
-            except BrokenPipeError:
-                pass
-            self.run.stdin = None
-
-    def listens(self):
-        """Waits until this end listens, so that one that connects then isn't refused; before long it does, whatever the
-        system tells.
-        """
-        end = time.monotonic() + SOON
-        while not is_listened_at(self.port) and self.run.poll() is None and time.monotonic() < end:
-            time.sleep(0.01)
-
-    def line_soon(self, wanted):
-        """Whether the log has this event before long, while the connection is up."""
-        end = time.monotonic() + SOON
-        while time.monotonic() < end:
-            if wanted in events(self.read.decode()):
-                return True
-            if select.select([self.run.stdout], [], [], 0.1)[0]:
-                octets = os.read(self.run.stdout.fileno(), 65536)
-                if not octets:
-                    return False
-                self.read += octets
-        return False
-
-    def ended(self):
-        """The status, the log and what is told on standard error."""
-        try:
-            log, told = self.run.communicate(timeout=SOON)
-        except subprocess.TimeoutExpired:
-            self.run.kill()
-            log, told = self.run.communicate()
-            told += b"(it didn't end)"
-        log = None if log is None else (self.read + log).decode()
-        return self.run.returncode, log, told.decode()
-
-    def killed(self, number):
-        self.run.send_signal(number)
-        return self.ended()
-
-    @staticmethod
-    def stop_all():
-        """Ends what still runs of all that were started."""
-        for run in Serving.started:
-            if run.poll() is None:
-                run.kill()
-                run.wait()
-        Serving.started.clear()
-
-
-class Peer:
-    """The other end of a connection, as plain a socket as can be."""
-
-    def __init__(self, stream):
-        self.stream = stream
-        stream.settimeout(SOON)
-        stream.setsockopt(socket.IPPROTO_TCP, socket.TCP_NODELAY, 1)
-
-    @staticmethod
-    def connected(port):
-        end = time.monotonic() + SOON
-        while True:
-            try:
-                return Peer(socket.create_connection((HERE, port), SOON))
-            except ConnectionRefusedError:
-                if time.monotonic() > end:
-                    raise
-                time.sleep(0.01)
-
-    def send(self, *messages):
-        for octets in messages:
-            self.stream.sendall(octets)
-
-    def send_singly(self, octets):
-        for octet in octets:
-            self.stream.sendall(bytes([octet]))
-
-    def exactly(self, count):
-        octets = b""
-        while len(octets) < count:
-            part = self.stream.recv(count - len(octets))
-            if not part:
-                raise AssertionError(f"closed after {octets.hex()}")
-            octets += part
-        return octets
-
-    def message(self):
-        length = self.exactly(4)
-        return length + self.exactly(struct.unpack(">I", length)[0])
-
-    def rest(self):
-        """What comes until the other end sends no more. Then the peer closes too, for which the other end waits."""
-        octets = b""
-        while True:
-            part = self.stream.recv(65536)
-            if not part:
-                self.close()
-                return octets
-            octets += part
-
-    def wants(self, *messages):
-        for wanted in messages:
-            same(self.message().hex(), wanted.hex())
-
-    def close(self):
-        self.stream.close()
-
-    def reset(self):
-        self.stream.setsockopt(socket.SOL_SOCKET, socket.SO_LINGER, struct.pack("ii", 1, 0))
-        self.stream.close()
-
-
-class Listening:
-    """A peer that is connected to."""
-
-    def __init__(self):
-        self.listener = socket.socket()
-        self.listener.settimeout(SOON)
-        self.listener.bind((HERE, 0))
-        self.listener.listen()
-        self.port = self.listener.getsockname()[1]
-
-    def accepted(self):
-        peer = self.next_one()
-        self.listener.close()
-        return peer
-
-    def next_one(self):
-        """The next peer; more may follow."""
-        return Peer(self.listener.accept()[0])
-
-    def nobody_comes(self):
-        self.listener.settimeout(A_WHILE)
-        try:
-            self.listener.accept()
-        except (TimeoutError, socket.timeout):
-            return True
-        finally:
-            self.listener.close()
-        return False
-
-
-def same(told, wanted):
-    if told != wanted:
-        raise AssertionError(f"wanted {wanted!r}, told {told!r}")
-
-
-def in_time(passed, least, most):
-    """That so many milliseconds passed, at least and less than."""
-    if passed < least:
-        raise AssertionError(f"{passed} ms passed, {least} had to")
-    if passed >= most:
-        raise AssertionError(f"{passed} ms passed, {most} were too many")
-
-
-def events(log):
-    """The lines of a log behind the first, without their times."""
-    return [re.sub(r"^\d+ ", "", line) for line in log.split("\n")[1:] if line]
-
-
-def times(log):
-    return [int(line.split(" ")[0]) for line in log.split("\n")[1:] if line]
-
-
-def audited(log):
-    return subprocess.run([PROGRAM, "audit"], input=log.encode(), stdout=subprocess.PIPE, timeout=SOON).stdout.decode()
-
-
-def passes(log):
-    told = audited(log)
-    if not told.startswith("pass "):
-        raise AssertionError(f"{told!r} of {log!r}")
-
-
-def served(serving, wanted):
-    """The connection was served to its end, with this log."""
-    status, log, told = serving.ended()
-    same((status, told), (0, ""))
-    same(events(log), wanted)
-    passes(log)
-    return log
-
-
-def stopped(serving, word, wanted):
-    """The connection was not served to its end, and the log holds what came before."""
-    status, log, told = serving.ended()
-    same((status, told), (3, f"hsms: {word}\n"))
-    same(events(log), wanted)
-    passes(log)
-
-
-def refused(serving, status, words):
-    same(serving.ended(), (status, "", f"hsms: {words}\n"))
-
-
-def equipment(*options, **others):
-    """An equipment that listens, and its peer."""
-    port = free_port()
-    serving = Serving("equipment", "passive", port, *options, **others)
-    return serving, Peer.connected(port)
+PROGRAM = Serving.program = program_given()
 
 
 # ---- sessions
-
-EQUIPMENT_LOG = [
-    "up",
-    "< ffff0000000100000001",
-    "> ffff0000000200000001",
-    "< ffff0000000500000002",
-    "> ffff0000000600000002",
-    "< ffff0000000900000003",
-    "down",
-]
-
-HOST_LOG = ["up", "> ffff0000000100000001", "< ffff0000000200000001", "> ffff0000000900000002", "down"]
-
 
 def equipment_is_selected_tested_and_separated():
     serving, peer = equipment()
@@ -349,9 +61,6 @@ def host_selects_and_separates():
     same(peer.rest(), SELECT + control(9, 2))
     log = served(serving, HOST_LOG)
     same(audited(log), PASSED.format(5, 2, 1, 0, 0, 0))
-
-
-SCRIPT = b'S1F13 W <L> .\nS1F1 W .\nS2F25 W <B 0x01 0x02> .\nS1F2 .\nS6F11 W <L <A "AB">> .\n'
 
 
 def two_processes():
@@ -597,7 +306,7 @@ def random_talks_are_tested_as_a_second_reading_does():
     for number in range(12):
         chance = Chance(f"linktest {number}")
         pause = chance.one(30, 60, 100)
-        replies = talks.random_replies(chance)
+        replies = conversations.random_replies(chance)
         script = "\n".join(map(printed, replies)).encode()
         options = ["--answer", "--linktest", str(pause), "--t6", "150", "--mdln", "M", "--softrev", "1"]
         serving, peer = equipment(*options, script=script, send=False)
@@ -625,7 +334,7 @@ class Chatter:
         try:
             for system in range(100, 112):
                 self.listen(self.chance.one(0, 0.02, 0.05, 0.12))
-                stream, function = self.chance.choice(talks.NAMES_OF_DATA)
+                stream, function = self.chance.choice(conversations.NAMES_OF_DATA)
                 asks = data(stream, function, system, wait=self.chance.happens(0.7))
                 self.peer.send(self.chance.one(asks, control(5, system)))
             self.listen(self.chance.one(0, 0.3))
@@ -823,10 +532,10 @@ def random_replies_are_those_of_a_second_reading():
     """Random primaries to an equipment with a random script: its log is the one that a second reading writes."""
     for number in range(40):
         chance = Chance(f"script {number}")
-        replies = talks.random_replies(chance)
+        replies = conversations.random_replies(chance)
         octets = SELECT
         for system in range(100, 120):
-            stream, function = chance.choice(talks.NAMES_OF_DATA)
+            stream, function = chance.choice(conversations.NAMES_OF_DATA)
             text = encode(random_item(chance, 2)) if chance.happens(0.5) else b""
             # (a longer one's line fills the pipe of the log, which is read at last)
             text = text if len(text) <= 1000 else b""

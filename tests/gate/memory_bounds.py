@@ -8,6 +8,7 @@ primaries are answered.
 Counted is what the command asks for, whether it uses it or not. It runs what `rt ci` has built. The last line is
 `N passed, M failed`.
 """
+import os
 import re
 import struct
 import sys
@@ -15,12 +16,13 @@ import tempfile
 from dataclasses import dataclass
 
 sys.dont_write_bytecode = True
+sys.path.insert(0, os.path.abspath(f"{__file__}/../../.."))
 
-from command import DRIVER, PROGRAM, Answer, answer_of, refuser
-from second_reading.lists import Answering, Listed
-from second_reading.session import Settings
-from second_reading.talks import Maker, Told
-from worked import ENTRIES, message, octets, refused
+from tests.support.command import DRIVER, PROGRAM, Answer, answer_of, call_failer
+from tests.support.reference.conversations import Maker, Told
+from tests.support.reference.endpoint_inputs import Answering, Listed
+from tests.support.reference.session import Settings
+from tests.support.worked_examples import ENTRIES, message, octets, refused
 
 # How much more an input may take than one that claims nothing, in octets.
 MORE = 65_536
@@ -117,7 +119,7 @@ def claims():
 class Measure:
     def __init__(self, room):
         self.held = f"{room}/held"
-        self.env = {"LD_PRELOAD": refuser(room), "HELD": self.held}
+        self.env = {"LD_PRELOAD": call_failer(room), "HELD": self.held}
 
     def most(self, claim, given):
         """What the program of a claim answers, and the most octets that it held."""

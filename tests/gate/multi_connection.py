@@ -10,16 +10,18 @@ counts, but for `waiting`, which is that of the last part.
 It runs what `rt ci` has built, and knows no rule of a session. The last lines tell of how many connections the logs
 were, and how many verdicts differ; the status is 1 where one differs, or where no log of three connections passed.
 """
+import os
 import re
 import sys
 from collections import Counter
 from concurrent.futures import ThreadPoolExecutor
 
 sys.dont_write_bytecode = True
+sys.path.insert(0, os.path.abspath(f"{__file__}/../../.."))
 
-from command import LONGEST_SHOWN, answer_of
-from second_reading import walks
-from second_reading.inputs import Chance
+from tests.support.command import LONGEST_SHOWN, answer_of
+from tests.support.reference import random_logs
+from tests.support.reference.random_messages import Chance
 
 WORKERS = 2
 CONNECTION = re.compile(rb"(0|[1-9][0-9]{0,19}) (up|down)\r?")
@@ -30,7 +32,7 @@ def log_of_several(seed):
     """The first log of version 2 that this seed gives."""
     chance = Chance(seed)
     while True:
-        log = walks.random_log(chance)
+        log = random_logs.random_log(chance)
         if log.startswith(b"hsms-log 2 "):
             return log
 

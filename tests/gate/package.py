@@ -19,10 +19,10 @@ import sys
 import tempfile
 
 sys.dont_write_bytecode = True
+sys.path.insert(0, os.path.abspath(f"{__file__}/../../.."))
 
-from command import PROGRAM, TOP
-from links import LINK
-from transcripts import commands
+from tests.support.command import PROGRAM, TOP
+from tests.support.documents import LINK, commands
 
 # What the commands of the pages call besides.
 SHELL = "sh cat head tail sed sleep cut tr sort uniq grep wc awk printf seq env od".split()

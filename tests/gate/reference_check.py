@@ -12,17 +12,18 @@ The last two lines tell how many logs of talks don't pass so, and how many answe
 difference is written in hexadecimal, with both answers. The status is 1 where an answer differs, or where the inputs
 didn't reach each rule and each fault, and the talks each thing that an end does.
 """
+import os
 import sys
 from concurrent.futures import ThreadPoolExecutor
 from typing import List, Tuple
 
-# The modules below leave no compiled files in the repository.
 sys.dont_write_bytecode = True
+sys.path.insert(0, os.path.abspath(f"{__file__}/../../.."))
 
-from command import LONGEST_SHOWN, Answer, answer_of
-from second_reading import corners, ends, inputs, messages, session, talks, walks
-from second_reading.cases import CAPITALS, DEEP, SEVERAL, TOO_DEEP, Case, audit_case, encode_case, show_case
-from second_reading.inputs import Chance
+from tests.support.command import LONGEST_SHOWN, Answer, answer_of
+from tests.support.reference import conversations, edge_cases, ends, messages, random_logs, random_messages, session
+from tests.support.reference.cases import CAPITALS, DEEP, SEVERAL, TOO_DEEP, Case, audit_case, encode_case, show_case
+from tests.support.reference.random_messages import Chance
 
 WORKERS = 2
 
@@ -35,7 +36,7 @@ TO_REACH = {
         *[what + several for what in VERDICTS for several in ("", f", {SEVERAL}")],
         *[f"! {rule}" for rule, _ in session.RULES_OF_FRAMES],
         *[DEEP, TOO_DEEP, CAPITALS],
-        *corners.TO_REACH,
+        *edge_cases.TO_REACH,
     ],
     "show": [
         *["no fault", "TooShort", "TooLong", "CutOff", "NoHex", "NoMessage"],
@@ -43,14 +44,14 @@ TO_REACH = {
         *[f"text {fault}" for fault in ("NoLength", "Format", "Deep", "Truncated", "Ragged", "Trailing")],
     ],
     "encode": ["no fault", "Input", "Syntax", "Number", "Count", "Deep", "TooLarge", "TooLong"],
-    "talk": talks.TO_REACH,
+    "talk": conversations.TO_REACH,
 }
 
 
 def talk_cases(seed: str) -> List[Case]:
     """The logs of both ends of a talk, and what each end did."""
     cases = []
-    for end, reached in talks.talk(seed):
+    for end, reached in conversations.talk(seed):
         passes = session.summary(end.settings, end.log.entries)
         cases.append(Case(["audit"], ends.log_of(end), Answer(0, passes.encode() + b"\n", b""), reached))
     return cases
@@ -64,8 +65,8 @@ class Plan:
     """The cases to be made: of each command those at edges, then others by chance, each with a seed of its own."""
 
     def __init__(self, count: int, seed: str):
-        self.logs = walks.logs_at_edges() + corners.logs()
-        self.notations = inputs.notations_at_edges()
+        self.logs = random_logs.logs_at_edges() + edge_cases.logs()
+        self.notations = random_messages.notations_at_edges()
         encodes = count // 2 + len(self.notations)
         self.counts = {"audit": count + len(self.logs), "show": count // 4, "encode": encodes}
         self.talks = count // 16
@@ -78,11 +79,11 @@ class Plan:
     def case(self, command: str, number: int) -> Case:
         chance = Chance(f"{self.seed} {command} {number}")
         if command == "audit":
-            return audit_case(self.logs[number] if number < len(self.logs) else walks.random_log(chance))
+            return audit_case(self.logs[number] if number < len(self.logs) else random_logs.random_log(chance))
         if command == "show":
-            return show_case(*(inputs.random_lines(chance) if number % 3 == 2 else inputs.random_stream(chance)))
+            return show_case(*(random_messages.random_lines(chance) if number % 3 == 2 else random_messages.random_stream(chance)))
         is_at_edge = number < len(self.notations)
-        return encode_case(*(self.notations[number] if is_at_edge else inputs.random_notation(chance)))
+        return encode_case(*(self.notations[number] if is_at_edge else random_messages.random_notation(chance)))
 
     def compared(self, command_and_number: Tuple[str, int]) -> Compared:
         case = self.case(*command_and_number)

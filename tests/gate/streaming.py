@@ -15,12 +15,12 @@ import time
 
 # The module below leaves no compiled file in the repository.
 sys.dont_write_bytecode = True
+sys.path.insert(0, os.path.abspath(f"{__file__}/../../.."))
 
-from held import is_held
-from made_captures import ACTIVE, SELECT, Capture, Talk
+from tests.support.command import PROGRAM
+from tests.support.pcap_writer import ACTIVE, SELECT, Capture, Talk
+from tests.support.retry import is_held
 
-TOP = os.path.dirname(os.path.dirname(os.path.abspath(__file__)))
-PROGRAM = f"{TOP}/crates/hsms_tool/out/hsms_tool"
 
 # How long a verdict may take that has to come, and how long one is waited for that must not, in seconds.
 SOON = 30

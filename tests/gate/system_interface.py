@@ -21,14 +21,16 @@ import tempfile
 import time
 
 sys.dont_write_bytecode = True
+sys.path.insert(0, os.path.abspath(f"{__file__}/../../.."))
 
-from command import TOP, Answer, answer_of, refuser
-from held import is_held
-from loopback import (
-    EQUIPMENT_LOG, HERE, HOST_LOG, PROGRAM, SELECT, SELECTED, SOON, Listening, Peer, Serving, control, data, equipment,
+from tests.support.command import TOP, Answer, answer_of, call_failer, program_given
+from tests.support.retry import is_held
+from tests.support.serve_peers import (
+    EQUIPMENT_LOG, HERE, HOST_LOG, SELECT, SELECTED, SOON, Listening, Peer, Serving, control, data, equipment,
     events, free_port, passes, same, served, times,
 )
 
+PROGRAM = Serving.program = program_given()
 NO_COMMAND = Answer(2, b"", b"hsms: command line\n")
 NO_WRITE = (3, b"hsms: Write\n")
 NO_LINK = (3, "hsms: Link\n")
@@ -816,7 +818,7 @@ SOURCES = [
 ]
 NO_SOURCES = [
     "README.md",
-    "tests/seams.py",
+    "tests/gate/system_interface.py",
     "tests/must-fail/low/one.edit",
     "crates/low/must-fail/one.edit",
     "crates/low/proofs/function/Answers.antt",
@@ -838,7 +840,8 @@ class Script:
                 file.write({"bin/rt": STUB, "crates.txt": CRATES}.get(name, ""))
             self.change(name)
         os.chmod(f"{room}/bin/rt", 0o755)
-        for name in ["hsms", "build", "tests/rooms.py"]:
+        os.makedirs(f"{room}/tests/support")
+        for name in ["hsms", "build", "tests/__init__.py", "tests/support/__init__.py", "tests/support/build_dirs.py"]:
             shutil.copy(f"{TOP}/{name}", f"{room}/{name}")
 
     def change(self, name):
@@ -994,7 +997,7 @@ TESTS_WITH_LIBRARY = [
 
 def main():
     with tempfile.TemporaryDirectory(prefix="hsms-seams-") as room:
-        library = refuser(room)
+        library = call_failer(room)
         tests = [(test,) for test in TESTS] + [(test, library) for test in TESTS_WITH_LIBRARY]
         passed = [is_held(test[0].__name__, *test, after=Serving.stop_all) for test in tests]
     print(f"{passed.count(True)} passed, {passed.count(False)} failed")

@@ -13,20 +13,15 @@ import re
 import subprocess
 import sys
 
-TOP = os.path.dirname(os.path.dirname(os.path.abspath(__file__)))
-BLOCK = re.compile(r"^```console\n(.*?)^```$", re.M | re.S)
-COMMAND = re.compile(r"((?:.*\\\n)*.*)\n?([\s\S]*)")
+sys.dont_write_bytecode = True
+sys.path.insert(0, os.path.abspath(f"{__file__}/../../.."))
+
+from tests.support.command import TOP
+from tests.support.documents import commands
+
 SETTINGS = re.compile(r"^```\n(hsms-log .*\n)```$", re.M)
 RULE = re.compile(r"^## \d+\. `(\w+)`\n(?:(?!^## ).*\n)*?```\n((?:.*\n)*?)```\n\n`(fail .*)`$", re.M)
 RULES = 19
-
-
-def commands(text):
-    """Yields each command of a document, and what it is said to write."""
-    for block in BLOCK.findall(text):
-        for part in re.split(r"^\$ ", block, flags=re.M)[1:]:
-            command, wanted = COMMAND.fullmatch(part).groups()
-            yield command, wanted.rstrip("\n")
 
 
 def catalogue(text):

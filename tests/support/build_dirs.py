@@ -10,7 +10,7 @@ import shutil
 import subprocess
 import sys
 
-TOP = os.path.dirname(os.path.dirname(os.path.abspath(__file__)))
+TOP = os.path.abspath(f"{__file__}/../../..")
 
 # What the check of a crate takes of memory at most, in KB.
 MEMORY = 3 << 20

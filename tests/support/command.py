@@ -1,24 +1,25 @@
-"""The programs that `rt ci` has built, and what they answer."""
+"""The programs that `rt ci` has built, and their answers."""
 import os
 import subprocess
+import sys
 from dataclasses import dataclass
 
-TOP = os.path.dirname(os.path.dirname(os.path.abspath(__file__)))
+TOP = os.path.abspath(f"{__file__}/../../..")
 PROGRAM = f"{TOP}/crates/hsms_tool/out/hsms_tool"
 
-# The program that tells ends lists.
+# The program that feeds input lists to endpoints.
 DRIVER = f"{TOP}/crates/hsms_ends_driver/out/hsms_ends_driver"
 
-# How much of an answer is shown, in octets.
+# The maximum size of a printed answer, in bytes.
 LONGEST_SHOWN = 100_000
 
-# How long a run may take, in seconds.
+# The maximum time of a run, in seconds.
 LONGEST_RUN = 120
 
 
 @dataclass(frozen=True)
 class Answer:
-    """How a run of the command ends and what it writes."""
+    """The status and the output of a run."""
 
     status: int
     output: bytes
@@ -29,13 +30,18 @@ class Answer:
 
 
 def answer_of(words, given: bytes, program=PROGRAM, **how) -> Answer:
-    """What the command answers, or another program."""
+    """Runs the command, or another program, and returns its answer."""
     ran = subprocess.run([program, *words], input=given, capture_output=True, timeout=LONGEST_RUN, **how)
     return Answer(ran.returncode, ran.stdout, ran.stderr)
 
 
-def refuser(room: str) -> str:
-    """Builds refuse.c in a folder, for LD_PRELOAD."""
-    library = f"{room}/refuse.so"
-    subprocess.run(["cc", "-shared", "-fPIC", "-O1", "-o", library, f"{TOP}/tests/refuse.c"], check=True)
+def program_given() -> str:
+    """Returns the program that the first argument names, or the built one."""
+    return sys.argv[1] if len(sys.argv) > 1 else PROGRAM
+
+
+def call_failer(room: str) -> str:
+    """Builds fail_calls.c in a folder, for LD_PRELOAD."""
+    library = f"{room}/fail_calls.so"
+    subprocess.run(["cc", "-shared", "-fPIC", "-O1", "-o", library, f"{TOP}/tests/support/fail_calls.c"], check=True)
     return library

@@ -7,7 +7,7 @@ environment has each test held once alone.
 import os
 import subprocess
 
-from second_reading.serving import Amiss
+from tests.support.reference.linktest import Amiss
 
 HELD_AT_MOST = int(os.environ.get("HELD", "3"))
 FAULTS = AssertionError, Amiss, OSError, subprocess.TimeoutExpired, ValueError

@@ -8,10 +8,10 @@ import random
 from dataclasses import dataclass, field, replace
 from typing import List, Optional, Tuple
 
-from made_captures import (
+from tests.support.pcap_writer import (
     ACK, ACTIVE, BEGIN, FIN, MORE_FORMS, MORE_LINKS, PASSIVE, PUSH, RST, SELECT, SYN, Capture, message, pieces,
 )
-from second_reading.capturing import Options
+from tests.support.reference.capture_audit import Options
 
 NUMBERS = 1 << 32
 

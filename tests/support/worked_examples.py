@@ -5,7 +5,7 @@ What stands here wasn't taken from an answer of the command.
 from dataclasses import dataclass
 from typing import List, Tuple
 
-from command import Answer
+from tests.support.command import Answer
 
 
 @dataclass(frozen=True)

@@ -21,7 +21,11 @@ import sys
 from collections import namedtuple
 from dataclasses import dataclass, field
 
-TOP = os.path.dirname(os.path.dirname(os.path.abspath(__file__)))
+sys.dont_write_bytecode = True
+sys.path.insert(0, os.path.abspath(f"{__file__}/../../.."))
+
+from tests.support.command import TOP
+
 PAGE = f"{TOP}/docs/PROVED.md"
 ROW = re.compile(r"^\| `(\w+::[\w:]+)` \| (\d+) \| (\d+) \| ?(.*?) ?\|$", re.M)
 

@@ -27,14 +27,14 @@ from dataclasses import dataclass, replace
 from itertools import count
 from typing import BinaryIO, Callable, Dict, Iterator, List, Tuple
 
-# The modules below leave no compiled files in the repository.
 sys.dont_write_bytecode = True
+sys.path.insert(0, os.path.abspath(f"{__file__}/../../.."))
 
-import made_sessions
-from command import LONGEST_SHOWN, PROGRAM, TOP, Answer
-from second_reading import capturing, damage, inputs, messages, session, walks
-from second_reading.cases import ended, words_of
-from second_reading.inputs import Chance, disturbed
+from tests.support import session_generator
+from tests.support.command import LONGEST_SHOWN, PROGRAM, TOP, Answer
+from tests.support.reference import capture_audit, corruption, messages, random_logs, random_messages, session
+from tests.support.reference.cases import ended, words_of
+from tests.support.reference.random_messages import Chance, disturbed
 
 # How many inputs are made of one, it among them, and the longest of which others are made, in octets.
 BRANCHES = 24
@@ -124,7 +124,7 @@ def another_text_of_frame(chance: Chance, log: bytes) -> bytes:
     if not found:
         return log
     text = bytes.fromhex(found[2].decode())
-    text = inputs.random_text(chance, chance.one(1, 2, 3), chance.one(256, 1000)) if chance.happens(0.5) else disturbed(
+    text = random_messages.random_text(chance, chance.one(1, 2, 3), chance.one(256, 1000)) if chance.happens(0.5) else disturbed(
         chance, text)
     return replaced(log, found, found[1] + text.hex().encode())
 
@@ -183,15 +183,15 @@ def within_a_line(chance: Chance, log: bytes) -> bytes:
     """A line of which a word, a space or an octet is another one."""
     lines = log.split(b"\n")
     at = chance.place(lines)
-    lines[at] = walks.odd_line(chance, lines[at])
+    lines[at] = random_logs.odd_line(chance, lines[at])
     return b"\n".join(lines)
 
 
 OF_LOGS: List[Damage] = [
     *[lines_moved] * 8, *[other_time] * 4, *[later_from_a_line] * 8, *[other_mark] * 4, *[other_octet_of_header] * 8,
     *[header_of_another] * 6, *[another_text_of_frame] * 4, *[other_setting] * 3, *[one_more_line] * 4, within_a_line,
-    damage.reconnect, damage.other_version, damage.other_digit, damage.other_digit, damage.claim_in_words, damage.cut,
-    damage.flip, damage.repeat, damage.leave_out, damage.mix, damage.fill,
+    corruption.reconnect, corruption.other_version, corruption.other_digit, corruption.other_digit, corruption.claim_in_words, corruption.cut,
+    corruption.flip, corruption.repeat, corruption.leave_out, corruption.mix, corruption.fill,
 ]
 
 
@@ -241,13 +241,13 @@ def blanks(chance: Chance, text: bytes) -> bytes:
 
 
 OF_STREAMS: List[Damage] = [
-    *[messages_moved] * 4, *[within_a_message] * 10, *[another_text] * 8, damage.claim_of_message, damage.claim,
-    disturbed, damage.flip, damage.cut, damage.repeat, damage.leave_out, damage.mix, damage.fill,
+    *[messages_moved] * 4, *[within_a_message] * 10, *[another_text] * 8, corruption.claim_of_message, corruption.claim,
+    disturbed, corruption.flip, corruption.cut, corruption.repeat, corruption.leave_out, corruption.mix, corruption.fill,
 ]
 
 OF_DIGITS: List[Damage] = [
-    *[lines_moved] * 3, *[damage.other_digit] * 8, blanks, blanks, disturbed, damage.flip, damage.cut, damage.repeat,
-    damage.leave_out, damage.mix, damage.fill,
+    *[lines_moved] * 3, *[corruption.other_digit] * 8, blanks, blanks, disturbed, corruption.flip, corruption.cut, corruption.repeat,
+    corruption.leave_out, corruption.mix, corruption.fill,
 ]
 
 TOKENS = re.compile(rb'"[^"]*"|[A-Za-z0-9-]+|[ \t\r\n]+|.', re.S)
@@ -268,8 +268,8 @@ def another_word(chance: Chance, text: bytes) -> bytes:
     if not solid:
         return text
     at, other = chance.choice(solid), chance.choice(solid)
-    odd = chance.choice(inputs.ODD_WORDS)
-    words[at] = chance.one(odd, words[other], inputs.near_edge(chance), words[at] + b" " + words[at])
+    odd = chance.choice(random_messages.ODD_WORDS)
+    words[at] = chance.one(odd, words[other], random_messages.near_edge(chance), words[at] + b" " + words[at])
     return b"".join(words)
 
 
@@ -302,8 +302,8 @@ def other_quoted(chance: Chance, text: bytes) -> bytes:
 
 OF_NOTATION: List[Damage] = [
     *[words_moved] * 3, *[another_word] * 3, *[another_number] * 6, *[other_white_space] * 6, *[more_values] * 4,
-    *[other_quoted] * 4, *[damage.other_digit] * 3, damage.claim_in_words, disturbed, disturbed, damage.cut,
-    damage.flip, damage.repeat, damage.leave_out, damage.mix, damage.fill,
+    *[other_quoted] * 4, *[corruption.other_digit] * 3, corruption.claim_in_words, disturbed, disturbed, corruption.cut,
+    corruption.flip, corruption.repeat, corruption.leave_out, corruption.mix, corruption.fill,
 ]
 
 
@@ -348,7 +348,7 @@ def put_in(chance: Chance, octets: bytes) -> bytes:
 
 
 OF_CAPTURES: List[Damage] = [
-    *[packets_moved] * 6, *[within_a_packet] * 8, damage.flip, damage.claim, damage.cut, damage.leave_out, put_in,
+    *[packets_moved] * 6, *[within_a_packet] * 8, corruption.flip, corruption.claim, corruption.cut, corruption.leave_out, put_in,
 ]
 
 
@@ -366,7 +366,7 @@ class Many:
 
 
 def audits(chance: Chance) -> Iterator[Many]:
-    for log in branches(chance, "audit", walks.random_log(chance), OF_LOGS):
+    for log in branches(chance, "audit", random_logs.random_log(chance), OF_LOGS):
         verdict = session.audit(log).verdict
         passes = verdict.startswith("pass")
         answer = Answer(0 if passes else 1, verdict.encode() + b"\n", b"")
@@ -381,7 +381,7 @@ def other_limits(chance: Chance, options: messages.Options) -> messages.Options:
 
 def shows(chance: Chance) -> Iterator[Many]:
     in_digits = chance.happens(0.4)
-    stream, options = inputs.random_lines(chance) if in_digits else inputs.random_stream(chance)
+    stream, options = random_messages.random_lines(chance) if in_digits else random_messages.random_stream(chance)
     for given in branches(chance, "show", stream, OF_DIGITS if in_digits else OF_STREAMS):
         options = other_limits(chance, options)
         output, fault = messages.show(given, options)
@@ -391,7 +391,7 @@ def shows(chance: Chance) -> Iterator[Many]:
 
 
 def encodes(chance: Chance) -> Iterator[Many]:
-    text, options = inputs.random_notation(chance)
+    text, options = random_messages.random_notation(chance)
     if messages.encode(text, options)[1] and chance.happens(0.7):
         return  # most inputs are made of one without a fault
     for given in branches(chance, "encode", text, OF_NOTATION):
@@ -401,11 +401,11 @@ def encodes(chance: Chance) -> Iterator[Many]:
 
 
 def captures(chance: Chance) -> Iterator[Many]:
-    made = made_sessions.made(str(chance.random()))
+    made = session_generator.made(str(chance.random()))
     for given in branches(chance, "capture", bytes(made.octets), OF_CAPTURES):
         peer = chance.one("10.0.0.1", "10.0.0.2", "10.0.0.4", "fe80::1") if chance.happens(0.1) else None
         options = replace(made.options, log=chance.one(None, None, "host", "equipment"), with_=peer)
-        read = capturing.capture(given, options)
+        read = capture_audit.capture(given, options)
         told = "log" if options.log else "a failure" if read.status == 1 else "no failure" if read.lines else "nothing"
         fault = read.fault.split(" packet=")[0].split(" octet=")[0] if read.fault else "no fault"
         answer = Answer(read.status, read.output, read.error)
@@ -503,7 +503,7 @@ def main() -> int:
     told = given()
     with tempfile.TemporaryDirectory(prefix="hsms-many-") as room:
         runner, found = f"{room}/many.so", f"{room}/differing"
-        subprocess.run(["cc", "-shared", "-fPIC", "-O2", "-o", runner, f"{TOP}/tests/many.c", "-ldl"], check=True)
+        subprocess.run(["cc", "-shared", "-fPIC", "-O2", "-o", runner, f"{TOP}/tests/tools/bulk_runner.c", "-ldl"], check=True)
         with open(found, "wb") as output:
             running = subprocess.Popen(
                 [told.program], stdin=subprocess.PIPE, stdout=output, stderr=subprocess.PIPE, bufsize=1 << 20,

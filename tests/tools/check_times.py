@@ -10,8 +10,9 @@ import sys
 from collections import Counter
 
 sys.dont_write_bytecode = True
+sys.path.insert(0, os.path.abspath(f"{__file__}/../../.."))
 
-from rooms import TOP
+from tests.support.command import TOP
 
 # How a kept file is named: by its library, the path of the function, and what it is of the function's proof.
 KEPT = re.compile(r"Rattle-\w+-(?:proofs|specs)\.(.*)\.(\w[\w+-]*)\.oantt$")

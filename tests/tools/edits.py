@@ -55,8 +55,9 @@ from contextlib import contextmanager
 from dataclasses import dataclass
 
 sys.dont_write_bytecode = True
+sys.path.insert(0, os.path.abspath(f"{__file__}/../../.."))
 
-from rooms import READ, TOP, crates_below, crates_listed, link, mark_as_built, processors, room_for, words_of_check
+from tests.support.build_dirs import READ, TOP, crates_below, crates_listed, link, mark_as_built, processors, room_for, words_of_check
 
 EDITS = f"{TOP}/tests/must-fail"
 TWINS = f"{TOP}/tests/twins"

@@ -8,8 +8,12 @@ import os
 import re
 import sys
 
-TOP = os.path.dirname(os.path.dirname(os.path.abspath(__file__)))
-LINK = re.compile(r"\]\(([^)\s]+)\)")
+sys.dont_write_bytecode = True
+sys.path.insert(0, os.path.abspath(f"{__file__}/../../.."))
+
+from tests.support.command import TOP
+from tests.support.documents import LINK
+
 PATH = re.compile(r"`((?:bench|contrib|crates|docs|examples|tests|hsms_\w+|secs_\w+)/[\w./-]+)`")
 LEFT_OUT = re.compile(r"\b(?:CRATE|NAME|MODULE)\b|/out/|/build\.log$")
 HEADING = re.compile(r"^#+ (.*)$", re.M)

@@ -5,7 +5,7 @@ Use: tests/turned.py [--workers N] [--share N] [MODULE[:LINE]..]. A definition t
 code is wrong with it. What stands against that is the second reading, so far as its inputs reach what was turned. Here
 the reading itself is turned: a definition and a code that were both turned so would answer as it does, and the gate
 would notice where it answers one of the gate's inputs otherwise. Without words each module of the reading is turned
-(items, messages, notation, session, ends, serving). SHARE is the part of the gate's random inputs that are asked, a
+(items, messages, notation, session, ends, linktest). SHARE is the part of the gate's random inputs that are asked, a
 tenth if left out; those at edges, corners and in tables are asked all. What the gate asks of `--linktest` is as the
 clock had it, so logs of ends stand for it here, of which every second one has a test too soon or too late.
 
@@ -32,9 +32,11 @@ from concurrent.futures import ThreadPoolExecutor
 from typing import Callable, Iterator, List, Tuple
 
 sys.dont_write_bytecode = True
+sys.path.insert(0, os.path.abspath(f"{__file__}/../../.."))
 
-HERE = os.path.dirname(os.path.abspath(__file__))
-PACKAGE = "second_reading"
+from tests.support.command import TOP
+
+PACKAGE = "tests.support.reference"
 
 # The modules that are turned, each with the kinds of inputs that speak of it, the likeliest first.
 KINDS_OF = {
@@ -43,7 +45,7 @@ KINDS_OF = {
     "notation": ["encode", "show", "driven"],
     "session": ["audit", "driven"],
     "ends": ["driven", "tested"],
-    "serving": ["tested"],
+    "linktest": ["tested"],
 }
 
 # How long a turned reading may take over all inputs, in seconds.
@@ -136,7 +138,7 @@ def nodes_of(tree: ast.AST) -> Iterator[ast.AST]:
 
 
 def tree_of(module: str) -> ast.AST:
-    with open(f"{HERE}/{PACKAGE}/{module}.py", encoding="utf-8") as file:
+    with open(f"{TOP}/tests/support/reference/{module}.py", encoding="utf-8") as file:
         return ast.parse(file.read())
 
 
@@ -192,40 +194,45 @@ def answer(kind: str, given) -> object:
     """What the reading answers to an input."""
     if kind == "tested":
         return tested_again(given)
-    messages, session, lists = (importlib.import_module(f"{PACKAGE}.{name}") for name in ("messages", "session", "lists"))
+    messages, session, endpoint_inputs = (
+        importlib.import_module(f"{PACKAGE}.{name}") for name in ("messages", "session", "endpoint_inputs")
+    )
     if kind == "audit":
         return session.audit(given).verdict
     if kind == "driven":
-        return lists.Answering(given).text()
+        return endpoint_inputs.Answering(given).text()
     output, fault = (messages.show if kind == "show" else messages.encode)(*given)
     return output, fault and fault.words()
 
 
 def tested_again(given) -> object:
     """The log that an end writes again which tests its link, or why it can't."""
-    serving, ends = (importlib.import_module(f"{PACKAGE}.{name}") for name in ("serving", "ends"))
+    linktest, ends = (importlib.import_module(f"{PACKAGE}.{name}") for name in ("linktest", "ends"))
     try:
-        return serving.log_again(given.lines, given.settings, ends.equipment_desk(b"M", b"1"), given.pause)
-    except serving.Amiss as amiss:
+        return linktest.log_again(given.lines, given.settings, ends.equipment_desk(b"M", b"1"), given.pause)
+    except linktest.Amiss as amiss:
         return str(amiss)
 
 
 def inputs_of(share: float) -> List[Tuple[str, object, object]]:
     """Each input of the gate: its kind, what is given, and what the reading answers as it stands."""
-    corners, damage, inputs, lists, messages, pauses, tables, walks = (
+    corruption, edge_cases, endpoint_cases, endpoint_inputs, idle_links, messages, random_logs, random_messages = (
         importlib.import_module(f"{PACKAGE}.{name}")
-        for name in ("corners", "damage", "inputs", "lists", "messages", "pauses", "tables", "walks")
+        for name in (
+            "corruption", "edge_cases", "endpoint_cases", "endpoint_inputs", "idle_links", "messages", "random_logs",
+            "random_messages",
+        )
     )
-    made = [("audit", log) for log in corners.logs() + walks.logs_at_edges()]
-    made += [("encode", notation) for notation in inputs.notations_at_edges()]
-    made += [("driven", lists.listed("1", number)) for number in range(len(tables.lists()) + int(3000 * share))]
-    made += [("audit", walks.random_log(inputs.Chance(f"1 audit {at}"))) for at in range(int(4000 * share))]
-    made += [("show", inputs.random_stream(inputs.Chance(f"1 show {at}"))) for at in range(int(4000 * share))]
-    made += [("encode", inputs.random_notation(inputs.Chance(f"1 encode {at}"))) for at in range(int(4000 * share))]
-    made += [("tested", pauses.paused(number)) for number in range(int(4000 * share))]
+    made = [("audit", log) for log in edge_cases.logs() + random_logs.logs_at_edges()]
+    made += [("encode", notation) for notation in random_messages.notations_at_edges()]
+    made += [("driven", endpoint_inputs.listed("1", number)) for number in range(len(endpoint_cases.lists()) + int(3000 * share))]
+    made += [("audit", random_logs.random_log(random_messages.Chance(f"1 audit {at}"))) for at in range(int(4000 * share))]
+    made += [("show", random_messages.random_stream(random_messages.Chance(f"1 show {at}"))) for at in range(int(4000 * share))]
+    made += [("encode", random_messages.random_notation(random_messages.Chance(f"1 encode {at}"))) for at in range(int(4000 * share))]
+    made += [("tested", idle_links.paused(number)) for number in range(int(4000 * share))]
     plain = messages.Options()
     for at in range(int(6000 * share)):
-        case = damage.case("1", at)
+        case = corruption.case("1", at)
         kind = case.words[0]
         if len(case.words) == 1:
             made.append((kind, case.given if kind == "audit" else (case.given, plain)))
@@ -249,7 +256,7 @@ def in_child(work: Callable[[], int]) -> int:
 def first_noticing(path: str, module: str, place: int, number: int, killers: List[int]) -> int:
     """Asks a turned reading, and answers 0 where each input is answered as ever, 1 where one isn't."""
     turned_module(module, place, number)
-    importlib.import_module(f"{PACKAGE}.lists")
+    importlib.import_module(f"{PACKAGE}.endpoint_inputs")
     with open(path, "rb") as file:
         made = pickle.load(file)
     kinds = KINDS_OF[module]

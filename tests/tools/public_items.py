@@ -12,7 +12,11 @@ import os
 import re
 import sys
 
-TOP = os.path.dirname(os.path.dirname(os.path.abspath(__file__)))
+sys.dont_write_bytecode = True
+sys.path.insert(0, os.path.abspath(f"{__file__}/../../.."))
+
+from tests.support.command import TOP
+
 HEAD = "- **Public beyond what was asked for,**"
 
 # What was asked for of each crate: names alone, and of a type or trait its fields, variants and methods.

@@ -6,10 +6,10 @@ from dataclasses import dataclass, field, fields
 from ipaddress import ip_address
 from typing import Dict, List, Optional, Tuple
 
-from second_reading.packets import ACK, FIN, KINDS, PSH, RST, SYN, Packet, Segment, read_file, segment_of
-from second_reading.session import audit
-from second_reading.unjudged import Unjudged
-from second_reading.wire import ACTIVE, LATER, PASSIVE, Happening, Seen, Told, told_of
+from tests.support.reference.packets import ACK, FIN, KINDS, PSH, RST, SYN, Packet, Segment, read_file, segment_of
+from tests.support.reference.session import audit
+from tests.support.reference.tcp import ACTIVE, LATER, PASSIVE, Happening, Seen, Told, told_of
+from tests.support.reference.unaudited import Unjudged
 
 MODULUS = 1 << 32
 

@@ -3,12 +3,12 @@ import re
 from dataclasses import dataclass, fields
 from typing import List, Optional, Set
 
-from command import Answer
-from second_reading import ends, items, messages, session
-from second_reading.corners import A_RULE_OF_FRAMES
-from second_reading.items import Fault
-from second_reading.messages import Frame, Options
-from second_reading.session import OTHER_DIRECTION, Audited, Before, Entry, broken_rules, opens, rule_of_frame
+from tests.support.command import Answer
+from tests.support.reference import ends, items, messages, session
+from tests.support.reference.edge_cases import A_RULE_OF_FRAMES
+from tests.support.reference.items import Fault
+from tests.support.reference.messages import Frame, Options
+from tests.support.reference.session import OTHER_DIRECTION, Audited, Before, Entry, broken_rules, opens, rule_of_frame
 
 RULES_OF_FRAMES = [name for name, _ in session.RULES_OF_FRAMES]
 

@@ -5,11 +5,11 @@ The ends are those of `ends`. Nothing here judges: whether their logs pass, the 
 from dataclasses import dataclass
 from typing import Any, List, Set, Tuple
 
-from second_reading.ends import End, Refused, equipment_desk, host_desk, obliging_desk, scripted_desk
-from second_reading.inputs import Chance, Draft, random_item, random_text
-from second_reading.messages import Frame
-from second_reading.notation import Message
-from second_reading.session import DISCARDED, SENT, TAKEN, Before, Entry, Settings, rule_of_frame
+from tests.support.reference.ends import End, Refused, equipment_desk, host_desk, obliging_desk, scripted_desk
+from tests.support.reference.messages import Frame
+from tests.support.reference.notation import Message
+from tests.support.reference.random_messages import Chance, Draft, random_item, random_text
+from tests.support.reference.session import DISCARDED, SENT, TAKEN, Before, Entry, Settings, rule_of_frame
 
 LIMITS = (256, 256, 300, 1_048_576)
 NAMES_OF_DATA = [

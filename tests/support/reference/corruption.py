@@ -4,21 +4,21 @@ logs also connections that come up twice or go on, and other versions.
 Nothing here judges: what an input is worth, the two readings say.
 """
 import glob
-import os
 import re
 from typing import List, Tuple
 
-from second_reading import inputs, walks
-from second_reading.cases import Case, audit_case, encode_case, show_case
-from second_reading.inputs import Chance
-from second_reading.messages import Options
+from tests.support.command import TOP
+from tests.support.reference import random_logs, random_messages
+from tests.support.reference.cases import Case, audit_case, encode_case, show_case
+from tests.support.reference.messages import Options
+from tests.support.reference.random_messages import Chance
 
-EXAMPLES = os.path.join(os.path.dirname(os.path.abspath(__file__)), "../../examples")
+EXAMPLES = f"{TOP}/examples"
 ENDINGS = {"show": ".bin", "encode": ".txt", "audit": ".log"}
 MAKERS = {
-    "show": lambda chance: inputs.random_stream(chance)[0],
-    "encode": lambda chance: inputs.random_notation(chance)[0],
-    "audit": walks.random_log,
+    "show": lambda chance: random_messages.random_stream(chance)[0],
+    "encode": lambda chance: random_messages.random_notation(chance)[0],
+    "audit": random_logs.random_log,
 }
 COMMANDS = list(ENDINGS)
 

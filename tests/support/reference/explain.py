@@ -8,10 +8,10 @@ from datetime import datetime, timedelta, timezone
 from typing import Any, Dict, List, NamedTuple, Optional, Set, Tuple, Union
 from unicodedata import category
 
-from second_reading import items, messages, reasons, session
-from second_reading.items import Fault
-from second_reading.messages import Frame
-from second_reading.session import DISCARDED, OTHER_DIRECTION, SENT, TAKEN, Before, Entry, Settings, Unreadable
+from tests.support.reference import items, messages, reasons, session
+from tests.support.reference.items import Fault
+from tests.support.reference.messages import Frame
+from tests.support.reference.session import DISCARDED, OTHER_DIRECTION, SENT, TAKEN, Before, Entry, Settings, Unreadable
 
 # The deepest nesting that is told in notation.
 DEEPEST = 100

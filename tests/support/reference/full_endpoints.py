@@ -6,13 +6,13 @@ Nothing here judges: which fault is answered, the two readings say.
 from itertools import combinations
 from typing import List, Tuple
 
-from second_reading.ends import MOST_OWN, End, nesting
-from second_reading.inputs import Chance
-from second_reading.items import BY_NAME, Fault, Item, encode
-from second_reading.messages import HEADER
-from second_reading.notation import Message
-from second_reading.session import Settings
-from second_reading.talks import Maker, Told
+from tests.support.reference.conversations import Maker, Told
+from tests.support.reference.ends import MOST_OWN, End, nesting
+from tests.support.reference.items import BY_NAME, Fault, Item, encode
+from tests.support.reference.messages import HEADER
+from tests.support.reference.notation import Message
+from tests.support.reference.random_messages import Chance
+from tests.support.reference.session import Settings
 
 # The faults of `send`, in the order in which the page on ends has them, and those of `linktest`.
 FAULTS_OF_SEND = ["NotUp", "NotSelected", "NotPrimary", "Nine", "Full", "TooDeep", "TooLong"]

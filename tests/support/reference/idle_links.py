@@ -4,11 +4,11 @@ An end of this reading is told what comes at random moments, and tests its link 
 """
 from typing import List, NamedTuple
 
-from second_reading.ends import End, control, equipment_desk, first_line, frame_of, line_of
-from second_reading.inputs import Chance
-from second_reading.messages import Frame
-from second_reading.serving import LATE
-from second_reading.session import Settings
+from tests.support.reference.ends import End, control, equipment_desk, first_line, frame_of, line_of
+from tests.support.reference.linktest import LATE
+from tests.support.reference.messages import Frame
+from tests.support.reference.random_messages import Chance
+from tests.support.reference.session import Settings
 
 T6 = 150
 

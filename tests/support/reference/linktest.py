@@ -4,9 +4,9 @@ Octets came in whole messages, and nothing was sent by a script.
 """
 from typing import List
 
-from second_reading.ends import Desk, End, first_line, line_of
-from second_reading.messages import Frame
-from second_reading.session import Settings
+from tests.support.reference.ends import Desk, End, first_line, line_of
+from tests.support.reference.messages import Frame
+from tests.support.reference.session import Settings
 
 # How much later than it is due the link may be tested, in milliseconds.
 LATE = 100

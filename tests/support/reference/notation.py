@@ -3,7 +3,7 @@ import re
 from dataclasses import dataclass
 from typing import Any, Iterator, List, NamedTuple, Optional, Tuple
 
-from second_reading.items import BY_NAME, Fault, Format, Item
+from tests.support.reference.items import BY_NAME, Fault, Format, Item
 
 WHITE_SPACE = re.compile(rb"[ \t\r\n]*")
 WORD = re.compile(rb"[A-Za-z0-9-]+")

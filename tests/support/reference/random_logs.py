@@ -5,7 +5,7 @@ Nothing here judges: what a log is worth, the two readings say.
 from dataclasses import dataclass, replace
 from typing import Callable, Iterator, List, Tuple
 
-from second_reading.inputs import Chance, Draft, any_spelling, disturbed, of_length, random_item, random_text
+from tests.support.reference.random_messages import Chance, Draft, any_spelling, disturbed, of_length, random_item, random_text
 
 GREATEST_TIME = (1 << 64) - 1
 SENT, TAKEN, DISCARDED = ">", "<", "!"

@@ -7,8 +7,8 @@ import random
 from dataclasses import dataclass, replace
 from typing import List, Tuple
 
-from second_reading.items import FORMATS, Format, Item, body_of, values_of
-from second_reading.messages import Options
+from tests.support.reference.items import FORMATS, Format, Item, body_of, values_of
+from tests.support.reference.messages import Options
 
 # Octets that mean something somewhere, and all octets.
 OCTETS = (0, 1, 2, 3, 5, 6, 7, 9, 10, 0x20, 0x22, 0x7E, 0x7F, 0x80, 0x81, 0xFF) * 16 + tuple(range(256))

@@ -2,8 +2,8 @@
 import re
 from typing import Callable, List, NamedTuple, Optional, Tuple
 
-from second_reading.inputs import Chance
-from second_reading.session import LIMITS, LONGEST_FIRST_LINE
+from tests.support.reference.random_messages import Chance
+from tests.support.reference.session import LIMITS, LONGEST_FIRST_LINE
 
 SETTINGS = "hsms-log VERSION ROLE LINK DEVICE T3 T6 T7 T8 MAX DEPTH"
 ENTRY = "TIME up, TIME > HEX, TIME < HEX, TIME ! HEX, TIME t3 SYSTEM, TIME cut CAUSE or TIME down"

