@@ -1,7 +1,7 @@
 #!/usr/bin/env python3
 """Refuses each allocation in turn, the first, the second and so on, until a run meets no refusal.
 
-Use: tests/refusals.py [CRATE..]. With names of crates only what these have is run.
+Use: tests/gate/allocation_failures.py [CRATE..]. With names of crates only what these have is run.
 
 This is done to each test of each crate but the long ones, to ends that are told damaged lists, and to the command, on
 worked inputs, on examples and over connections. A test has to end with want of memory where an allocation was
@@ -49,7 +49,7 @@ WANT_OF_MEMORY = re.compile(
     re.M | re.I,
 )
 
-# The calls that refuse.c stands before, and all calls of the C library that hand memory out or call the system.
+# The calls that fail_calls.c stands before, and all calls of the C library that hand memory out or call the system.
 REFUSED = {"malloc", "calloc", "realloc", "memalign", "aligned_alloc", "posix_memalign"}
 TAKING = REFUSED | set(
     "reallocarray valloc pvalloc mmap mmap64 mremap brk sbrk syscall strdup strndup wcsdup asprintf vasprintf "

@@ -7,7 +7,7 @@ pass `hsms audit`. Then sessions of which packets weren't captured, or are captu
 hold the frames up to a loss, pass, and say that something is missing exactly where it is. Then come captures of what
 goes wrong, each with its log, verdict or refusal.
 
-`captures.py` runs what `rt ci` has built. Its last line is `N passed, M failed`. `captures.py --example FILE` writes
+`capture_formats.py` runs what `rt ci` has built. Its last line is `N passed, M failed`. `capture_formats.py --example FILE` writes
 the capture that the documents show.
 """
 import os

@@ -1,7 +1,7 @@
 #!/usr/bin/env python3
 """Compares what `hsms capture --joined` writes of sessions that were running before the capture with a second reading.
 
-Random lawful sessions (made_sessions.py) go over the wire, and the capture lacks all packets up to some packet, or all
+Random lawful sessions (session_generator.py) go over the wire, and the capture lacks all packets up to some packet, or all
 of one direction. Each capture is judged, and written as the log of the host and of the equipment: output, standard
 error and status have to be those of the second reading, octet by octet. No log of a lawful session may fail, and none
 of the messages may be made up or stand in another order. Where no packet is swapped and nothing is told to be missing,
@@ -9,7 +9,7 @@ all is told from some message on. Some captures have sessions of other devices a
 of another device. The smallest captures are read first, in captures/, and each without `--joined`, which shows no
 connection, but a session that was running.
 
-Use: tests/joined.py [SESSIONS] [SEED]. SESSIONS is how many, 1,000 if left out, and SEED is 1. It runs what `rt ci` has
+Use: tests/gate/capture_midstream.py [SESSIONS] [SEED]. SESSIONS is how many, 1,000 if left out, and SEED is 1. It runs what `rt ci` has
 built, or `--program P`; with `--alone` no program, and the second reading is compared with what is known. The last line
 is `N passed, M failed`.
 """

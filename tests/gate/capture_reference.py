@@ -1,14 +1,14 @@
 #!/usr/bin/env python3
 """Compares what `hsms capture` writes of captures with a second reading, and with what is known of them.
 
-Random sessions go over the wire, and the capture repeats, swaps or lacks packets (made_sessions.py). Each capture is
+Random sessions go over the wire, and the capture repeats, swaps or lacks packets (session_generator.py). Each capture is
 judged, and written as the log of the host and of the equipment: output, standard error and status have to be those of
 the second reading, octet by octet. Of what was said nothing may be made up or stand in another order, no lawful session
 may be failed, what is missing has to be told where the capture shows it, and the audit of a log has to give the verdict
 of its connection. Then come captures that are damaged, the smallest capture of each rule of the wire, in captures/, and
 captures and other files of which each answer is written here.
 
-Use: tests/captured.py [CAPTURES] [SEED], or tests/captured.py FILE .. CAPTURES is the number of random captures, 2,000
+Use: tests/gate/capture_reference.py [CAPTURES] [SEED], or tests/gate/capture_reference.py FILE .. CAPTURES is the number of random captures, 2,000
 if left out, and SEED is 1. Files are read with the options of `hsms capture` that are given too. It runs what `rt ci`
 has built, or `--program P`; with `--alone` no program, and the second reading is compared with what is known. The last
 line is `N passed, M failed`.

@@ -1,7 +1,7 @@
 #!/usr/bin/env python3
 """Serves connections to peers and logs that fail at every place in turn, and audits what was logged.
 
-    tests/trouble.py [--minutes N] [--seed N] [--keep FOLDER] [PROGRAM]
+    tests/gate/connection_faults.py [--minutes N] [--seed N] [--keep FOLDER] [PROGRAM]
 
 The peer resets, closes or half-closes the connection after each octet of a session; the log's device is full, or its
 pipe is closed, after each octet of the log; SIGTERM comes at some moment. With --minutes it goes on with random

@@ -1,7 +1,7 @@
 #!/usr/bin/env python3
 """Compares the command with the second reading on damaged inputs.
 
-Use: tests/damaged.py [--count N] [--seed WORD] [--workers N]. Without words there are 6000 inputs, a third of them for
+Use: tests/gate/corrupt_inputs.py [--count N] [--seed WORD] [--workers N]. Without words there are 6000 inputs, a third of them for
 each of `show`, `encode` and `audit`, the seed is 1, and two run at once. The inputs depend on the seed alone: examples
 and random inputs that are cut, of which bits are flipped, whose lengths and counts lie. It runs what `rt ci` has built.
 

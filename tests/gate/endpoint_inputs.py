@@ -1,7 +1,7 @@
 #!/usr/bin/env python3
 """Compares the ends with a second reading of them, on damaged lists of what an end is told.
 
-Use: tests/driven.py [--count N] [--seed WORD] [--workers N]. Without words there are 3000 lists by chance, the seed is
+Use: tests/gate/endpoint_inputs.py [--count N] [--seed WORD] [--workers N]. Without words there are 3000 lists by chance, the seed is
 1, and two workers. These lists depend on the seed alone: what an end was told in a random talk, with octets that are
 cut, flipped or lie, in other pieces, at other moments, in another order. Before them come some hundred lists of tables:
 each message, timer and front of a message, to hosts and equipment that connect or listen. `hsms_ends_driver` tells them to an

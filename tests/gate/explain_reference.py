@@ -3,7 +3,7 @@
 page of HTML with the text, its last line with what `hsms audit` tells, and the words of each rule with `hsms audit
 --help`.
 
-Use: tests/explained.py [LOGS] [SEED]. LOGS is the number of random logs, 500 if left out, each also with some of its
+Use: tests/gate/explain_reference.py [LOGS] [SEED]. LOGS is the number of random logs, 500 if left out, each also with some of its
 lines several times, and twice as many damaged ones; those of examples/, the logs at edges and corners and some
 with markup come besides. SEED is 1 if
 left out. It runs what `rt ci` has built. The shortest log that is told otherwise is written in hexadecimal. The last

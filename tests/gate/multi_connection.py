@@ -1,7 +1,7 @@
 #!/usr/bin/env python3
 """Compares the audit of a log of several connections with that of each connection as a log of version 1.
 
-Use: tests/connections.py [CASES] [SEED]. There are 1500 random logs of version 2 if left out, many of them with an
+Use: tests/gate/multi_connection.py [CASES] [SEED]. There are 1500 random logs of version 2 if left out, many of them with an
 entry that breaks a rule, or a line that is unreadable; SEED is 1 if left out. Each is split where an `up` stands
 directly after a `down`. A time that goes back there fails by `Backwards`; else the log has to fail at the first line at
 which one of its parts fails, and by the same reason. Where each part passes it has to pass, with the sums of their

@@ -1,7 +1,7 @@
 #!/usr/bin/env python3
 """Compares the command with a second reading of the formats and the rules, on random inputs, and audits random talks.
 
-Use: tests/second_reading.py [CASES] [SEED]. CASES is the number of audits of random logs, 4000 if left out; shows,
+Use: tests/gate/reference_check.py [CASES] [SEED]. CASES is the number of audits of random logs, 4000 if left out; shows,
 encodes and talks are made in proportion. Logs and notations at edges and corners, which no chance makes, come besides.
 SEED is 1 if left out; the inputs depend on these two alone. It runs what `rt ci` has built.
 

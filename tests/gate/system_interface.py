@@ -4,7 +4,7 @@
 A program that does one of these things otherwise is proved all the same. Each test has such a program in mind. Where
 one measures a time, a busy machine makes it longer on both sides of what is compared, or the least of many is taken.
 
-Use: tests/seams.py [PROGRAM]. It runs what `rt ci` has built, or the program that it is given. The last line is
+Use: tests/gate/system_interface.py [PROGRAM]. It runs what `rt ci` has built, or the program that it is given. The last line is
 `N passed, M failed`.
 """
 import math

@@ -437,7 +437,7 @@ def promises():
         for fault in beyond:
             print(f"  {fault}")
         if not beyond and reach != row:
-            print("  its row gives more: tests/believed.py --write")
+            print("  its row gives more: tests/tools/believed.py --write")
         yield not beyond
 
 

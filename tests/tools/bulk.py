@@ -1,14 +1,14 @@
 #!/usr/bin/env python3
 """Compares the command with the second reading on very many small inputs. It is no part of the gate, and run by hand.
 
-Use: tests/many.py COMMAND [CASES [SEED]] [--seconds N] [--program P]. COMMAND is audit, show, encode or capture; CASES
+Use: tests/tools/bulk.py COMMAND [CASES [SEED]] [--seconds N] [--program P]. COMMAND is audit, show, encode or capture; CASES
 is how many inputs are compared, 10,000 if left out, none of them twice; SEED is 1. With --seconds it ends when so many
 have gone by. It runs what `rt ci` has built, or P, and takes two processors.
 
-Inputs are made by chance, as those of second_reading.py and captured.py, and the small ones are kept. Of each many more
+Inputs are made by chance, as those of reference_check.py and capture_reference.py, and the small ones are kept. Of each many more
 are made by damage: octets and digits that change, lines, messages, words and packets that change places, come twice or
 are missing, headers, times and settings that are others. The second reading answers each of them anew. For each the
-command is run, in a process of its own, by many.c, which also compares output, error and status.
+command is run, in a process of its own, by bulk_runner.c, which also compares output, error and status.
 
 Now and then a case is given once more with another answer, which has to be told as differing. The lines tell what the
 answers were, how many each, the smallest input with a difference, and at last how many differ. The status is 1 where
@@ -441,7 +441,7 @@ def cases(command: str, seed: str) -> Iterator[Many]:
                 yield case
 
 
-# To many.c and back.
+# To bulk_runner.c and back.
 
 
 def sized(octets: bytes) -> bytes:
@@ -458,7 +458,7 @@ Differing = Tuple[List[str], bytes, Answer, Answer]
 
 
 def differing_in(file: BinaryIO) -> Iterator[Differing]:
-    """The cases that many.c wrote: words, input, the wanted answer, and that of the command."""
+    """The cases that bulk_runner.c wrote: words, input, the wanted answer, and that of the command."""
 
     def number() -> int:
         return struct.unpack("=I", file.read(4))[0]

@@ -1,4 +1,4 @@
-// Runs a program on many cases, and compares each answer with the wanted one. tests/many.py builds and feeds it.
+// Runs a program on many cases, and compares each answer with the wanted one. tests/tools/bulk.py builds and feeds it.
 //
 // Use: LD_PRELOAD=many.so PROGRAM < CASES > DIFFERING. It stands before the program's main, and before what is
 // initialised for it: for each case a process is forked there that goes on as the program with the words of that case,

@@ -2,7 +2,7 @@
 """What a crate's check took longest for: the functions, by the times at which the last check with one job wrote what it
 keeps of them in out/incremental. What an earlier check had kept isn't counted.
 
-Use: tests/check_times.py CRATE [HOW MANY]
+Use: tests/tools/check_times.py CRATE [HOW MANY]
 """
 import os
 import re

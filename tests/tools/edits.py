@@ -13,7 +13,7 @@ Further lines of a text stand each behind `and: `. In a crate's folder a text is
 
 Where a file has several bodies, each stands behind a line `-- BODY`. A file of one body says in its first line what
 this does. Were it refused only because a proof no longer fits the changed text, that would say nothing of a contract.
-So it has a twin, tests/twins/NAME.edit: an edit of the same place and the same shape, which means what the code means
+So it has a twin, tests/equivalent/NAME.edit: an edit of the same place and the same shape, which means what the code means
 as it stands, and has to be proved. Its first line is `-- crate: CRATE`. Twins are tried by hand, where what they stand
 for has changed; the gate sees that each wrong body has one, and that it can be applied.
 
@@ -29,14 +29,14 @@ the function that it turns, or a line of this function's own proof that no longe
 that it calls isn't proved. What such a check doesn't name is tried again among others, and at last alone. The last line
 is `N passed, M failed`.
 
-Use: tests/edits.py [CRATE..] tries all edits of these crates, or of all crates. What they stand on is built first, by
+Use: tests/tools/edits.py [CRATE..] tries all edits of these crates, or of all crates. What they stand on is built first, by
 ./build, where neither that nor `rt ci` has built it.
-tests/edits.py --beside FOLDER tries those of tests/must-fail/ while `rt ci` proves all crates: the edits of a crate once
+tests/tools/edits.py --beside FOLDER tries those of tests/must-fail/ while `rt ci` proves all crates: the edits of a crate once
 those are proved that it stands on, by a log `proofs` in the folder, to which a file `ended` comes with the status of
 `rt ci`, and a file `alone` once nothing else is tried any more. All checks give way to the others, and leave them a
 processor until then.
-tests/edits.py --one CRATE NAME [BODY] tries one edit and writes what the check says, and tests/edits.py --twins [NAME..]
-tries all twins, or some. tests/edits.py --compile [CRATE..] proves nothing: in a minute or two it sees that each edit and
+tests/tools/edits.py --one CRATE NAME [BODY] tries one edit and writes what the check says, and tests/tools/edits.py --twins [NAME..]
+tries all twins, or some. tests/tools/edits.py --compile [CRATE..] proves nothing: in a minute or two it sees that each edit and
 twin can be applied and compiles.
 """
 import argparse

@@ -1,7 +1,7 @@
 #!/usr/bin/env python3
 """Turns each number, order and condition of the second reading, one at a time, and tells which turns no input notices.
 
-Use: tests/turned.py [--workers N] [--share N] [MODULE[:LINE]..]. A definition that is wrong passes every proof where the
+Use: tests/tools/mutate_reference.py [--workers N] [--share N] [MODULE[:LINE]..]. A definition that is wrong passes every proof where the
 code is wrong with it. What stands against that is the second reading, so far as its inputs reach what was turned. Here
 the reading itself is turned: a definition and a code that were both turned so would answer as it does, and the gate
 would notice where it answers one of the gate's inputs otherwise. Without words each module of the reading is turned

@@ -1,4 +1,4 @@
-//! Reads lists of what happens to an end, tells them to ends, and writes what those answer; for `tests/driven.py`.
+//! Reads lists of what happens to an end, tells them to ends, and writes what those answer; for `tests/gate/endpoint_inputs.py`.
 //!
 //! A list is lines of standard input: the settings, as the first line of a log has them; `desk NUMBER MODEL REVISION`,
 //! the first system bytes and what the desk of equipment tells of itself, or `obliging NUMBER`, the first system bytes

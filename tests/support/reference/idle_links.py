@@ -1,4 +1,4 @@
-"""Logs of ends that test their links, some with a line at another moment: what tests/turned.py asks of `serving`.
+"""Logs of ends that test their links, some with a line at another moment: what tests/tools/mutate_reference.py asks of `serving`.
 
 An end of this reading is told what comes at random moments, and tests its link when docs/ENDS.md has it do so.
 """
