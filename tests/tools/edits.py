@@ -57,7 +57,9 @@ from dataclasses import dataclass
 sys.dont_write_bytecode = True
 sys.path.insert(0, os.path.abspath(f"{__file__}/../../.."))
 
-from tests.support.build_dirs import READ, TOP, crates_below, crates_listed, link, mark_as_built, processors, room_for, words_of_check
+from tests.support.build_dirs import (
+    READ, TOP, check_command, crates_below, crates_listed, link, processors, proved_crates, room_for,
+)
 
 EDITS = f"{TOP}/tests/must-fail"
 TWINS = f"{TOP}/tests/twins"
@@ -555,7 +557,7 @@ class Room:
         # while `rt ci` runs, it moves what was kept in the crate's own folder
         where = like.folder if like else folder_of(crate) if not is_beside else ""
         self.crate, self.folder = crate, room_with_what_is_kept(crate, home, where)
-        self.words = ["nice", "-n", "19", *words_of_check(crate, home)]
+        self.words = ["nice", "-n", "19", *check_command(crate, home)]
         self.sources, self.by_hand = sources_of(crate), {}
         for path in like.by_hand if like else functions_in(crate):
             self.make_hole(path)
@@ -944,7 +946,7 @@ def try_one(crate, name, body):
     if not path:
         print(f"{crate} has no edit {name}")
         return 2
-    if not is_built_below([crate], mark_as_built()):
+    if not is_built_below([crate], proved_crates()):
         return 1
     wanted = [it for it in edits_in(path, crate, name) if not body or it.name == f"{name} {body}"]
     with tempfile.TemporaryDirectory(prefix="edit-") as home:
@@ -978,7 +980,7 @@ class Proofs:
     """What is proved of the crates, by `rt ci` which runs beside, or since it has run."""
 
     def __init__(self, folder):
-        self.folder, self.marking, self.marked = folder, threading.Lock(), set()
+        self.folder, self.reading, self.known = folder, threading.Lock(), set()
 
     def ended(self):
         """The status of `rt ci`, once it has ended: 0 where it ran before."""
@@ -999,11 +1001,11 @@ class Proofs:
         is_alone = not self.folder or os.path.exists(f"{self.folder}/alone")
         return processors() if is_alone else max(1, processors() - 1)
 
-    def mark(self):
-        """The crates that are proved, whose libraries are marked so."""
-        with self.marking:
-            self.marked |= mark_as_built()
-            return set(self.marked)
+    def proved(self):
+        """Returns the crates that were proved at this call or an earlier one."""
+        with self.reading:
+            self.known |= proved_crates()
+            return set(self.known)
 
 
 def each_in_its_turn(proofs, crates, call):
@@ -1042,14 +1044,14 @@ def main():
         READS_LINE_AFTER = False
         os.setpgid(0, 0)
     proofs = Proofs(asked.beside)
-    if not asked.beside and not is_built_below(crates, proofs.mark()):
+    if not asked.beside and not is_built_below(crates, proofs.proved()):
         return 1
     for name, why in wrong.items():
         print(f"{name}: {why}")
     crates.sort(key=size_of, reverse=True)
     twins_of = lambda crate: [it for it in twins if it.crate == crate]
     lanes = Lanes(proofs.lanes)
-    is_proved = lambda crate: crate in proofs.mark()
+    is_proved = lambda crate: crate in proofs.proved()
     of_crate = lambda crate: tried(crate, bodies.get(crate, []), twins_of(crate), is_proved(crate), lanes, bool(asked.beside), asked.compile)
     results = each_in_its_turn(proofs, crates, of_crate)
     if results is None:
