@@ -1,19 +1,21 @@
 #!/usr/bin/env python3
-"""Refuses each allocation in turn, the first, the second and so on, until a run meets no refusal.
+"""Fails each allocation in turn, the first, the second and so on, until a run completes without a failed allocation.
 
-Use: tests/gate/allocation_failures.py [CRATE..]. With names of crates only what these have is run.
+Use: tests/gate/allocation_failures.py [CRATE..]. With names of crates it runs the tests of these crates alone.
 
-This is done to each test of each crate but the long ones, to ends that are told damaged lists, and to the command, on
-worked inputs, on examples and over connections. A test has to end with want of memory where an allocation was
-refused, since it hands that up; or to pass, where it looks at the answer itself and at what stands after it. Where no
-allocation was refused, it has to pass. A test of answers that need no memory may ask for none, but for what it makes
-beforehand. An end has to answer as ever up to the call that tells want of memory, and from then on that it is spent.
-The command has to answer with status 3 and `hsms: Memory`, and what it wrote then has to be nothing, or of `show`,
-`explain` and `capture` whole lines of what it writes with ample memory, and of `serve` whole lines of its log; as
-ever, where no allocation was refused, and there as the worked inputs say.
+It runs each test of each crate except the long ones, endpoints on corrupt input lists, and the command: on the worked
+examples, on files in examples/ and over connections. After a failed allocation
 
-No program may take memory but by the calls that are refused, nor call the system past the C library. It runs what
-`rt ci` has built. The last line is `N passed, M failed`.
+- a test ends with out of memory, because it propagates that error, or passes, because it checks the result itself;
+- an endpoint behaves as usual up to the call that reports `Memory`, and from then on reports that it is spent;
+- the command ends with status 3 and `hsms: Memory`. Its output is then empty, or for `show`, `explain` and `capture`
+  complete lines of the usual output, or for `serve` complete lines of its log.
+
+Without a failed allocation a test passes, and the command writes its usual output, for the worked examples as given
+there. A test of functions that need no memory may allocate only for its own preparations.
+
+No program may allocate except by the calls that fail here, or call the system except through the C library. It runs
+what `rt ci` has built. The last line is `N passed, M failed`.
 """
 import os
 import re

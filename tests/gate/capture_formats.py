@@ -1,14 +1,14 @@
 #!/usr/bin/env python3
-"""Has `hsms capture` read captures that are written here, and compares its logs with the sessions they are of.
+"""Runs `hsms capture` on captures that it writes itself, and compares the logs with the known sessions.
 
-Random sessions go over the wire in pieces that are cut anywhere, come again, overlap or change places, in files of each
-form that is read. Each log has to hold the frames in the order and at the milliseconds of their last octets, and has to
-pass `hsms audit`. Then sessions of which packets weren't captured, or are captured in another order: each log has to
-hold the frames up to a loss, pass, and say that something is missing exactly where it is. Then come captures of what
-goes wrong, each with its log, verdict or refusal.
+- Random sessions in all supported file formats. The segments are split anywhere, retransmitted, overlapping or out of
+  order. Each log has the frames in order, at the milliseconds of their last bytes, and passes `hsms audit`.
+- Sessions with lost packets and packets out of order. Each log has the frames up to the loss and passes. Missing data
+  is reported exactly if the capture shows it.
+- Captures of errors, each with its log, verdict or error.
 
-`capture_formats.py` runs what `rt ci` has built. Its last line is `N passed, M failed`. `capture_formats.py --example FILE` writes
-the capture that the documents show.
+It runs what `rt ci` has built. The last line is `N passed, M failed`. `capture_formats.py --example FILE` writes the
+capture that the documents show.
 """
 import os
 import random

@@ -1,14 +1,14 @@
 #!/usr/bin/env python3
-"""Captures what two ends that `hsms serve` serves say to one another, by tcpdump and dumpcap, and judges it.
+"""Captures sessions between two processes of `hsms serve` by tcpdump and dumpcap, and audits the captures.
 
-What `hsms capture` writes as the log of an end has to hold the entries of the log that this end wrote, each within
-20 ms of its time there, counted from `up`; and its verdicts have to be those of `hsms audit` on the logs of both ends.
-The ends are of both roles, over IPv4 and IPv6, in one connection and in several; captures are of loopback and of any
-interface, and come in the forms that editcap, reordercap and mergecap write too. Through a pipe from tcpdump both
-verdicts are told while tcpdump goes on.
+The log that `hsms capture` writes of an endpoint has the entries of the log that this endpoint wrote, each within 20
+ms of its time there, counted from `up`. The verdicts are those of `hsms audit` on the logs of both endpoints. The
+endpoints have both roles, over IPv4 and IPv6, in one connection and in several. Captures are of the loopback interface
+and of any interface, also in the formats that editcap, reordercap and mergecap write. Through a pipe from tcpdump both
+verdicts appear while tcpdump is running.
 
-Where one of these programs is missing, or may not capture, this says so and tries nothing. The last line is
-`N passed, M failed`.
+If one of these programs is missing or may not capture, the script says so and tries nothing. The last line is `N
+passed, M failed`.
 """
 import os
 import re

@@ -1,17 +1,16 @@
 #!/usr/bin/env python3
-"""Compares what `hsms capture --joined` writes of sessions that were running before the capture with a second reading.
+"""Compares `hsms capture --joined` with the reference, on sessions that started before the capture.
 
-Random lawful sessions (session_generator.py) go over the wire, and the capture lacks all packets up to some packet, or all
-of one direction. Each capture is judged, and written as the log of the host and of the equipment: output, standard
-error and status have to be those of the second reading, octet by octet. No log of a lawful session may fail, and none
-of the messages may be made up or stand in another order. Where no packet is swapped and nothing is told to be missing,
-all is told from some message on. Some captures have sessions of other devices and at other ports too, or the session is
-of another device. The smallest captures are read first, in captures/, and each without `--joined`, which shows no
-connection, but a session that was running.
+The captures are of random valid sessions (session_generator.py) without the packets up to some packet, or without
+those of one direction. Some also have sessions of other devices and at other ports, or the session is of another
+device. For the verdicts and for the logs of host and equipment, output, standard error and status are byte for byte
+those of the reference. No log of a valid session fails, and no message is invented or out of order. If no packet is
+out of order and no missing data is reported, the log is complete from some message on. The smallest captures, in
+captures/, come first. Without `--joined` each of them shows no connection, but a session that was running.
 
-Use: tests/gate/capture_midstream.py [SESSIONS] [SEED]. SESSIONS is how many, 1,000 if left out, and SEED is 1. It runs what `rt ci` has
-built, or `--program P`; with `--alone` no program, and the second reading is compared with what is known. The last line
-is `N passed, M failed`.
+Use: tests/gate/capture_midstream.py [SESSIONS] [SEED]. SESSIONS is their number (default 1,000), SEED is 1 by default.
+It runs what `rt ci` has built, or `--program P`. With `--alone` it runs no program, and compares the reference with
+the known sessions. The last line is `N passed, M failed`.
 """
 import argparse
 import os
@@ -50,7 +49,7 @@ SMALLEST = {
 }
 
 
-# What the second reading answers.
+# What the reference answers.
 
 
 def seen_in(octets: bytes, active_port: int = ACTIVE_PORT) -> List[Seen]:
@@ -101,7 +100,7 @@ def packet_of(log: bytes, line: int) -> int:
 
 
 def second(told: midstream.Told, options: Options, unjudged: Unjudged) -> Answer:
-    """What the second reading answers to a capture of one connection, of which this is told, and what isn't judged."""
+    """What the reference answers to a capture of one connection, of which this is told, and what isn't judged."""
     fault = "{} packet={}".format(*told.fault) if told.fault else None if told.lines else "NoConnection"
     fault = fault or ("NotJudged" if unjudged.is_refused else None)
     error = f"hsms: {fault}\n".encode() if fault else b""
@@ -126,7 +125,7 @@ def differs(octets: bytes, told: midstream.Told, options: Options, program: Opti
         words = ["capture", "--joined", *asked.words()]
         found, wanted = answer_of(words, octets, program), second(told, asked, unjudged_in(octets, asked))
         if found != wanted:
-            return f"{' '.join(words)}\n  second reading: {wanted}\n  command: {found}"
+            return f"{' '.join(words)}\n  reference: {wanted}\n  command: {found}"
     return None
 
 

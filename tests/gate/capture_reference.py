@@ -1,17 +1,16 @@
 #!/usr/bin/env python3
-"""Compares what `hsms capture` writes of captures with a second reading, and with what is known of them.
+"""Compares `hsms capture` with the reference and with the known sessions.
 
-Random sessions go over the wire, and the capture repeats, swaps or lacks packets (session_generator.py). Each capture is
-judged, and written as the log of the host and of the equipment: output, standard error and status have to be those of
-the second reading, octet by octet. Of what was said nothing may be made up or stand in another order, no lawful session
-may be failed, what is missing has to be told where the capture shows it, and the audit of a log has to give the verdict
-of its connection. Then come captures that are damaged, the smallest capture of each rule of the wire, in captures/, and
-captures and other files of which each answer is written here.
+The captures are of random sessions (session_generator.py), with packets that are retransmitted, out of order or
+missing. For the verdicts and for the logs of host and equipment, output, standard error and status are byte for byte
+those of the reference. No message is invented or out of order, no valid session fails, missing data is reported if the
+capture shows it, and the audit of a log gives the verdict of its connection. Then come corrupt captures, the smallest
+capture for each rule about TCP streams, in captures/, and captures and other files whose answers are written here.
 
-Use: tests/gate/capture_reference.py [CAPTURES] [SEED], or tests/gate/capture_reference.py FILE .. CAPTURES is the number of random captures, 2,000
-if left out, and SEED is 1. Files are read with the options of `hsms capture` that are given too. It runs what `rt ci`
-has built, or `--program P`; with `--alone` no program, and the second reading is compared with what is known. The last
-line is `N passed, M failed`.
+Use: tests/gate/capture_reference.py [CAPTURES] [SEED], or tests/gate/capture_reference.py FILE .. CAPTURES is the
+number of random captures (default 2,000), SEED is 1 by default. With files, options of `hsms capture` may follow. It
+runs what `rt ci` has built, or `--program P`. With `--alone` it runs no program, and compares the reference with the
+known sessions. The last line is `N passed, M failed`.
 """
 import argparse
 import gzip
@@ -43,7 +42,7 @@ LARGE = 200_000
 
 
 def second(octets: bytes, options: Options) -> Answer:
-    """What the second reading answers."""
+    """What the reference answers."""
     read = capture_audit.capture(octets, options)
     return Answer(read.status, read.output, read.error)
 
@@ -58,7 +57,7 @@ def compared(case: Made, program: Optional[str]) -> Optional[str]:
         if program:
             told = answer_of(words, case.octets, program)
             if told != wanted:
-                return f"{' '.join(words)}\n  second reading: {shown(wanted)}\n  command: {shown(told)}"
+                return f"{' '.join(words)}\n  reference: {shown(wanted)}\n  command: {shown(told)}"
     if len(answers) == 1:
         return None
     return audited(answers, program) or (known(case, answers) if case.sessions is not None else None)
@@ -136,7 +135,7 @@ def known_whole(case: Made, answers: Dict[Optional[str], Answer]) -> Optional[st
 
 
 def tried(case: Made, program: Optional[str]) -> Optional[str]:
-    """The same as `compared`. A second reading that breaks down, and a command that doesn't end, are wrong too."""
+    """The same as `compared`. The reference that breaks down, and a command that doesn't end, are wrong too."""
     try:
         return compared(case, program)
     except Exception as why:
@@ -673,13 +672,13 @@ def either_way_cases() -> Iterator[Case]:
 
 
 def differing(case: Case, program: Optional[str]) -> Optional[str]:
-    """What is wrong with the answers to a case: the second reading's, and the command's to each role."""
+    """What is wrong with the answers to a case: the reference's, and the command's to each role."""
     name, octets, options, lines, fault, status = case
     error = f"hsms: {fault}\n".encode() if fault else b""
     wanted = Answer(status, "".join(line + "\n" for line in lines).encode(), error)
     read = second(octets, options)
     if read != wanted:
-        return f"{name}\n  wanted: {shown(wanted)}\n  second reading: {shown(read)}"
+        return f"{name}\n  wanted: {shown(wanted)}\n  reference: {shown(read)}"
     wrong = tried(Made(octets, options), program)
     return f"{name}: {wrong}" if wrong else None
 

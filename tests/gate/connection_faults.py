@@ -1,13 +1,13 @@
 #!/usr/bin/env python3
-"""Serves connections to peers and logs that fail at every place in turn, and audits what was logged.
+"""Serves connections whose peer or log fails at each byte in turn, and audits the logs.
 
     tests/gate/connection_faults.py [--minutes N] [--seed N] [--keep FOLDER] [PROGRAM]
 
-The peer resets, closes or half-closes the connection after each octet of a session; the log's device is full, or its
-pipe is closed, after each octet of the log; SIGTERM comes at some moment. With --minutes it goes on with random
-sessions for that long: messages that are drawn, damaged, cut into pieces and broken off anyhow. The seed is printed,
-and what a failing round sent and logged is kept. It runs what `rt ci` has built, or the program that it is given. The
-last line is `N passed, M failed`.
+The peer resets, closes or half-closes the connection after each byte of a session. The log's disk is full, or its pipe
+is closed, after each byte of the log. SIGTERM arrives at some time. With --minutes it continues with random sessions
+for that long: random and corrupt messages that are split into pieces and broken off. It prints the seed, and keeps
+what a failing round sent and logged. It runs what `rt ci` has built, or the given program. The last line is `N passed,
+M failed`.
 """
 import argparse
 import concurrent.futures

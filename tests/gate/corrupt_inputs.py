@@ -1,12 +1,13 @@
 #!/usr/bin/env python3
-"""Compares the command with the second reading on damaged inputs.
+"""Compares the command with the reference on corrupt inputs.
 
-Use: tests/gate/corrupt_inputs.py [--count N] [--seed WORD] [--workers N]. Without words there are 6000 inputs, a third of them for
-each of `show`, `encode` and `audit`, the seed is 1, and two run at once. The inputs depend on the seed alone: examples
-and random inputs that are cut, of which bits are flipped, whose lengths and counts lie. It runs what `rt ci` has built.
+Use: tests/gate/corrupt_inputs.py [--count N] [--seed WORD] [--workers N]. By default there are 6000 inputs, a third
+each for `show`, `encode` and `audit`, the seed is 1, and two run at once. The inputs depend on the seed alone:
+examples and random inputs that are truncated, have flipped bits, or claim wrong lengths and counts. It runs what `rt
+ci` has built.
 
-An input with another answer, or at which the command crashes, is kept in a file that the message names. The last line
-tells how many there are, and the status is 1 where there is one.
+An input with another answer, or on which the command crashes, is kept in a file that the message names. The last line
+gives the number of these inputs. The status is 1 if there is one.
 """
 import argparse
 import os
@@ -49,7 +50,7 @@ def judged(seed: str, number: int):
     wrong = None
     if answer != case.wanted:
         path = kept(seed, number, case.given)
-        wrong = f"hsms {' '.join(case.words)} < {path}\nsecond reading: {case.wanted}\ncommand: {answer}"
+        wrong = f"hsms {' '.join(case.words)} < {path}\nreference: {case.wanted}\ncommand: {answer}"
     return [f"{case.words[0]} {what}" for what in case.reached], wrong
 
 

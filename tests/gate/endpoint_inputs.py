@@ -1,16 +1,16 @@
 #!/usr/bin/env python3
-"""Compares the ends with a second reading of them, on damaged lists of what an end is told.
+"""Compares the endpoints with the reference on corrupt lists of inputs.
 
-Use: tests/gate/endpoint_inputs.py [--count N] [--seed WORD] [--workers N]. Without words there are 3000 lists by chance, the seed is
-1, and two workers. These lists depend on the seed alone: what an end was told in a random talk, with octets that are
-cut, flipped or lie, in other pieces, at other moments, in another order. Before them come some hundred lists of tables:
-each message, timer and front of a message, to hosts and equipment that connect or listen. `hsms_ends_driver` tells them to an
-end call by call, and to `drive` as a whole; both have to answer the entries and the pending octets that the second
-reading has, and the calls the refusals too. It runs what `rt ci` has built.
+Use: tests/gate/endpoint_inputs.py [--count N] [--seed WORD] [--workers N]. By default there are 3000 random lists, the
+seed is 1, and there are two workers. The random lists depend on the seed alone. Each is the inputs of an endpoint in a
+random conversation, with bytes that are cut off, flipped or wrong, in other pieces, at other times, in another order.
+Before them come some hundred lists from tables: each message, timer and prefix of a message, to host and equipment,
+active and passive. `hsms_ends_driver` passes them to an endpoint call by call, and to `drive` as a whole. The entries
+and the pending bytes of both, and the errors of the calls, are those of the reference. It runs what `rt ci` has built.
 
-A list with another answer, or at which the program crashes, is kept in a file that the message names. The last line
-tells how many there are, and the status is 1 where there is one, or where 3000 lists or more didn't reach each thing
-that an end does.
+A list with another answer, or on which the program crashes, is kept in a file that the message names. The last line
+gives the number of these lists. The status is 1 if there is one, or if 3000 lists or more did not reach everything
+that an endpoint does.
 """
 import argparse
 import os
@@ -62,7 +62,7 @@ def kept(seed: str, number: int, text: str) -> str:
 
 def first_difference(wanted: str, answer: str) -> str:
     pairs = zip([*wanted.splitlines(), "nothing"], [*answer.splitlines(), "nothing"])
-    return next((f"second reading: {one}\nend: {other}" for one, other in pairs if one != other), "another length")
+    return next((f"reference: {one}\nend: {other}" for one, other in pairs if one != other), "another length")
 
 
 def judged(seed: str, first: int):

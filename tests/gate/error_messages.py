@@ -1,11 +1,10 @@
 #!/usr/bin/env python3
-"""Tells each fault of the command, without words and with them: by `-v`, by HSMS_VERBOSE in the environment, and at a
-terminal.
+"""Provokes each error of the command, without texts and with them: by `-v`, by HSMS_VERBOSE and on a terminal.
 
-Without them standard error has one line, the fault's name. With them the words follow, which docs/FORMATS.md shows in
-its table, and nothing else changes. The terminal is a pseudo-terminal at standard error. `Endless` isn't tried: it
-takes 4,294,967,295 messages or reads; nor is `Full`, which takes 64 MB that wait. It runs what `rt ci` has built, or
-the program that it is given. The last line is `N passed, M failed`.
+Without them standard error has one line, the name of the error. With them the texts follow that the table of
+docs/FORMATS.md shows, and nothing else changes. The terminal is a pseudo-terminal at standard error. `Endless` is not
+tried, since it takes 4,294,967,295 messages or reads; nor is `Full`, which takes 64 MB of waiting output. It runs what
+`rt ci` has built, or the given program. The last line is `N passed, M failed`.
 """
 import ctypes
 import os

@@ -1,13 +1,13 @@
 #!/usr/bin/env python3
-"""Compares what `hsms explain` tells, of all lines and of an excerpt, as text and as JSON, with a second reading, the
-page of HTML with the text, its last line with what `hsms audit` tells, and the words of each rule with `hsms audit
---help`.
+"""Compares `hsms explain` with the reference: as text and as JSON, of all lines and with filters.
 
-Use: tests/gate/explain_reference.py [LOGS] [SEED]. LOGS is the number of random logs, 500 if left out, each also with some of its
-lines several times, and twice as many damaged ones; those of examples/, the logs at edges and corners and some
-with markup come besides. SEED is 1 if
-left out. It runs what `rt ci` has built. The shortest log that is told otherwise is written in hexadecimal. The last
-line is `N passed, M failed`.
+It also compares the HTML page with the text, the last line with the output of `hsms audit`, and the text of each rule
+with `hsms audit --help`.
+
+Use: tests/gate/explain_reference.py [LOGS] [SEED]. LOGS is the number of random logs (default 500), SEED is 1 by
+default. Each log also comes with some of its lines repeated, and there are twice as many corrupt logs. The logs in
+examples/, those of the edge cases and some with markup come as well. It runs what `rt ci` has built. The shortest log
+with another output is printed in hexadecimal. The last line is `N passed, M failed`.
 """
 import glob
 import json
@@ -102,7 +102,7 @@ def difference(log: bytes) -> Optional[str]:
         are_answers = all((it.status, it.error) == (audited.status, b"") for it in (told, in_json, in_html))
         is_text = told.output == wanted.text and wanted.text.endswith(audited.output)
         if not (are_answers and is_text and objects_of(in_json.output) == [list(it.items()) for it in wanted.objects]):
-            shown = f"log: {log[:LONGEST_SHOWN].hex()}\nsecond reading: {wanted}"
+            shown = f"log: {log[:LONGEST_SHOWN].hex()}\nreference: {wanted}"
             return f"{' '.join(words)}\n{shown}\ncommand: {told}\nin JSON: {in_json}\naudit: {audited}"
         fault = html_check.fault_of(in_html.output, wanted.unescaped, excerpt.is_utc)
         if fault:

@@ -1,11 +1,11 @@
 #!/usr/bin/env python3
-"""Runs the command over devices that fail, fill, close or move an octet at a time.
+"""Runs the command on inputs and outputs that fail, fill, close or move one byte at a time.
 
-Standard output is a full device, a file that may not grow past each length in turn, a pipe that closes after each octet
-in turn, with SIGPIPE as ever and ignored, or closed from the beginning; each write fails in turn, once. Then the status
-is 3, standard error is the one line `hsms: Write`, and what was written is a front of what is written otherwise, with
-nothing behind the write that failed. Standard input is a folder, or closed; each read fails in turn, once. Then the
-line is `hsms: Read`, and what was written is whole lines of `show`, `explain` and `capture`, else nothing.
+Standard output is a full disk, a file with each maximum length in turn, a pipe that closes after each byte in turn,
+with SIGPIPE as usual and ignored, or closed from the start; each write fails once in turn. Then the status is 3,
+standard error is the one line `hsms: Write`, and the output is a prefix of the usual output, with nothing after the
+failed write. Standard input is a folder, or closed; each read fails once in turn. Then the line is `hsms: Read`, and
+the output is complete lines of `show`, `explain` and `capture`, and otherwise empty.
 
 It runs what `rt ci` has built. The last line is `N passed, M failed`.
 """

@@ -1,8 +1,8 @@
 #!/usr/bin/env python3
-"""Serves connections over loopback: to plain sockets, to peers that misbehave, and between two processes.
+"""Serves connections over loopback: to plain sockets, to peers that break the rules, and between two processes.
 
-Every log is audited, and every wait ends. It runs what `rt ci` has built, or the program that it is given. The last
-line is `N passed, M failed`.
+Every log is audited, and every wait ends. It runs what `rt ci` has built, or the given program. The last line is `N
+passed, M failed`.
 """
 import os
 import re
@@ -300,7 +300,7 @@ def link_is_not_tested_before_it_is_selected():
     served(serving, ["up", "cut t7", "down"])
 
 
-def random_talks_are_tested_as_a_second_reading_does():
+def random_conversations_test_links_as_the_reference():
     """A peer that says this and that at any moment, and answers a test of the link or doesn't."""
     tested = 0
     for number in range(12):
@@ -528,8 +528,8 @@ def equipment_answers_by_its_script():
         )
 
 
-def random_replies_are_those_of_a_second_reading():
-    """Random primaries to an equipment with a random script: its log is the one that a second reading writes."""
+def random_replies_are_those_of_the_reference():
+    """Random primaries to an equipment with a random script: its log is that of the reference."""
     for number in range(40):
         chance = Chance(f"script {number}")
         replies = conversations.random_replies(chance)
@@ -1053,14 +1053,14 @@ TESTS = [
     link_is_tested_while_a_reply_is_awaited,
     link_is_not_tested_before_it_is_selected,
     link_is_tested_in_each_connection,
-    random_talks_are_tested_as_a_second_reading_does,
+    random_conversations_test_links_as_the_reference,
     script_is_not_sent,
     script_is_sent,
     scripts_of_several_connections,
     host_answers_by_its_script,
     replies_are_given_in_turn,
     equipment_answers_by_its_script,
-    random_replies_are_those_of_a_second_reading,
+    random_replies_are_those_of_the_reference,
     steps_stand_between_replies,
     flood_of_octets,
     flood_of_requests,

@@ -1,12 +1,12 @@
 #!/usr/bin/env python3
-"""Measures the most memory that the command, or an end, holds of inputs that claim what they don't hold.
+"""Measures the most memory that the command, or an endpoint, allocates for inputs that claim more than they hold.
 
-Each is compared with an input of about as many octets that claims nothing: it may take a little more, and not in
-proportion to what is claimed. So is a log of many connections, each of which leaves a primary open, with one whose
-primaries are answered.
+Each input is compared with one of about the same size that claims nothing. It may take a little more, but not in
+proportion to the claim. In the same way a log of many connections that each leave a primary open is compared with one
+whose primaries are answered.
 
-Counted is what the command asks for, whether it uses it or not. It runs what `rt ci` has built. The last line is
-`N passed, M failed`.
+The memory is what the command allocates, used or not. It runs what `rt ci` has built. The last line is `N passed, M
+failed`.
 """
 import os
 import re

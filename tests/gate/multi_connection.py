@@ -1,14 +1,14 @@
 #!/usr/bin/env python3
-"""Compares the audit of a log of several connections with that of each connection as a log of version 1.
+"""Compares the audit of a log of several connections with the audit of each connection as a log of version 1.
 
-Use: tests/gate/multi_connection.py [CASES] [SEED]. There are 1500 random logs of version 2 if left out, many of them with an
-entry that breaks a rule, or a line that is unreadable; SEED is 1 if left out. Each is split where an `up` stands
-directly after a `down`. A time that goes back there fails by `Backwards`; else the log has to fail at the first line at
-which one of its parts fails, and by the same reason. Where each part passes it has to pass, with the sums of their
-counts, but for `waiting`, which is that of the last part.
+Use: tests/gate/multi_connection.py [CASES] [SEED]. CASES is the number of random logs of version 2 (default 1500),
+SEED is 1 by default. Many have an entry that breaks a rule, or an unreadable line. Each log is split at an `up` that
+directly follows a `down`. If the time goes back there, the log fails by `Backwards`. Otherwise it fails at the first
+line at which one of its parts fails, for the same reason. If each part passes, it passes with the sums of their
+counts, except that `waiting` is that of the last part.
 
-It runs what `rt ci` has built, and knows no rule of a session. The last lines tell of how many connections the logs
-were, and how many verdicts differ; the status is 1 where one differs, or where no log of three connections passed.
+It runs what `rt ci` has built, and knows no rule of a session. The last lines give the numbers of connections in the
+logs, and the number of verdicts that differ. The status is 1 if one differs, or if no log of three connections passed.
 """
 import os
 import re

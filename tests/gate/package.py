@@ -1,12 +1,12 @@
 #!/usr/bin/env python3
-"""Makes the packages, and uses them as someone does who has nothing else.
+"""Builds the packages, and uses them as somebody who has nothing else.
 
-Both are made twice, and have to be the same octets; their checksums have to be right. The archive is unpacked into an
-empty folder, and the Debian package into another one. There each command of the README, and of the examples' page, has
-to write what stands below it, with the packaged program and a few words of the shell on the path, and no file of this
-repository. Each link of a packed page has to lead to a packed file. A folder that was there stays as it was where the
-archive is unpacked as docs/BUILDING.md says. The program may need the C library alone. It packs what `rt ci` has built.
-The last line is `N passed, M failed`.
+Both are built twice, and are the same bytes; their checksums are right. The archive is unpacked into an empty folder,
+and the Debian package into another one. There each command of the README and of the examples' page writes what the
+page shows, with the packaged program and a few shell commands on the path, and no file of this repository. Each link
+of a packed page leads to a packed file. An existing folder stays as it was if the archive is unpacked as
+docs/BUILDING.md says. The program needs the C library alone. It packs what `rt ci` has built. The last line is `N
+passed, M failed`.
 """
 import filecmp
 import glob

@@ -1,16 +1,17 @@
 #!/usr/bin/env python3
-"""Compares the command with a second reading of the formats and the rules, on random inputs, and audits random talks.
+"""Compares the command with the reference on random inputs, and audits random conversations.
 
-Use: tests/gate/reference_check.py [CASES] [SEED]. CASES is the number of audits of random logs, 4000 if left out; shows,
-encodes and talks are made in proportion. Logs and notations at edges and corners, which no chance makes, come besides.
-SEED is 1 if left out; the inputs depend on these two alone. It runs what `rt ci` has built.
+Use: tests/gate/reference_check.py [CASES] [SEED]. CASES is the number of audits of random logs (default 4000); the
+numbers of other inputs and of conversations are in proportion. The logs and notations of the edge cases, which no
+random input reaches, come as well. SEED is 1 by default; the inputs depend on these two alone. It runs what `rt ci`
+has built.
 
-In a talk two ends that are written from docs/ENDS.md are told long random lists; both logs have to pass the audit, with
-the summary that the second reading counts.
+In a conversation two endpoints that are written from docs/ENDS.md receive long random lists. Both logs pass the audit,
+with the counts of the reference.
 
-The last two lines tell how many logs of talks don't pass so, and how many answers differ. The smallest input with a
-difference is written in hexadecimal, with both answers. The status is 1 where an answer differs, or where the inputs
-didn't reach each rule and each fault, and the talks each thing that an end does.
+The last two lines give the number of conversations' logs that do not pass, and the number of answers that differ. The
+smallest input with a difference is printed in hexadecimal, with both answers. The status is 1 if an answer differs, or
+if the inputs did not reach each rule and each error, or the conversations not everything that an endpoint does.
 """
 import os
 import sys
@@ -100,7 +101,7 @@ def differing(compared: List[Compared]) -> int:
     if pairs:
         case, answer = min(pairs, key=lambda pair: len(pair[0].given))
         print(f"hsms {' '.join(case.words)}, input of {len(case.given)} octets: {case.given[:LONGEST_SHOWN].hex()}")
-        print(f"second reading: {case.wanted}")
+        print(f"reference: {case.wanted}")
         print(f"command: {answer}")
     return len(pairs)
 
@@ -117,8 +118,8 @@ def main() -> int:
     for command, what in missed:
         print(f"not reached: {command}, {what}")
     counts = ", ".join(f"{count} {command}s" for command, count in plan.counts.items())
-    print(f"second reading of the ends: {plan.talks} talks, {len(logs)} logs, {failing} don't pass")
-    print(f"second reading: {counts}, {wrong} differ")
+    print(f"reference endpoints: {plan.talks} talks, {len(logs)} logs, {failing} don't pass")
+    print(f"reference: {counts}, {wrong} differ")
     return 1 if failing or wrong or missed else 0
 
 

@@ -1,8 +1,9 @@
 #!/usr/bin/env python3
-"""Audits logs over a pipe that is held open: a failing line has to be named while its writer may still write. Shows
-messages that come in pieces, each of which is there before the next is written, and explains lines and judges captures
-while the pipe is open: the verdict on a connection has to be there as soon as it is over. A log that grows is explained
-from its first line by `tail -n +1 -f`.
+"""Checks that output appears while the input is still open.
+
+`audit` names a failing line while its writer may still write. `show` writes each message before the next one arrives.
+`explain` and `capture` work on an open pipe: the verdict on a connection appears when it has ended. A growing log is
+explained from its first line by `tail -n +1 -f`.
 
 It runs what `rt ci` has built. The last line is `N passed, M failed`.
 """

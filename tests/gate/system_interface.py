@@ -1,10 +1,10 @@
 #!/usr/bin/env python3
-"""Tries what no contract of the command speaks of: its clock, its sockets, signals, its words, its devices, `./hsms`.
+"""Checks what no contract of the command covers: clock, sockets, signals, arguments, inputs, outputs and `./hsms`.
 
-A program that does one of these things otherwise is proved all the same. Each test has such a program in mind. Where
-one measures a time, a busy machine makes it longer on both sides of what is compared, or the least of many is taken.
+A program that does one of these things otherwise is proved all the same. Each test is for such a program. If a test
+measures a time, a busy machine makes both sides of the comparison longer, or the test takes the minimum of many.
 
-Use: tests/gate/system_interface.py [PROGRAM]. It runs what `rt ci` has built, or the program that it is given. The last line is
+Use: tests/gate/system_interface.py [PROGRAM]. It runs what `rt ci` has built, or the given program. The last line is
 `N passed, M failed`.
 """
 import math

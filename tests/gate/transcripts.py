@@ -1,11 +1,10 @@
 #!/usr/bin/env python3
-"""Runs each command of README.md, docs/, examples/ and tests/transcripts/, and compares what it writes with the lines
-below it.
+"""Runs the commands that README.md, docs/, examples/ and tests/transcripts/ show, and compares their output.
 
-A block that begins ```console has commands, each on a line that begins with `$ ` and on those that follow a backslash at
-its end, and below each what it writes on standard output and standard error. They run at the top of the repository, with
-`hsms` on the path. Before that, `rt ci` has to have built the command. The logs of docs/RULES.md are audited too: each is the example of its rule, and has the
-verdict that the page tells. The last line is `N passed, M failed`.
+A block that begins with ```console has commands. A command is a line that begins with `$ `, and the lines that follow
+a backslash at its end. Its standard output and standard error are the lines below it. The commands run at the top of
+the repository, with `hsms` on the path. The logs of docs/RULES.md are audited too: each is the example of its rule,
+and has the verdict that the page shows. `rt ci` has to have built the command. The last line is `N passed, M failed`.
 """
 import glob
 import os

@@ -1,8 +1,8 @@
-"""What a page of `hsms explain --form html` has to be, by the text of the same log.
+"""Checks of a page of `hsms explain --form html`, by the text output for the same log.
 
-`fault_of(page, text, is_utc)` reads the page with `html.parser` and answers what is wrong with it, if anything is: tags
-that don't balance, a tag or an attribute that no page has, an id that stands twice, a link that leads nowhere, or words
-of a line, of a failure or of what stands on top that differ from those of the text.
+`fault_of(page, text, is_utc)` reads the page with `html.parser` and returns what is wrong with it, or nothing:
+unbalanced tags, an unknown tag or attribute, a repeated id, a link without a target, or a text of a line, of a failure
+or of the head that differs from the text output.
 """
 import re
 from html.parser import HTMLParser

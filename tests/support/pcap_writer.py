@@ -1,4 +1,4 @@
-"""Capture files that tests write: packets of TCP in each form of file and on each link, and the talk of two ends."""
+"""Writes capture files for tests: TCP packets in each file format and link type, and conversations of endpoints."""
 import struct
 
 FIN, SYN, RST, PUSH, ACK = 1, 2, 4, 8, 16

@@ -1,8 +1,8 @@
-"""Holds tests that look at a clock, or at what other processes do meanwhile.
+"""Repeats tests that depend on a clock or on other processes.
 
-A machine that stands still for a moment makes such a test fail, wherever in it the moment falls. So one that fails is
-held again, three times at most, and each time is told: what is wrong by itself is wrong each time. `HELD=1` in the
-environment has each test held once alone.
+A machine that stands still for a moment makes such a test fail. So a failed test is repeated, up to three runs, and
+each failure is printed. A test that is wrong by itself fails each time. With `HELD=1` in the environment each test
+runs once.
 """
 import os
 import subprocess

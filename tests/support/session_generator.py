@@ -1,8 +1,8 @@
-"""Captures of random sessions whose truth is known: what both ends said, whatever the capture made of it.
+"""Captures of random sessions whose messages are known, whatever the capture shows of them.
 
-One to three connections go over the wire in pieces that are cut anywhere, come again, overlap or change places. The
-capture may swap the directions, as mirror ports do, and lack packets. Each of the sessions is lawful, so no verdict on
-it may be a failure. Some captures also have messages of sessions that are not judged.
+One to three connections are split into segments anywhere, retransmitted, overlapping or out of order. The capture may
+swap the directions, as mirror ports do, and lose packets. Each session is valid, so no verdict on it may be a failure.
+Some captures also have messages of sessions that are not audited.
 """
 import random
 from dataclasses import dataclass, field, replace

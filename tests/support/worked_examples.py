@@ -1,6 +1,6 @@
-"""Worked inputs of the command and what it answers, from the standards and docs/FORMATS.md.
+"""Worked examples: inputs of the command and its answers, from the standards and docs/FORMATS.md.
 
-What stands here wasn't taken from an answer of the command.
+None of them was copied from the output of the command.
 """
 from dataclasses import dataclass
 from typing import List, Tuple

@@ -1,18 +1,18 @@
 #!/usr/bin/env python3
-"""Compares the command with the second reading on very many small inputs. It is no part of the gate, and run by hand.
+"""Compares the command with the reference on very many small inputs. It runs by hand, and is no part of the gate.
 
-Use: tests/tools/bulk.py COMMAND [CASES [SEED]] [--seconds N] [--program P]. COMMAND is audit, show, encode or capture; CASES
-is how many inputs are compared, 10,000 if left out, none of them twice; SEED is 1. With --seconds it ends when so many
-have gone by. It runs what `rt ci` has built, or P, and takes two processors.
+Use: tests/tools/bulk.py COMMAND [CASES [SEED]] [--seconds N] [--program P]. COMMAND is audit, show, encode or capture.
+CASES is the number of inputs (default 10,000), all different; SEED is 1 by default. With --seconds it ends after that
+time. It runs what `rt ci` has built, or P, and takes two processors.
 
-Inputs are made by chance, as those of reference_check.py and capture_reference.py, and the small ones are kept. Of each many more
-are made by damage: octets and digits that change, lines, messages, words and packets that change places, come twice or
-are missing, headers, times and settings that are others. The second reading answers each of them anew. For each the
-command is run, in a process of its own, by bulk_runner.c, which also compares output, error and status.
+The inputs are the small ones among the random inputs of reference_check.py and capture_reference.py, and many corrupt
+variants of each: changed bytes and digits; lines, messages, words and packets that are moved, repeated or missing;
+other headers, times and settings. The reference computes each answer. bulk_runner.c runs the command for each, in a
+process of its own, and compares output, error and status.
 
-Now and then a case is given once more with another answer, which has to be told as differing. The lines tell what the
-answers were, how many each, the smallest input with a difference, and at last how many differ. The status is 1 where
-one differs.
+Now and then a case is repeated with a changed answer, which has to be reported as a difference. The output counts the
+answers by kind, then shows the smallest input with a difference, and at last the number of differences. The status is
+1 if there is one.
 """
 import argparse
 import os
@@ -520,11 +520,11 @@ def main() -> int:
     if wrong:
         words, octets, wanted, answer = min(wrong, key=lambda one: len(one[1]))
         print(f"hsms {' '.join(words)}, input of {len(octets)} octets: {octets[:LONGEST_SHOWN].hex()}")
-        print(f"second reading: {wanted}\ncommand: {answer}")
+        print(f"reference: {wanted}\ncommand: {answer}")
     are_told = ran == compared + controls and len(differing) - len(wrong) == controls
     if not are_told:
         print(f"of {controls} answers that were changed {len(differing) - len(wrong)} are told, in {ran} runs")
-    print(f"second reading: {compared} {told.command}s, {len(wrong)} differ")
+    print(f"reference: {compared} {told.command}s, {len(wrong)} differ")
     return 1 if wrong or not are_told else 0
 
 

@@ -1,6 +1,8 @@
 #!/usr/bin/env python3
-"""What a crate's check took longest for: the functions, by the times at which the last check with one job wrote what it
-keeps of them in out/incremental. What an earlier check had kept isn't counted.
+"""Lists the functions that took longest in the last check of a crate with one job.
+
+The times are those at which the check wrote its files in out/incremental. Files that an earlier check kept do not
+count.
 
 Use: tests/tools/check_times.py CRATE [HOW MANY]
 """

@@ -1,43 +1,45 @@
 #!/usr/bin/env python3
-"""Tries the must-fail edits, many at once, and their harmless twins.
+"""Tries the must-fail edits, many at once, and the equivalent edits.
 
-A must-fail edit is a wrong body, which the check has to refuse: a file tests/must-fail/CRATE/NAME.edit, or one of those
-in crates/CRATE/must-fail/. These `rt ci` tries, so the gate doesn't try them here. By hand they are tried as the others.
+A must-fail edit changes a body to a wrong one, which the check has to refuse. It is a file
+tests/must-fail/CRATE/NAME.edit, or a file in crates/CRATE/must-fail/. `rt ci` tries the files of that second folder,
+so the gate does not try them here. By hand they are tried like the others.
 
     -- wrong body: what follows a message is read ahead
     file: src/read.rt
-    old: a text that stands once in the file
-    new: what stands there in its place
+    old: a text that occurs once in the file
+    new: the text in its place
 
-Further lines of a text stand each behind `and: `. In a crate's folder a text is one line, since `rt` reads no `and: `.
+Each further line of a text begins with `and: `. In a crate's folder a text is one line, since `rt` reads no `and: `.
 
-Where a file has several bodies, each stands behind a line `-- BODY`. A file of one body says in its first line what
-this does. Were it refused only because a proof no longer fits the changed text, that would say nothing of a contract.
-So it has a twin, tests/equivalent/NAME.edit: an edit of the same place and the same shape, which means what the code means
-as it stands, and has to be proved. Its first line is `-- crate: CRATE`. Twins are tried by hand, where what they stand
-for has changed; the gate sees that each wrong body has one, and that it can be applied.
+If a file has several bodies, each follows a line `-- BODY`. The first line of a file with one body says what the body
+does. If the check refused it only because a proof no longer fits the changed text, that would say nothing of a
+contract. So there is an equivalent edit, tests/equivalent/NAME.edit: an edit of the same place and shape that keeps
+the meaning of the code, and has to be proved. Its first line is `-- crate: CRATE`. Equivalent edits are tried by hand
+when their place has changed. The gate checks that each such body has one, and that it can be applied.
 
-An edit of what is no function, as of a constant or a definition, names by lines `only: PATH` the functions that it is
-tried on, as `rt check --only` takes them. In a crate's folder such a line begins with `--`, as a comment does to `rt`.
-One of a constant is tried with others: as a constant of another name, which that function alone has, beside itself.
-What else it turns may be others too, so it is tried by itself.
+An edit of a constant or a definition names the functions that it is tried on by lines `only: PATH`, as `rt check
+--only` takes them. In a crate's folder such a line begins with `--`, which is a comment to `rt`. An edit of a constant
+is tried together with others: as a second constant with another name, which that function alone uses. Another edit
+with `only:` is tried alone, since it may change other functions too.
 
-Bodies of different functions are tried in one check of a copy of their crate, since a proof sees of another function
-its contract alone. So there the other functions have no bodies, and their proofs are holes, which a check takes by
-their contracts: that they are proved is what was proved of the crate. A body is refused where the check names a goal of
-the function that it turns, or a line of this function's own proof that no longer fits, and not where only a function
-that it calls isn't proved. What such a check doesn't name is tried again among others, and at last alone. The last line
-is `N passed, M failed`.
+Bodies of different functions are tried in one check of a copy of their crate, since a proof uses only the contract of
+another function. In the copy the other functions have no bodies, and their proofs are holes, which a check accepts by
+their contracts: the proof of the crate has shown them. A body is refused if the check names a goal of the changed
+function, or a line of this function's own proof that no longer fits. It is not refused if only a function that it
+calls is not proved. Bodies that such a check does not name are tried again among others, and at last alone. The last
+line is `N passed, M failed`.
 
-Use: tests/tools/edits.py [CRATE..] tries all edits of these crates, or of all crates. What they stand on is built first, by
-./build, where neither that nor `rt ci` has built it.
-tests/tools/edits.py --beside FOLDER tries those of tests/must-fail/ while `rt ci` proves all crates: the edits of a crate once
-those are proved that it stands on, by a log `proofs` in the folder, to which a file `ended` comes with the status of
-`rt ci`, and a file `alone` once nothing else is tried any more. All checks give way to the others, and leave them a
-processor until then.
-tests/tools/edits.py --one CRATE NAME [BODY] tries one edit and writes what the check says, and tests/tools/edits.py --twins [NAME..]
-tries all twins, or some. tests/tools/edits.py --compile [CRATE..] proves nothing: in a minute or two it sees that each edit and
-twin can be applied and compiles.
+    edits.py [CRATE..]                tries all edits of these crates, or of all crates
+    edits.py --one CRATE NAME [BODY]  tries one edit, and writes the output of the check
+    edits.py --equivalent [NAME..]    tries all equivalent edits, or these
+    edits.py --compile [CRATE..]      checks that each edit can be applied and compiles, and proves nothing
+    edits.py --beside FOLDER          tries the edits in tests/must-fail/ while `rt ci` proves all crates
+
+If neither ./build nor `rt ci` has built the crates below, ./build does it first. With --beside, the edits of a crate
+begin when the crates below it are proved, according to the log `proofs` in FOLDER. `rt ci` has ended when the folder
+has a file `ended` with its status. Until there is a file `alone`, the checks leave one processor to others. They
+always have the lowest priority.
 """
 import argparse
 import functools
@@ -62,7 +64,7 @@ from tests.support.build_dirs import (
 )
 
 EDITS = f"{TOP}/tests/must-fail"
-TWINS = f"{TOP}/tests/twins"
+EQUIVALENT = f"{TOP}/tests/equivalent"
 WRONG_BODY = "-- wrong body: "
 OF_CRATE = "-- crate: "
 ONLY = re.compile(r"(?:-- )?only: (.*)")
@@ -309,23 +311,23 @@ def bodies_of(crate, folders=()):
     return [edit for path in files_of(crate, folders) for edit in edits_in(path, crate, name_of(path))]
 
 
-def all_twins():
-    """The twins of every crate."""
+def equivalent_edits():
+    """The equivalent edits of every crate."""
     found = []
-    for name in names_in(TWINS):
-        path = f"{TWINS}/{name}.edit"
+    for name in names_in(EQUIVALENT):
+        path = f"{EQUIVALENT}/{name}.edit"
         first, *lines = text_of(path).split("\n")
         found.append(Edit(first.removeprefix(OF_CRATE), name, changes_in(lines), named_in(lines)))
     return found
 
 
-def without_a_fellow(crates, twins):
-    """What is wrong with a wrong body and its twin beside one another, by name."""
+def unpaired(crates, equivalent):
+    """Returns the wrong bodies without an equivalent edit and the reverse, each name with what is missing."""
     files = [(crate, path) for crate in crates for path in files_of(crate)]
     alone = {name_of(path): crate for crate, path in files if text_of(path).startswith(WRONG_BODY)}
-    crate_of = {it.name: it.crate for it in twins}
-    told = {name: "it has no twin" for name in alone if crate_of.get(name) != alone[name]}
-    told.update({it.name: "it is the twin of no wrong body" for it in twins if alone.get(it.name) != it.crate})
+    crate_of = {it.name: it.crate for it in equivalent}
+    told = {name: "it has no equivalent edit" for name in alone if crate_of.get(name) != alone[name]}
+    told.update({it.name: "it is an equivalent edit of no wrong body" for it in equivalent if alone.get(it.name) != it.crate})
     return told
 
 
@@ -781,7 +783,7 @@ class Rooms:
 
 
 class Trial:
-    """The trials of a crate's edits and twins."""
+    """The trials of a crate's must-fail and equivalent edits."""
 
     def __init__(self, crate, home, lanes, is_beside=False):
         self.crate, self.lanes, self.size = crate, lanes, len(bodies_of(crate))
@@ -881,13 +883,13 @@ class Trial:
             self.compile_lot(lot[:middle])
             self.compile_lot(lot[middle:])
 
-    def prove(self, twins):
-        """Tries twins: each has to be proved."""
-        left = sum(self.at_once(self.not_proved, in_lots(self.applicable(twins))), [])
+    def prove(self, equivalent):
+        """Tries equivalent edits: each has to be proved."""
+        left = sum(self.at_once(self.not_proved, in_lots(self.applicable(equivalent))), [])
         self.at_once(self.prove_alone, left)
 
     def not_proved(self, lot):
-        """Tries twins together, and gives those back that aren't proved."""
+        """Tries equivalent edits together, and returns those that are not proved."""
         proved, _, _ = self.check(lot)
         self.count(passed=len(proved))
         return [it for it in lot if it not in proved]
@@ -899,7 +901,7 @@ class Trial:
         if proved:
             self.count(passed=1)
         else:
-            self.fail(edit, f"REFUSED, a twin: {first_error(output)}")
+            self.fail(edit, f"NOT PROVED, an equivalent edit: {first_error(output)}")
 
 
 def first_error(output):
@@ -909,11 +911,11 @@ def first_error(output):
     return next((line for line in lines if tells.search(line)), lines[-1])[:300]
 
 
-def tried(crate, bodies, twins, is_proved, lanes, is_beside=False, compiling=False):
-    """Tries the wrong bodies of a crate, which is proved already or not, or is beside, or else its twins, or only compiles both,
+def tried(crate, bodies, equivalent, is_proved, lanes, is_beside=False, compiling=False):
+    """Tries the wrong bodies of a crate, which is proved already or not, or is beside, or else its equivalent edits, or only compiles both,
     and tells what came of them.
 
-    Beside wrong bodies twins are only seen to be edits that can be applied.
+    With wrong bodies, it only checks that the equivalent edits can be applied.
     """
     began = time.monotonic()
     with tempfile.TemporaryDirectory(prefix="edits-") as home:
@@ -923,19 +925,19 @@ def tried(crate, bodies, twins, is_proved, lanes, is_beside=False, compiling=Fal
             if not (is_proved or is_beside or compiling):
                 is_proved, output = trial.is_proved()
             if compiling:
-                trial.compile([*bodies, *twins])
+                trial.compile([*bodies, *equivalent])
             elif (is_proved or is_beside) and bodies:
                 trial.refuse(bodies)
-                trial.applicable(twins)
+                trial.applicable(equivalent)
             elif is_proved:
-                trial.prove(twins)
+                trial.prove(equivalent)
             else:
                 trial.failed = [f"{crate}: it isn't proved without an edit: {first_error(output)}"]
         except (OSError, subprocess.TimeoutExpired) as error:
             trial.failed.append(f"{crate}: {error}")
     for it in trial.failed:
         print(it)
-    told = f"{len(bodies)} wrong bodies" if bodies else f"{len(twins)} twins"
+    told = f"{len(bodies)} wrong bodies" if bodies else f"{len(equivalent)} equivalent edits"
     print(f"{crate}: {told} in {trial.checks} checks, {time.monotonic() - began:.0f} s", flush=True)
     return trial.passed, len(trial.failed)
 
@@ -1024,18 +1026,18 @@ def main():
     parser = argparse.ArgumentParser(description=__doc__, formatter_class=argparse.RawDescriptionHelpFormatter)
     parser.add_argument("names", nargs="*", metavar="CRATE")
     parser.add_argument("--one", action="store_true", help="tries one edit: CRATE NAME [BODY]")
-    parser.add_argument("--twins", action="store_true", help="tries all twins, or those of these names")
-    parser.add_argument("--compile", action="store_true", help="sees that edits and twins compile")
+    parser.add_argument("--equivalent", action="store_true", help="tries all equivalent edits, or those of these names")
+    parser.add_argument("--compile", action="store_true", help="checks that edits compile")
     parser.add_argument("--beside", default="", metavar="FOLDER", help="tries them while `rt ci` runs, which tells there what is proved")
     asked = parser.parse_args()
     if asked.one:
         return try_one(asked.names[0], asked.names[1], asked.names[2] if len(asked.names) > 2 else "")
-    twins = all_twins()
+    equivalent = equivalent_edits()
     every = [it for it in crates_listed() if bodies_of(it)]
-    wrong = without_a_fellow(every, twins)
-    if asked.twins:
-        twins = [it for it in twins if not asked.names or it.name in asked.names]
-        crates, wrong, bodies = sorted({it.crate for it in twins}), {}, {}
+    wrong = unpaired(every, equivalent)
+    if asked.equivalent:
+        equivalent = [it for it in equivalent if not asked.names or it.name in asked.names]
+        crates, wrong, bodies = sorted({it.crate for it in equivalent}), {}, {}
     else:
         crates = [it for it in every if not asked.names or it in asked.names]
         bodies = {it: bodies_of(it, (gate_folder(it),) if asked.beside else ()) for it in crates}
@@ -1049,10 +1051,10 @@ def main():
     for name, why in wrong.items():
         print(f"{name}: {why}")
     crates.sort(key=size_of, reverse=True)
-    twins_of = lambda crate: [it for it in twins if it.crate == crate]
+    equivalent_of = lambda crate: [it for it in equivalent if it.crate == crate]
     lanes = Lanes(proofs.lanes)
     is_proved = lambda crate: crate in proofs.proved()
-    of_crate = lambda crate: tried(crate, bodies.get(crate, []), twins_of(crate), is_proved(crate), lanes, bool(asked.beside), asked.compile)
+    of_crate = lambda crate: tried(crate, bodies.get(crate, []), equivalent_of(crate), is_proved(crate), lanes, bool(asked.beside), asked.compile)
     results = each_in_its_turn(proofs, crates, of_crate)
     if results is None:
         return 1

@@ -1,7 +1,9 @@
 #!/usr/bin/env python3
-"""Looks where the documents lead: each link to a file or a heading of this repository, and each path in code quotes,
-has to be there, but for what a build makes. So have the files that CONTRIBUTING.md and docs/ARCHITECTURE.md name behind
-a crate's folder, and the crates, modules and definitions of the four ways. The last line is `N passed, M failed`.
+"""Checks the links and paths in the documents.
+
+Each link to a file or a heading of this repository, and each path in code quotes, has to exist, except for what a
+build creates. So do the files that CONTRIBUTING.md and docs/ARCHITECTURE.md name after a crate's folder, and the
+crates, modules and definitions of the four flows. The last line is `N passed, M failed`.
 """
 import glob
 import os

@@ -1,20 +1,19 @@
 #!/usr/bin/env python3
-"""Turns each number, order and condition of the second reading, one at a time, and tells which turns no input notices.
+"""Mutates each number, order and condition of the reference, and lists the mutants that no input notices.
 
-Use: tests/tools/mutate_reference.py [--workers N] [--share N] [MODULE[:LINE]..]. A definition that is wrong passes every proof where the
-code is wrong with it. What stands against that is the second reading, so far as its inputs reach what was turned. Here
-the reading itself is turned: a definition and a code that were both turned so would answer as it does, and the gate
-would notice where it answers one of the gate's inputs otherwise. Without words each module of the reading is turned
-(items, messages, notation, session, ends, linktest). SHARE is the part of the gate's random inputs that are asked, a
-tenth if left out; those at edges, corners and in tables are asked all. What the gate asks of `--linktest` is as the
-clock had it, so logs of ends stand for it here, of which every second one has a test too soon or too late.
+Use: tests/tools/mutate_reference.py [--workers N] [--share N] [MODULE[:LINE]..]. A wrong definition passes every proof
+if the code is wrong in the same way. The reference guards against that, as far as its inputs reach the place. So the
+reference itself is mutated here. A definition and code with the same mutation would behave like the mutant, and the
+gate would notice if the mutant answers one of the gate's inputs otherwise. By default each of these modules is
+mutated: items, messages, notation, session, ends, linktest. SHARE is the part of the gate's random inputs that are
+used (default: a tenth); the edge cases and the tables are always used. The gate's inputs for `--linktest` depend on
+the clock. Here logs of endpoints replace them, every second one with a linktest too early or too late.
 
-Numbers go up and down by one. Comparisons go to their neighbours. Conditions are left out, as a whole or in part, and
-hold always or never. What is listed is left out, and what stands in an order changes places. Annotations, words and
-texts stay.
+Numbers change by one in both directions. Comparisons become their neighbours. Conditions are dropped, as a whole or in
+part, and hold always or never. Elements of lists are dropped, and neighbours are swapped. Annotations and texts stay.
 
-By hand, and not in the gate: it takes half an hour. Each turn that nothing noticed is told with its line; some mean
-the same as what they turn. The last line is `N turns, M unnoticed`.
+It runs by hand, and takes half an hour. Each mutant that nothing noticed is printed with its line; some mean the same
+as the original. The last line is `N mutants, M unnoticed`.
 """
 import argparse
 import ast
@@ -311,7 +310,7 @@ def main() -> int:
             results.append(is_noticed)
             if not is_noticed:
                 print(f"unnoticed: {what}", flush=True)
-    print(f"{len(results)} turns, {results.count(False)} unnoticed")
+    print(f"{len(results)} mutants, {results.count(False)} unnoticed")
     return 0
 
 

@@ -1,10 +1,10 @@
 #!/usr/bin/env python3
-"""Compares the public items of the crates that were asked for with what DECISIONS lists beyond that.
+"""Compares the public items of the crates with those that the papers ask for and those that DECISIONS lists.
 
-An item is a function, a constant, a type or a trait that a crate exports, or of a type that was asked for a method, a
-field or a variant. `ASKED` has what was asked for. Each other item has to stand, in backquotes, in the list "Public
-beyond what was asked for" of docs/DECISIONS.md, in the entry of its crate; and what stands there has to be public. The
-modules `laws` are left out. A type that is listed brings its fields, variants and methods.
+An item is a function, constant, type or trait that a crate exports, or a method, field or variant of a type that the
+papers ask for. `ASKED` has the items of the papers. Each other item has to be, in backquotes, in the list "Public
+beyond what was asked for" of docs/DECISIONS.md, in the entry of its crate, and each item of the list has to be public.
+The modules `laws` are skipped. A listed type includes its fields, variants and methods.
 
 It reads sources alone. The last line is `N passed, M failed`.
 """

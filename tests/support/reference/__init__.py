@@ -1,9 +1,11 @@
-"""A second reading of the formats and the rules, written from their descriptions in docs/ and the public standards.
+"""The reference implementation of the formats and rules, written from their descriptions in docs/ and the standards.
 
-It shares no line with the command, and is made for being read, not for speed. `tests/gate/reference_check.py` compares the
-two readings on random inputs.
+It shares no line with the command, and is written to be read, not for speed. The scripts in tests/gate/ compare the
+two.
 
-`items`, `notation`, `messages`, `session` and `ends` are the reading, and of captures `packets`, `wire` and
-`capturing`; `inputs`, `walks`, `talks` and `damage` make the inputs; `cases` are runs of the command with the answers
-of this reading.
+- The reference: `items`, `notation`, `messages`, `session`, `ends`, `linktest`, `explain` and `reasons`; for captures
+  `packets`, `tcp`, `midstream`, `unaudited` and `capture_audit`.
+- Inputs: `random_messages`, `random_logs`, `conversations`, `corruption`, `edge_cases`, `endpoint_inputs`,
+  `endpoint_cases`, `full_endpoints` and `idle_links`. They contain no answers.
+- `cases`: runs of the command with the answers of the reference.
 """

@@ -1,6 +1,6 @@
-"""What `hsms capture` writes of a capture file: the verdicts on both ends of each connection, or the log of one role.
+"""The output of `hsms capture` for a capture file: the verdicts on both ends of connections, or the log of a role.
 
-The whole file is read, and then what a reader that sees one packet after the other writes is put into its order.
+It reads the whole file first, and then sorts the output into the order of a reader that sees one packet at a time.
 """
 from dataclasses import dataclass, field, fields
 from ipaddress import ip_address

@@ -1,4 +1,4 @@
-"""Runs of the command, each with the answer that the second reading gives."""
+"""Runs of the command, each with the answer of the reference."""
 import re
 from dataclasses import dataclass, fields
 from typing import List, Optional, Set
@@ -30,7 +30,7 @@ CAPITALS = "t3 in capital digits"
 
 @dataclass(frozen=True)
 class Case:
-    """A run of the command, the answer that the second reading gives, and what the input reaches."""
+    """A run of the command, the answer that the reference gives, and what the input reaches."""
 
     words: List[str]
     given: bytes

@@ -1,6 +1,6 @@
-"""Random talks of two ends: long lists of what each is told, moments that jump, octets in pieces, garbage between.
+"""Random conversations of two endpoints: long lists of inputs, jumps of the clock, bytes in pieces, garbage.
 
-The ends are those of `ends`. Nothing here judges: whether their logs pass, the command says.
+The endpoints are those of `ends`. Whether their logs pass is for the command to say.
 """
 from dataclasses import dataclass
 from typing import Any, List, Set, Tuple

@@ -1,7 +1,6 @@
-"""Damaged inputs: examples and random inputs that are cut, of which bits are flipped, whose lengths and counts lie; of
-logs also connections that come up twice or go on, and other versions.
+"""Corrupt inputs: examples and random inputs that are truncated, have flipped bits, or claim wrong lengths and counts.
 
-Nothing here judges: what an input is worth, the two readings say.
+Logs also have connections that are established twice or continue, and other versions.
 """
 import glob
 import re

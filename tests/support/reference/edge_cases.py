@@ -1,7 +1,7 @@
-"""Logs for `hsms audit` in which one thing decides: an entry that breaks two rules, an event that a rule binds, a
-number that is in use, a transaction that something closes or leaves open.
+"""Logs for `hsms audit` in which one thing decides.
 
-Nothing here judges: what a log is worth, and what it shows, the two readings say.
+An entry breaks two rules, a rule applies to an event, a number is in use, or something closes a transaction or leaves
+it open.
 """
 from typing import Iterator, List, Tuple, Union
 

@@ -1,8 +1,7 @@
-"""Lists of what an end is told in which one thing decides: each message to hosts and equipment that connect or listen,
-selected or not; each timer at its end and past it, by what is open; fronts of messages that are too long or too short;
-what is sent, at its edges.
+"""Lists of inputs of an endpoint in which one thing decides.
 
-Nothing here judges: what an end answers, the two readings say.
+They have each message to host and equipment, active and passive, selected or not; each timer at its limit and past it,
+by what is open; prefixes of messages that are too long or too short; and messages to send, at the limits.
 """
 from functools import lru_cache
 from itertools import combinations, product

@@ -1,7 +1,7 @@
-"""Damaged lists of what an end is told, as `hsms_ends_driver` reads them, and what a second reading of the ends answers.
+"""Corrupt lists of inputs of an endpoint, as `hsms_ends_driver` reads them, and the answers of the reference.
 
-A list is what an end was told in a talk, with octets that are cut, flipped or lie, in other pieces, at other moments,
-in another order. Nothing here judges: what a list comes to, the two readings say.
+A list is the inputs of an endpoint in a conversation, with bytes that are cut off, flipped or wrong, in other pieces,
+at other times, in another order.
 """
 from dataclasses import dataclass, replace
 from typing import List, Set
@@ -146,7 +146,7 @@ def listed(seed: str, number: int) -> Listed:
 
 
 class Answering:
-    """An end of the second reading that is told a list, the lines that each call answers, and what it did."""
+    """An end of the reference that is told a list, the lines that each call answers, and what it did."""
 
     def __init__(self, listed: Listed):
         self.maker = listed.maker

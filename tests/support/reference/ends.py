@@ -1,6 +1,6 @@
-"""An own end of a session, by docs/ENDS.md: what it logs and sends of what it is told.
+"""One endpoint of a session, by docs/ENDS.md: what it logs and sends.
 
-What may be taken is asked of the rules in `session`. An end here never runs out of memory.
+The rules in `session` decide what it accepts. This endpoint never runs out of memory.
 """
 from collections import Counter
 from dataclasses import dataclass

@@ -1,7 +1,7 @@
-"""What `hsms explain` tells of a log: its lines, what they close, each failure, and how the log is gone on with.
+"""The output of `hsms explain` for a log: its lines, what they close, each failure, and the repaired log.
 
-The open transactions and the rules are those of `session`, read off the whole list of the entries that the log is gone
-on with. The text is this project's own.
+The open transactions and the rules are those of `session`, computed from the whole list of entries of the repaired
+log. The text is project-specific.
 """
 import re
 from datetime import datetime, timedelta, timezone

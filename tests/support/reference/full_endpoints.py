@@ -1,8 +1,4 @@
-"""Lists of what an end is told with as many open transactions as it may have, and calls of which it refuses each for
-more than one fault.
-
-Nothing here judges: which fault is answered, the two readings say.
-"""
+"""Lists of inputs of an endpoint with the maximum of open transactions, and calls with several errors each."""
 from itertools import combinations
 from typing import List, Tuple
 

@@ -1,6 +1,6 @@
-"""Logs of ends that test their links, some with a line at another moment: what tests/tools/mutate_reference.py asks of `serving`.
+"""Logs of endpoints that test their links, some with a line at another time, for tests/tools/mutate_reference.py.
 
-An end of this reading is told what comes at random moments, and tests its link when docs/ENDS.md has it do so.
+An endpoint of the reference receives input at random times, and tests its link when docs/ENDS.md requires it.
 """
 from typing import List, NamedTuple
 

@@ -1,4 +1,4 @@
-"""Data items (SEMI E5): which octets are an item, what is wrong with those that are none, and the shortest spelling."""
+"""Data items (SEMI E5): which bytes are an item, what is wrong with other bytes, and the shortest encoding."""
 from dataclasses import dataclass
 from typing import Any, Optional, Tuple
 

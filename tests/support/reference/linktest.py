@@ -1,6 +1,6 @@
-"""When `hsms serve --linktest` has to test its link, by docs/ENDS.md: an end here is told again what a log says was told.
+"""When `hsms serve --linktest` has to test its link, by docs/ENDS.md: an endpoint receives again what a log says.
 
-Octets came in whole messages, and nothing was sent by a script.
+The log's messages arrived complete, and no script sent any.
 """
 from typing import List
 

@@ -1,4 +1,4 @@
-"""Messages as octets (SEMI E37, section 8): frames, headers and kinds; what `hsms show` and `hsms encode` answer."""
+"""Messages as bytes (SEMI E37, section 8): frames, headers and kinds; the answers of `hsms show` and `hsms encode`."""
 import re
 from dataclasses import dataclass
 from typing import List, Optional, Tuple

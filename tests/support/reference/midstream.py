@@ -1,10 +1,8 @@
-"""A session that was running before the capture: where each direction begins, what is supposed to stand before what was
-captured, and which responses are left out.
+"""A session that started before the capture: the sync points, the assumptions, and the responses that are skipped.
 
-It is read off all packets of the connection, of which none is a SYN, from the first one on that doesn't reset it. Its
-first packets are kept, and looked at whenever they are as many as a power of two, until three messages stand at the
-beginning of each direction. Then its packets are those of a connection whose SYNs stand before the first octets, and are
-read as such.
+It is computed from all packets of the connection, none of which is a SYN, from the first one on that does not reset
+it. The first packets are buffered, and checked whenever their number is a power of two, until each direction begins
+with three messages. Then a connection is read whose SYNs come directly before the first bytes.
 """
 from dataclasses import dataclass, field, replace
 from itertools import dropwhile

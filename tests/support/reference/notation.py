@@ -1,4 +1,4 @@
-"""The notation of data messages (this project's own): tokens, reading, faults and their places, the printed form."""
+"""The project-specific notation of data messages: tokens, parsing, errors and their positions, the printed form."""
 import re
 from dataclasses import dataclass
 from typing import Any, Iterator, List, NamedTuple, Optional, Tuple

@@ -1,7 +1,4 @@
-"""Capture files: the packets of pcap and pcapng, and the TCP segment that a packet carries.
-
-What is read, and how faults are told, is that of docs/FORMATS.md.
-"""
+"""Capture files: the packets of pcap and pcapng, and the TCP segment in a packet, by docs/FORMATS.md."""
 import struct
 from dataclasses import dataclass, field
 from typing import List, Optional, Tuple, Union

@@ -1,7 +1,4 @@
-"""Random inputs for `hsms audit`: logs that are mostly lawful, and then end at a rule or close to one.
-
-Nothing here judges: what a log is worth, the two readings say.
-"""
+"""Random inputs for `hsms audit`: logs that are mostly valid, and then end at a rule or close to one."""
 from dataclasses import dataclass, replace
 from typing import Callable, Iterator, List, Tuple
 

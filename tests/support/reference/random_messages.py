@@ -1,7 +1,6 @@
-"""Random inputs for `hsms show` and `hsms encode`: streams of messages, messages in notation.
+"""Random inputs for `hsms show` and `hsms encode`: streams of messages, and messages in notation.
 
-They are mostly right, so that what is behind the front is looked at too, and then often a little wrong. Nothing here
-judges: what an input is worth, the two readings say.
+They are mostly valid, so that what follows the prefix is read too, and then often a little wrong.
 """
 import random
 from dataclasses import dataclass, replace

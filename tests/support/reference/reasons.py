@@ -1,4 +1,4 @@
-"""Why a line of a log cannot be read: the column, from 1, the reason and the form that was expected, all in words."""
+"""Why a line of a log cannot be read: the column, from 1, the reason and a hint, in words."""
 import re
 from typing import Callable, List, NamedTuple, Optional, Tuple
 

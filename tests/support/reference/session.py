@@ -1,8 +1,8 @@
 """The log of a session: its text, its entries, the 19 rules, the verdict.
 
-What a message means is that of SEMI E37 and E37.1. The log's text and the order of the rules are this project's own.
-The facts that the rules ask for (open, selected, over, overdue) are read off the whole list of entries, each by its
-definition; nothing is kept from one entry to the next.
+The meaning of a message is that of SEMI E37 and E37.1. The log's text and the order of the rules are project-specific.
+What the rules need (open, selected, ended, overdue) is computed from the whole list of entries, each by its
+definition. Nothing is kept from one entry to the next.
 """
 import re
 from dataclasses import dataclass

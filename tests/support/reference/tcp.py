@@ -1,8 +1,8 @@
-"""What the wire shows of one connection: when it came up, its messages in the order of cause, when it went down.
+"""What the packets show of one connection: when it was established, its messages in order, when it was closed.
 
-It is read off all packets of the connection, by the definition: places, turns, the first loss, the first copy that
-differs. Of each thing that happens it is said besides at which packet a reader that sees one packet after the other
-can be sure of it.
+It is computed from all packets of the connection, by the definitions: offsets, in-order delivery, the first loss, the
+first conflicting retransmission. Each event also has the packet at which it is final for a reader that sees one packet
+at a time.
 """
 from bisect import bisect_left
 from dataclasses import dataclass, field

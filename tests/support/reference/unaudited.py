@@ -1,4 +1,4 @@
-"""What looks like HSMS in a capture and is not judged, and the line that says so."""
+"""HSMS in a capture that is not audited, and the line that reports it."""
 from dataclasses import dataclass, field
 from typing import Iterable, List, Optional, Set
 
