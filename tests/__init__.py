@@ -1,4 +1,8 @@
-"""The tests: scripts of the gate in `gate/`, tools that run by hand or on sources in `tools/`, shared modules in `support/`.
+"""The tests.
 
-`run.py` runs the scripts of the gate.
+- `gate/`: the scripts of the gate, which run the built programs.
+- `tools/`: scripts that run by hand, or on sources and documents.
+- `support/`: modules that several scripts share. No script imports another script.
+- `run.py`: runs the scripts of the gate.
+- `must-fail/`, `equivalent/`, `captures/`, `transcripts/`: data.
 """

@@ -525,7 +525,8 @@ def worked_cases() -> Iterator[Case]:
         "incomplete packet=7 pass entries=3 sent=1 taken=1"), "Differs packet=7", 2
     yield "a length of 9", capture_examples.wrong_length("00000009ffff00000009000000").octets, Options(), lines_of(
         "incomplete packet=6 pass entries=3 sent=1 taken=1"), "Length packet=6", 2
-    yield "a length past the limit", capture_examples.wrong_length("00000101" + "00" * 257).octets, Options(max=256), lines_of(
+    past = capture_examples.wrong_length("00000101" + "00" * 257).octets
+    yield "a length past the limit", past, Options(max=256), lines_of(
         "incomplete packet=6 pass entries=3 sent=1 taken=1"), "Length packet=6", 2
     for name, data, is_told in (
         ("of which the length alone is there", "00000009", True), ("of text at the port", b"HTTP/1.1 200".hex(), True),

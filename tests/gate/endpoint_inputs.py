@@ -95,7 +95,8 @@ def main() -> int:
             for wrong in wrongs:
                 print(wrong, flush=True)
     # why a message is thrown away isn't told to a list, and `hsms_ends_driver` has no desk that replies from a script
-    of_talks = [what for what in conversations.TO_REACH if not what.startswith("!") and not what.endswith(" of a script")]
+    named = [what for what in conversations.TO_REACH if not what.startswith("!")]
+    of_talks = [what for what in named if not what.endswith(" of a script")]
     to_reach = of_talks + full_endpoints.TO_REACH + endpoint_cases.TO_REACH
     missed = [what for what in to_reach if not reached[what]]
     missed = missed if told.count >= ENOUGH else []

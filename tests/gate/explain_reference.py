@@ -129,7 +129,8 @@ def help_of_rules() -> Optional[str]:
 def main() -> int:
     count, seed = int(sys.argv[1]) if len(sys.argv) > 1 else 500, sys.argv[2] if len(sys.argv) > 2 else "1"
     random = [random_logs.random_log(Chance(f"{seed} explain {number}")) for number in range(count)]
-    logs = [*example_logs(), *random_logs.logs_at_edges(), *edge_cases.logs(), *markup(), *random, *reasons.damaged_logs(seed, 2 * count)]
+    fixed = [*example_logs(), *random_logs.logs_at_edges(), *edge_cases.logs(), *markup()]
+    logs = [*fixed, *random, *reasons.damaged_logs(seed, 2 * count)]
     logs += [many_sorts(), many_kinds(), *(repeated(log) for log in random + example_logs())]
     with ProcessPoolExecutor() as pool:
         differences = [(len(log), told) for log, told in zip(logs, pool.map(difference, logs)) if told]

@@ -82,7 +82,8 @@ class Plan:
         if command == "audit":
             return audit_case(self.logs[number] if number < len(self.logs) else random_logs.random_log(chance))
         if command == "show":
-            return show_case(*(random_messages.random_lines(chance) if number % 3 == 2 else random_messages.random_stream(chance)))
+            made = random_messages.random_lines if number % 3 == 2 else random_messages.random_stream
+            return show_case(*made(chance))
         is_at_edge = number < len(self.notations)
         return encode_case(*(self.notations[number] if is_at_edge else random_messages.random_notation(chance)))
 

@@ -53,9 +53,9 @@ def kit_module():
 def check_command(crate, room):
     """Returns the command that checks a crate in a build directory: the call of the prover that `rt check` makes.
 
-    `rt check` would first build again what `rt ci` has built below the crate, since `rt ci` leaves no sum of its sources
-    next to a library. In the gate that would take longer than the checks. No public command prints the call. If the
-    private module has changed, the command is `rt check`.
+    `rt check` would first build again what `rt ci` has built below the crate, since `rt ci` leaves no sum of its
+    sources next to a library. In the gate that would take longer than the checks. No public command prints the call.
+    If the private module has changed, the command is `rt check`.
     """
     jobs = ["--jobs", "1"]
     try:
@@ -96,7 +96,7 @@ def copy_parts(crate, parts, room, how):
 
 
 def room_for(crate, room):
-    """Copies a crate, which may be changed there, and what is built below it, which may not. Returns the crate's folder."""
+    """Copies a crate, which may be changed there, and what is built below it. Returns the crate's folder."""
     listed = crates_listed()
     below = crates_below(crate, listed)
     for name in sorted(below):

@@ -1,11 +1,11 @@
-// Stands before calls of the C library that take memory, read, write, receive, send and ask the clock, by LD_PRELOAD.
+// Replaces calls of the C library that allocate, read, write, receive, send and read the clock, by LD_PRELOAD.
 //
-// REFUSE_MEMORY, REFUSE_READ, REFUSE_WRITE, REFUSE_RECV and REFUSE_SEND each count calls from 1, and the call that they
-// name is refused; with INTERRUPTED set, all but the first as if a signal had come. With FROM_INPUT set, calls that take
-// memory are counted from the first read of standard input on. Where it comes to a refusal, the file that REFUSED names
-// is made. With ONE_OCTET set, each read and each write moves one octet. With CLOCK_STEP set, each look at the clock is
-// so many nanoseconds later than the one before. In the file that HELD names stand two numbers of 64 bits: how many
-// octets are held, and the most that were.
+// REFUSE_MEMORY, REFUSE_READ, REFUSE_WRITE, REFUSE_RECV and REFUSE_SEND give the number of a call, from 1, that fails. If
+// INTERRUPTED is set, it fails as if a signal had arrived, except for allocations. If FROM_INPUT is set, allocations count
+// from the first read of standard input on. When a call fails, the file that REFUSED names is created. If ONE_OCTET is
+// set, each read and each write moves one byte. If CLOCK_STEP is set, each reading of the clock is that many nanoseconds
+// later than the one before. The file that HELD names has two numbers of 64 bits: the allocated bytes now, and their
+// maximum.
 #include <errno.h>
 #include <fcntl.h>
 #include <malloc.h>

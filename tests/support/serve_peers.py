@@ -77,7 +77,8 @@ class Serving:
     def __init__(
         self, role, link, port, *options, script=None, send=True, address=HERE, stdout=subprocess.PIPE, env=None
     ):
-        words = [Serving.program, "serve", "--role", role, "--link", link, "--address", address, "--port", str(port), *options]
+        words = [Serving.program, "serve", "--role", role, "--link", link, "--address", address, "--port", str(port)]
+        words += options
         self.run = subprocess.Popen(
             words + (["--send"] if send and script is not None else []),
             stdin=subprocess.DEVNULL if script is None else subprocess.PIPE,
@@ -257,7 +258,8 @@ def times(log):
 
 
 def audited(log):
-    return subprocess.run([Serving.program, "audit"], input=log.encode(), stdout=subprocess.PIPE, timeout=SOON).stdout.decode()
+    ran = subprocess.run([Serving.program, "audit"], input=log.encode(), stdout=subprocess.PIPE, timeout=SOON)
+    return ran.stdout.decode()
 
 
 def passes(log):

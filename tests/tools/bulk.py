@@ -190,7 +190,8 @@ def within_a_line(chance: Chance, log: bytes) -> bytes:
 OF_LOGS: List[Damage] = [
     *[lines_moved] * 8, *[other_time] * 4, *[later_from_a_line] * 8, *[other_mark] * 4, *[other_octet_of_header] * 8,
     *[header_of_another] * 6, *[another_text_of_frame] * 4, *[other_setting] * 3, *[one_more_line] * 4, within_a_line,
-    corruption.reconnect, corruption.other_version, corruption.other_digit, corruption.other_digit, corruption.claim_in_words, corruption.cut,
+    corruption.reconnect, corruption.other_version, corruption.other_digit, corruption.other_digit,
+    corruption.claim_in_words, corruption.cut,
     corruption.flip, corruption.repeat, corruption.leave_out, corruption.mix, corruption.fill,
 ]
 
@@ -242,11 +243,13 @@ def blanks(chance: Chance, text: bytes) -> bytes:
 
 OF_STREAMS: List[Damage] = [
     *[messages_moved] * 4, *[within_a_message] * 10, *[another_text] * 8, corruption.claim_of_message, corruption.claim,
-    disturbed, corruption.flip, corruption.cut, corruption.repeat, corruption.leave_out, corruption.mix, corruption.fill,
+    disturbed, corruption.flip, corruption.cut, corruption.repeat, corruption.leave_out, corruption.mix,
+    corruption.fill,
 ]
 
 OF_DIGITS: List[Damage] = [
-    *[lines_moved] * 3, *[corruption.other_digit] * 8, blanks, blanks, disturbed, corruption.flip, corruption.cut, corruption.repeat,
+    *[lines_moved] * 3, *[corruption.other_digit] * 8, blanks, blanks, disturbed, corruption.flip, corruption.cut,
+    corruption.repeat,
     corruption.leave_out, corruption.mix, corruption.fill,
 ]
 
@@ -348,7 +351,8 @@ def put_in(chance: Chance, octets: bytes) -> bytes:
 
 
 OF_CAPTURES: List[Damage] = [
-    *[packets_moved] * 6, *[within_a_packet] * 8, corruption.flip, corruption.claim, corruption.cut, corruption.leave_out, put_in,
+    *[packets_moved] * 6, *[within_a_packet] * 8, corruption.flip, corruption.claim, corruption.cut,
+    corruption.leave_out, put_in,
 ]
 
 
@@ -501,9 +505,10 @@ def given() -> argparse.Namespace:
 
 def main() -> int:
     told = given()
-    with tempfile.TemporaryDirectory(prefix="hsms-many-") as room:
-        runner, found = f"{room}/many.so", f"{room}/differing"
-        subprocess.run(["cc", "-shared", "-fPIC", "-O2", "-o", runner, f"{TOP}/tests/tools/bulk_runner.c", "-ldl"], check=True)
+    with tempfile.TemporaryDirectory(prefix="hsms-bulk-") as room:
+        runner, found = f"{room}/bulk_runner.so", f"{room}/differing"
+        source = f"{TOP}/tests/tools/bulk_runner.c"
+        subprocess.run(["cc", "-shared", "-fPIC", "-O2", "-o", runner, source, "-ldl"], check=True)
         with open(found, "wb") as output:
             running = subprocess.Popen(
                 [told.program], stdin=subprocess.PIPE, stdout=output, stderr=subprocess.PIPE, bufsize=1 << 20,

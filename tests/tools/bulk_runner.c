@@ -1,14 +1,14 @@
-// Runs a program on many cases, and compares each answer with the wanted one. tests/tools/bulk.py builds and feeds it.
+// Runs a program on many cases, and compares each answer with the expected one. tests/tools/bulk.py builds and feeds it.
 //
-// Use: LD_PRELOAD=many.so PROGRAM < CASES > DIFFERING. It stands before the program's main, and before what is
-// initialised for it: for each case a process is forked there that goes on as the program with the words of that case,
-// on its input. So no case waits for the program to be loaded. Input, output and error are files in memory.
+// Use: LD_PRELOAD=bulk_runner.so PROGRAM < CASES > DIFFERING. It starts before the program's main and its initialisation.
+// For each case it forks a process that continues as the program, with the arguments of that case, on its input. So no
+// case waits until the program is loaded. Input, output and error are files in memory.
 //
-// A case is, each with its size in front in four octets of this machine: the count of its words and the words; the
-// input; the wanted status; the wanted output; the wanted error. Behind the last case stands the count 0xffffffff. Of
-// each case whose answer differs the same is written, and behind it what the program answered: status, output, error.
-// The status of a program that a signal ended is 256 more than the signal. A run may take two minutes. At the end two
-// numbers go to standard error: how many cases there were, and how many differ.
+// A case is: the number of its arguments, and the arguments; the input; the expected status; the expected output; the
+// expected error. Each text follows its size, in four bytes of this machine. The count 0xffffffff follows the last case.
+// A case with another answer is written in the same form, and then the program's answer: status, output, error. The
+// status of a program that a signal ended is 256 more than the signal. A run may take two minutes. At the end two numbers
+// go to standard error: the number of cases, and the number of those that differ.
 #define _GNU_SOURCE
 #include <dlfcn.h>
 #include <fcntl.h>

@@ -327,7 +327,8 @@ def unpaired(crates, equivalent):
     alone = {name_of(path): crate for crate, path in files if text_of(path).startswith(WRONG_BODY)}
     crate_of = {it.name: it.crate for it in equivalent}
     told = {name: "it has no equivalent edit" for name in alone if crate_of.get(name) != alone[name]}
-    told.update({it.name: "it is an equivalent edit of no wrong body" for it in equivalent if alone.get(it.name) != it.crate})
+    unused = [it.name for it in equivalent if alone.get(it.name) != it.crate]
+    told.update({name: "it is an equivalent edit of no wrong body" for name in unused})
     return told
 
 
@@ -912,8 +913,8 @@ def first_error(output):
 
 
 def tried(crate, bodies, equivalent, is_proved, lanes, is_beside=False, compiling=False):
-    """Tries the wrong bodies of a crate, which is proved already or not, or is beside, or else its equivalent edits, or only compiles both,
-    and tells what came of them.
+    """Tries the wrong bodies of a crate, or if there are none its equivalent edits, or only compiles both, and prints the
+    result.
 
     With wrong bodies, it only checks that the equivalent edits can be applied.
     """
@@ -1054,7 +1055,9 @@ def main():
     equivalent_of = lambda crate: [it for it in equivalent if it.crate == crate]
     lanes = Lanes(proofs.lanes)
     is_proved = lambda crate: crate in proofs.proved()
-    of_crate = lambda crate: tried(crate, bodies.get(crate, []), equivalent_of(crate), is_proved(crate), lanes, bool(asked.beside), asked.compile)
+    of_crate = lambda crate: tried(
+        crate, bodies.get(crate, []), equivalent_of(crate), is_proved(crate), lanes, bool(asked.beside), asked.compile
+    )
     results = each_in_its_turn(proofs, crates, of_crate)
     if results is None:
         return 1

@@ -224,11 +224,14 @@ def inputs_of(share: float) -> List[Tuple[str, object, object]]:
     )
     made = [("audit", log) for log in edge_cases.logs() + random_logs.logs_at_edges()]
     made += [("encode", notation) for notation in random_messages.notations_at_edges()]
-    made += [("driven", endpoint_inputs.listed("1", number)) for number in range(len(endpoint_cases.lists()) + int(3000 * share))]
-    made += [("audit", random_logs.random_log(random_messages.Chance(f"1 audit {at}"))) for at in range(int(4000 * share))]
-    made += [("show", random_messages.random_stream(random_messages.Chance(f"1 show {at}"))) for at in range(int(4000 * share))]
-    made += [("encode", random_messages.random_notation(random_messages.Chance(f"1 encode {at}"))) for at in range(int(4000 * share))]
-    made += [("tested", idle_links.paused(number)) for number in range(int(4000 * share))]
+    lists, others = len(endpoint_cases.lists()) + int(3000 * share), int(4000 * share)
+    made += [("driven", endpoint_inputs.listed("1", number)) for number in range(lists)]
+    makers = {
+        "audit": random_logs.random_log, "show": random_messages.random_stream, "encode": random_messages.random_notation,
+    }
+    for kind, make in makers.items():
+        made += [(kind, make(random_messages.Chance(f"1 {kind} {at}"))) for at in range(others)]
+    made += [("tested", idle_links.paused(number)) for number in range(others)]
     plain = messages.Options()
     for at in range(int(6000 * share)):
         case = corruption.case("1", at)

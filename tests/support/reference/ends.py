@@ -9,7 +9,9 @@ from typing import Callable, List, Optional, Sequence
 from tests.support.reference.items import BY_NAME, Fault, Item, decode_text, encode
 from tests.support.reference.messages import HEADER, Frame, frame_at
 from tests.support.reference.notation import Message
-from tests.support.reference.session import DISCARDED, SENT, TAKEN, Before, Entry, Settings, closes, opens, rule_of_frame
+from tests.support.reference.session import (
+    DISCARDED, SENT, TAKEN, Before, Entry, Settings, closes, opens, rule_of_frame,
+)
 
 MOST_OWN = 64
 REJECT_REASONS = {"PType": 2, "SType": 1, "NotSelected": 4}

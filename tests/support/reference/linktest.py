@@ -5,7 +5,6 @@ The log's messages arrived complete, and no script sent any.
 from typing import List
 
 from tests.support.reference.ends import Desk, End, first_line, line_of
-from tests.support.reference.messages import Frame
 from tests.support.reference.session import Settings
 
 # How much later than it is due the link may be tested, in milliseconds.

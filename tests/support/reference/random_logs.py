@@ -2,7 +2,9 @@
 from dataclasses import dataclass, replace
 from typing import Callable, Iterator, List, Tuple
 
-from tests.support.reference.random_messages import Chance, Draft, any_spelling, disturbed, of_length, random_item, random_text
+from tests.support.reference.random_messages import (
+    Chance, Draft, any_spelling, disturbed, of_length, random_item, random_text,
+)
 
 GREATEST_TIME = (1 << 64) - 1
 SENT, TAKEN, DISCARDED = ">", "<", "!"
