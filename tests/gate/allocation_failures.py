@@ -42,7 +42,7 @@ WORKERS = 2
 # How the program of a crate's tests is called, after the crate.
 OF_TESTS = "_tests"
 
-# How many lists are told to ends.
+# The number of input lists of endpoints.
 LISTS = 20
 
 # What a test, and a program, says where memory was refused.
@@ -51,7 +51,7 @@ WANT_OF_MEMORY = re.compile(
     re.M | re.I,
 )
 
-# The calls that fail_calls.c stands before, and all calls of the C library that hand memory out or call the system.
+# The calls that fail_calls.c replaces, and all calls of the C library that hand memory out or call the system.
 REFUSED = {"malloc", "calloc", "realloc", "memalign", "aligned_alloc", "posix_memalign"}
 TAKING = REFUSED | set(
     "reallocarray valloc pvalloc mmap mmap64 mremap brk sbrk syscall strdup strndup wcsdup asprintf vasprintf "
@@ -66,7 +66,7 @@ BY_REFUSED = {"getaddrinfo"}
 # Tests that take too long to be run once for each allocation.
 LONG = {"walks_of_two_ends"}
 
-# The tests that judge each refusal themselves, or try again: those of these modules, and those whose names begin with
+# The tests that audit each refusal themselves, or try again: those of these modules, and those whose names begin with
 # `refused`. Of the second ones what they take for themselves may be refused too.
 JUDGE = ("hsms_machine_tests tests::",)
 TRY_AGAIN = ("hsms_frame_tests tests::framing::",)
@@ -75,7 +75,7 @@ TRY_AGAIN = ("hsms_frame_tests tests::framing::",)
 WITHOUT_GROWTH = "no_growth"
 MADE_BEFOREHAND = {"no_growth_for_what_is_too_large": 5}
 
-# A test with a desk that refuses memory itself, at last, and wants to be told so.
+# A test with a desk that refuses memory itself, and expects that error.
 REFUSES = ("hsms_ends_tests tests::limits::a_desk_of_its_own",)
 
 # A port at which nobody listens.
@@ -156,7 +156,7 @@ class Refuser:
         return ended, was_refused
 
     def each(self, check):
-        """Says what was wrong with the first run that wasn't well, if any, and how many were refused."""
+        """Says what was wrong with the first run that was not well, if any, and how many were refused."""
         for count in range(1, check.most + 2):
             ended, was_refused = self.run(check, count)
             if not check.is_well(ended, was_refused):
@@ -204,7 +204,7 @@ def tests(wanted):
 
 
 def examples():
-    """Runs on examples, whose answers stand in their page."""
+    """Runs on examples, whose answers are in their page."""
     for words, file in EXAMPLES:
         with open(f"{TOP}/{file}", "rb") as input_file:
             given = input_file.read()
@@ -230,10 +230,11 @@ def fronts(output):
 
 
 def judge_of(row, collections):
-    """What a run of the command has to do. Std can do without the room that it asks for as it begins to collect the words,
-    to part the messages of a script into replies and others, or to collect its steps. Where memory is wanting to ask the
-    environment for HSMS_VERBOSE, no words are told. So often the command may answer as ever although memory was
-    refused."""
+    """What a run of the command has to do. Std can do without the room that it asks for as it begins to collect the
+    words, to part the messages of a script into replies and others, or to collect its steps. Where memory is wanting
+    to ask the environment for HSMS_VERBOSE, no texts are written. So often the command may answer as ever although
+    memory was refused.
+    """
     tells_lines = row.words[:1] in (("show",), ("explain",), ("capture",))
     parts = fronts(row.answer.output) if tells_lines else {b""}
     done_without = []
@@ -292,7 +293,7 @@ def judge_of_log(wanted, collections):
 
 
 def served():
-    """An equipment that listens, and is selected, tested and separated; and a host that connects, and says nothing."""
+    """Equipment that listens, and is selected, tested and separated; and a host that connects, and says nothing."""
     port, listener = free_port(), socket.create_server((HERE, 0))
     threading.Thread(target=peer_that_asks, args=(port,), daemon=True).start()
     threading.Thread(target=peer_that_answers, args=(listener,), daemon=True).start()
@@ -343,7 +344,7 @@ def judge_of_list(listed):
 
 
 def ends():
-    """Ends that are told damaged lists, call by call and by `drive`."""
+    """Endpoints that receive corrupt lists, call by call and by `drive`."""
     for number in range(LISTS):
         listed = damaged("refusals", number)
         name = f"hsms_ends_driver, list {number} of {len(listed.told)} calls"

@@ -104,7 +104,7 @@ def lossy_case(seed):
 
 
 def is_seen(captured, segments, lost):
-    """Whether the capture shows that octets are missing: acknowledged, or in front of other packets."""
+    """Whether the capture shows that bytes are missing: acknowledged, or in front of other packets."""
     for place in lost:
         way, begin, _, data, _ = segments[place]
         for other, start, _, _, acknowledged in captured:
@@ -119,7 +119,7 @@ SELECTED = ["1 > ffff0000000100000001", "2 < ffff0000000200000001"]
 AGAIN = ["1000 up", "1001 > ffff0000000100000001", "1002 < ffff0000000200000001"]
 
 # A capture, the options of `hsms capture`, then the lines of the log without comments; the verdict; the status; what
-# standard error has. Where one of them is None it isn't compared.
+# standard error has. Where one of them is None it is not compared.
 CASES = [
     (late_reply, [*HOST, "--t3", "1000"], None, "fail line=15 rule=T3Overdue", 0, ""),
     (late_reply, [*EQUIPMENT, "--t3", "1000"], None,

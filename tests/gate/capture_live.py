@@ -40,7 +40,7 @@ QUIET = 1.5
 BUFFER = 8192
 TRIES = 3
 
-# How it is told that entries are logged too late, or too soon.
+# The message that entries are logged too late, or too early.
 LATE = "not near:"
 
 OTHER_ROLE = {"host": "equipment", "equipment": "host"}
@@ -117,7 +117,7 @@ def served_logs(way, port):
 
 
 def captured(file, *words):
-    """What the command tells of a capture, and its status."""
+    """The output and the status of the command for a capture."""
     with open(file, "rb") as octets:
         ran = subprocess.run([PROGRAM, "capture", *words], stdin=octets, capture_output=True, timeout=SOON)
     same(ran.stderr.decode(), "")
@@ -139,7 +139,7 @@ def from_up(log):
 
 
 def judged(file, way, port, logs):
-    """Compares what is told of a capture with the logs of both ends."""
+    """Compares the output for a capture with the logs of both ends."""
     words = ["--port", str(port), "--active", way.active]
     told, status = captured(file, *words)
     same(status, 0)
@@ -208,7 +208,7 @@ def answers(way, room):
 
 
 def told_through_a_pipe():
-    """What is wrong with what is told of a connection that has ended, while tcpdump goes on, or None."""
+    """Returns what is wrong with the output for an ended connection while tcpdump is running, or None."""
     port = free_port()
     words = ["tcpdump", "-i", "lo", "-U", "-s", "0", "-B", str(BUFFER), "-w", "-", f"tcp port {port}"]
     captures = subprocess.Popen(words, stdin=subprocess.DEVNULL, stdout=subprocess.PIPE, stderr=subprocess.PIPE)

@@ -37,8 +37,8 @@ PORT, ACTIVE_PORT = 5000, 40000
 NAMES = "10.0.0.1:40000 10.0.0.2:5000"
 SIDES = ["active", "passive"]
 
-# What each end of the smallest captures says, how many replies it waits for, and which packet is named where something is
-# missing.
+# What each end of the smallest captures says, how many replies it waits for, and which packet is named where something
+# is missing.
 SMALLEST = {
     "status-1": ("entries=7 sent=3 taken=3", 0, "entries=7 sent=3 taken=3", 0, None),
     "linktest": ("entries=5 sent=2 taken=2", 0, "entries=5 sent=2 taken=2", 0, None),
@@ -65,7 +65,7 @@ def seen_in(octets: bytes, active_port: int = ACTIVE_PORT) -> List[Seen]:
 
 
 def unjudged_in(octets: bytes, options: Options) -> Unjudged:
-    """What isn't judged of a capture. Connections of other active ports are captured last, and nothing is told of them."""
+    """What is not audited of a capture. Connections of other active ports are captured last, and are not reported."""
     unjudged, active_ports = Unjudged(options), set()
     for packet in read_file(octets).packets:
         segment = segment_of(packet)
@@ -100,7 +100,7 @@ def packet_of(log: bytes, line: int) -> int:
 
 
 def second(told: midstream.Told, options: Options, unjudged: Unjudged) -> Answer:
-    """What the reference answers to a capture of one connection, of which this is told, and what isn't judged."""
+    """The answer of the reference to a capture of one connection with these events, and what is not audited."""
     fault = "{} packet={}".format(*told.fault) if told.fault else None if told.lines else "NoConnection"
     fault = fault or ("NotJudged" if unjudged.is_refused else None)
     error = f"hsms: {fault}\n".encode() if fault else b""
@@ -119,7 +119,7 @@ def second(told: midstream.Told, options: Options, unjudged: Unjudged) -> Answer
 
 
 def differs(octets: bytes, told: midstream.Told, options: Options, program: Optional[str]) -> Optional[str]:
-    """What is wrong with the command's answers to a capture, of which this is told."""
+    """Returns what is wrong with the command's answers to a capture with these events."""
     for role in (None, "host", "equipment") if program else ():
         asked = replace(options, log=role)
         words = ["capture", "--joined", *asked.words()]
@@ -150,7 +150,7 @@ def wrong_with_smallest(name: str, program: Optional[str]) -> Optional[str]:
 
 
 def wrong_with_devices(program: Optional[str]) -> Optional[str]:
-    """Sessions of two devices: that of the other one isn't judged, and neither is the one of both, without --device."""
+    """Sessions of two devices: that of the other one is not audited, and neither is the one of both, without --device."""
     with open(f"{TOP}/tests/captures/devices.pcap", "rb") as file:
         octets = file.read()
     counts = ["entries=5 sent=2 taken=2", "entries=5 sent=2 taken=2"]
@@ -196,8 +196,9 @@ def wrong_with_replaced(program: Optional[str]) -> Optional[str]:
 
 
 def left_out(is_told: bool) -> bytes:
-    """A session of which a reply and a Linktest.rsp were captured, maybe a request that isn't left out, and then the next
-    connection of the same ends."""
+    """A session of which a reply and a Linktest.rsp were captured, maybe a request that is not left out, and then the
+    next connection of the same ends.
+    """
     talk = Talk(Capture(), shakes_hands=False)
     talk.say(1, PASSIVE, "00000102000000000001")
     talk.say(2, PASSIVE, "ffff0000000600000002")
@@ -210,7 +211,7 @@ def left_out(is_told: bool) -> bytes:
 
 
 def wrong_with_left_out(program: Optional[str]) -> Optional[str]:
-    """A session whose messages are all left out isn't one, and of another one they stand behind what is supposed."""
+    """A session whose messages are all left out is not one, and of another one they are after what is assumed."""
     for is_told in (False, True) if program else ():
         counts = ["entries=5 sent=2 taken=1", "entries=5 sent=1 taken=2"] if is_told else []
         counts += ["entries=3 sent=1 taken=1"] * 2
@@ -238,7 +239,7 @@ def linktest_first() -> bytes:
 
 
 def wrong_with_linktest_first(program: Optional[str]) -> Optional[str]:
-    """A Linktest.req doesn't ask for a Select.rsp: the Select.req stands before the capture."""
+    """A Linktest.req does not ask for a Select.rsp: the Select.req is before the capture."""
     octets, options = linktest_first(), Options()
     told = midstream.told_of(seen_in(octets), options)
     log = midstream.log_of(told, ACTIVE, options).decode().splitlines()[1:]
@@ -250,7 +251,7 @@ def wrong_with_linktest_first(program: Optional[str]) -> Optional[str]:
 
 
 def forgotten(later: int) -> bytes:
-    """A connection between two ends of the port, so many later ones, and then what both say on another one."""
+    """A connection between two ends of the port, that many later ones, and then what both say on another one."""
     capture = Capture(ports=(PORT, PORT))
     talk = Talk(capture)
     talk.say(1, *SELECT[0])
@@ -266,7 +267,7 @@ def forgotten(later: int) -> bytes:
 
 
 def wrong_with_forgotten(program: Optional[str]) -> Optional[str]:
-    """Where both ends have the port, a connection that is forgotten doesn't say any more which of them connected."""
+    """Where both ends have the port, a connection that is forgotten does not say any more which of them connected."""
     first, second = "10.0.0.1:5000 10.0.0.2:5000", "10.0.0.2:5000 10.0.0.1:5000"
     for later, names in ((4095, [first]), (4096, [first, second])) if program else ():
         counts = {first: "entries=4 sent=1 taken=1", second: "entries=5 sent=2 taken=2"}
@@ -279,7 +280,7 @@ def wrong_with_forgotten(program: Optional[str]) -> Optional[str]:
 
 
 def two_at_once(hosts) -> bytes:
-    """Two sessions that were running, one captured behind the other, the second one between these hosts."""
+    """Two sessions that were running, one captured after the other, the second one between these hosts."""
     capture = Capture()
     segment = capture.segment
     for ends, port in (((1, 2), 40000), (hosts, 40001)):
@@ -292,7 +293,7 @@ def two_at_once(hosts) -> bytes:
 
 
 def wrong_with_two_at_once(program: Optional[str]) -> Optional[str]:
-    """In one log the second session is refused where it would begin, behind all of the first one."""
+    """In one log the second session is refused where it would begin, after all of the first one."""
     for hosts, fault in (((1, 2), "Overlap"), ((3, 2), "Peer")) if program else ():
         found = answer_of(["capture", "--joined", "--log", "host"], two_at_once(hosts), program)
         lines = found.output.decode().splitlines()
@@ -307,8 +308,9 @@ def wrong_with_two_at_once(program: Optional[str]) -> Optional[str]:
 
 
 def made(rng, session: Session, others: int) -> Tuple[bytes, bool]:
-    """A capture of a session that lacks its beginning, and maybe a direction, and whether it lacks one. Behind it stand as
-    many messages of other devices or at other ports."""
+    """A capture of a session that lacks its beginning, and maybe a direction, and whether it lacks one. After it
+    follow as many messages of other devices or at other ports.
+    """
     syns = [place for place, packet in enumerate(session.captured) if packet.flags & SYN]
     first = max(syns, default=-1) + 1
     captured = session.captured[rng.randrange(first, len(session.captured)):] if first < len(session.captured) else []

@@ -33,11 +33,11 @@ from tests.support.reference.capture_audit import Options
 from tests.support.reference.session import audit
 from tests.support.session_generator import NOT_ONE_MESSAGE, ONE_MESSAGE, Made, damaged, made
 
-# So many of the random captures are damaged, in a hundred.
+# The number of random captures in a hundred that are corrupt.
 DAMAGED = 40
 LONGEST_TOLD = 6000
 
-# Captures of more octets are judged, or written as a log, alone.
+# Captures of more bytes are audited, or written as a log, alone.
 LARGE = 200_000
 
 
@@ -75,7 +75,7 @@ def verdicts_in(answer: Answer) -> List[str]:
 
 
 def audited(answers: Dict[Optional[str], Answer], program: Optional[str]) -> Optional[str]:
-    """Where one connection came up, its logs have the verdicts that are told."""
+    """If one connection was established, its logs have the reported verdicts."""
     lines = [line for line in answers[None].output.decode().splitlines() if not line.startswith("#")]
     if len(lines) != 2 or not answers["host"].output.startswith(b"hsms-log"):
         return None
@@ -97,7 +97,7 @@ def audited(answers: Dict[Optional[str], Answer], program: Optional[str]) -> Opt
 
 
 def known(case: Made, answers: Dict[Optional[str], Answer]) -> Optional[str]:
-    """What an answer says that isn't so."""
+    """What an answer says that is not so."""
     verdicts = verdicts_in(answers[None])
     if case.is_lawful and (answers[None].status == 1 or any("fail" in verdict for verdict in verdicts)):
         return f"a lawful session fails: {verdicts}"
@@ -135,7 +135,7 @@ def known_whole(case: Made, answers: Dict[Optional[str], Answer]) -> Optional[st
 
 
 def tried(case: Made, program: Optional[str]) -> Optional[str]:
-    """The same as `compared`. The reference that breaks down, and a command that doesn't end, are wrong too."""
+    """The same as `compared`. The reference that breaks down, and a command that does not end, are wrong too."""
     try:
         return compared(case, program)
     except Exception as why:
@@ -151,7 +151,7 @@ def checked(job: Tuple[str, int, str], program: Optional[str]) -> Optional[str]:
 
 
 # The smallest capture of each rule, by its file: the verdicts on the active host and on the passive equipment, and what
-# standard error tells.
+# standard error has.
 SMALLEST = {
     "refused": (None, None, "NoConnection"),
     "up-late": ("pass entries=3 sent=1 taken=1", None, None),
@@ -193,7 +193,7 @@ def lines_of(host: str, equipment: Optional[str] = None) -> List[str]:
     return [whole_line(ENDS[0], host), whole_line(ENDS[1], equipment or host)]
 
 
-# A case: its name, the file, the options, the lines of its output, what standard error tells, the status.
+# A case: its name, the file, the options, the lines of its output, standard error, the status.
 Case = Tuple[str, bytes, Options, List[str], Optional[str], int]
 
 
@@ -240,7 +240,7 @@ def two_at_once(hosts=((1, 2), (1, 2)), ports=(40000, 40001)) -> bytes:
 
 
 def hosted(capture: Capture, hosts, second: int, ends=False) -> Talk:
-    """A connection between two hosts that begins so many seconds late."""
+    """A connection between two hosts that begins the given number of seconds late."""
     segment = capture.segment
     capture.segment = partial(segment, hosts=hosts)
     talk = selected(capture, firsts=(1000 + second, 2000), when=BEGIN + second * 10**6)
@@ -259,7 +259,7 @@ def one_after_another(hosts, ports=(40000, 40000), ends=True) -> bytes:
 
 
 def other_octets_again() -> bytes:
-    """A copy of an octet that isn't acknowledged is another one."""
+    """A copy of a byte that is not acknowledged is another one."""
     talk = selected()
     talk.at(3)
     talk.segment(ACTIVE, 0, PUSH | ACK, b"\0\0\0\x0a")
@@ -268,7 +268,7 @@ def other_octets_again() -> bytes:
 
 
 def never_told_again(later: int) -> bytes:
-    """An event that isn't captured, and so many later packets of the connection."""
+    """An event that is not captured, and that many later packets of the connection."""
     talk = selected()
     talk.next[PASSIVE] += 14
     for _ in range(later):
@@ -277,7 +277,7 @@ def never_told_again(later: int) -> bytes:
 
 
 def comes_late(later: int) -> bytes:
-    """An event is acknowledged, and is captured so many packets later."""
+    """An event is acknowledged, and is captured that many packets later."""
     talk = selected()
     talk.next[PASSIVE] += 14
     for _ in range(later):
@@ -287,7 +287,7 @@ def comes_late(later: int) -> bytes:
 
 
 def probed() -> bytes:
-    """An end that has no room is asked with the next octet, takes it not, and is sent all of the message later."""
+    """An end that has no room is asked with the next byte, takes it not, and is sent all of the message later."""
     talk, data = selected(), message("00008101000000000002")
     talk.at(3)
     talk.segment(PASSIVE, 0, ACK, window=0)
@@ -327,7 +327,7 @@ def one_direction(way: int) -> bytes:
 
 
 def answer_first(with_syn: bool) -> bytes:
-    """The SYN is captured behind the SYN and ACK, or not at all."""
+    """The SYN is captured after the SYN and ACK, or not at all."""
     talk = Talk(Capture(), shakes_hands=False)
     talk.next[ACTIVE] += 1
     talk.segment(PASSIVE, 0, SYN | ACK)
@@ -358,7 +358,7 @@ def reply_before_primary() -> bytes:
 
 
 def clock_set_back() -> bytes:
-    """A primary is captured behind its ACK, and the clock is set back between them, by an hour."""
+    """A primary is captured after its ACK, and the clock is set back between them, by an hour."""
     talk, hour = selected(), 3_600_000
     talk.next[PASSIVE] += 14
     talk.at(60_000)
@@ -370,7 +370,7 @@ def clock_set_back() -> bytes:
 
 
 def ack_behind_a_gap() -> bytes:
-    """A message isn't captured, and its end's next packet brings nothing."""
+    """A message is not captured, and its end's next packet brings nothing."""
     talk = selected()
     talk.next[ACTIVE] += 14
     talk.segment(ACTIVE, 0, ACK)
@@ -378,7 +378,7 @@ def ack_behind_a_gap() -> bytes:
 
 
 def acknowledged_behind_a_gap(later: int) -> bytes:
-    """The same, and so many packets later the other end acknowledges the message."""
+    """The same, and that many packets later the other end acknowledges the message."""
     talk = selected()
     talk.next[ACTIVE] += 14
     for _ in range(later):
@@ -403,7 +403,7 @@ def before_a_gap_is_acknowledged(frame: Optional[str]) -> bytes:
 
 
 def separate_not_captured() -> bytes:
-    """Behind a Separate it counts for nothing that the reply comes past T3."""
+    """After a Separate it counts for nothing that the reply comes past T3."""
     talk = selected()
     talk.say(3, ACTIVE, "00008101000000000002")
     talk.segment(ACTIVE, 14, ACK)
@@ -414,7 +414,7 @@ def separate_not_captured() -> bytes:
 
 
 def reply_behind(foreign: bytes) -> bytes:
-    """Octets of another protocol stand before a reply, and long after it the other end says something."""
+    """Bytes of another protocol are before a reply, and long after it the other end says something."""
     talk = selected()
     talk.say(3, ACTIVE, "00008101000000000002")
     talk.at(4)
@@ -426,7 +426,7 @@ def reply_behind(foreign: bytes) -> bytes:
 
 
 def without_answer(later: int) -> bytes:
-    """The SYN and ACK isn't captured, and so many packets follow the SYN."""
+    """The SYN and ACK is not captured, and that many packets follow the SYN."""
     capture = Capture()
     talk = Talk(capture, shakes_hands=False)
     talk.segment(ACTIVE, 0, SYN)
@@ -449,7 +449,7 @@ def without_time(flags=ACK) -> bytes:
 
 
 def far_ahead() -> bytes:
-    """A packet within 2^26 octets, which ends past them."""
+    """A packet within 2^26 bytes, which ends past them."""
     talk = selected()
     talk.segment(ACTIVE, (1 << 26) - 10, PUSH | ACK, bytes(20))
     return talk.capture.octets
@@ -514,7 +514,7 @@ def worked_cases() -> Iterator[Case]:
     yield "cut behind the SYN and ACK", cut_talk(24 + 2 * 88 + 7), Options(), [
         end + "incomplete packet=3" for end in ENDS], "CutOff", 2
     yield "cut behind the SYN", cut_talk(24 + 88 + 7), Options(), [], "CutOff", 2
-    long_record = 24 + 4 * (16 + 72)  # behind four packets, the last of which has 14 octets more
+    long_record = 24 + 4 * (16 + 72)  # after four packets, the last of which has 14 bytes more
     yield "a record that is too long", changed(front, long_record + 14 + 8, b"\1\0\0\2"), Options(), lines_of(
         "incomplete packet=5 pass entries=2 sent=1 taken=0", "incomplete packet=5 pass entries=2 sent=0 taken=1"
     ), f"Capture Length octet={long_record + 14}", 2
@@ -700,7 +700,7 @@ def with_more(ports: Iterable[Tuple[int, int]], way=ACTIVE, data=LINKTEST, octet
 
 
 def unjudged_cases(log: List[str]) -> Iterator[Case]:
-    """Sessions that are not judged."""
+    """Sessions that are not audited."""
     passes, is_refused = lines_of("pass entries=4 sent=1 taken=1"), ("NotJudged", 2)
     one = "# not judged: 1 session that was running before the capture (--joined)"
     running = contents(f"{TOP}/tests/captures/running.pcap")

@@ -69,7 +69,7 @@ def lawful(log):
 
 
 def broken_off(peer, way):
-    """The peer is gone in that way, if the other end isn't gone already."""
+    """The peer is gone in that way, if the other end is not gone already."""
     if way == "reset":
         peer.reset()
     elif way == "close":
@@ -131,7 +131,7 @@ def host_is_left(way, count):
 
 
 def device_is_full(count, whole):
-    """The log's device takes so many octets. It is a file that may grow no longer."""
+    """The log's device takes that many bytes. It is a file that may grow no longer."""
 
     def limited():
         signal.signal(signal.SIGXFSZ, signal.SIG_IGN)
@@ -157,7 +157,7 @@ def device_is_full(count, whole):
 
 
 def pipe_is_closed(count):
-    """Somebody reads so many octets of the log, and goes away."""
+    """Somebody reads that many bytes of the log, and goes away."""
     serving, peer = equipment()
     log = b""
     said(peer, SESSION[:14])
@@ -251,7 +251,7 @@ def random_round(seed):
 # ---- all of them
 
 def whole_log():
-    """How many octets the log of the session has at least."""
+    """How many bytes the log of the session has at least."""
     serving, peer = equipment()
     said(peer, SESSION)
     heard(peer)

@@ -94,7 +94,7 @@ def main() -> int:
             failing += len(wrongs)
             for wrong in wrongs:
                 print(wrong, flush=True)
-    # why a message is thrown away isn't told to a list, and `hsms_ends_driver` has no desk that replies from a script
+    # a list has no reason for a discarded message, and `hsms_ends_driver` has no desk that replies from a script
     named = [what for what in conversations.TO_REACH if not what.startswith("!")]
     of_talks = [what for what in named if not what.endswith(" of a script")]
     to_reach = of_talks + full_endpoints.TO_REACH + endpoint_cases.TO_REACH

@@ -35,7 +35,7 @@ OPTIONS = "--role ROLE --link LINK --address A --port P [OPTIONS] [--send < NOTA
 
 @dataclass
 class Case:
-    """What is run, and what is told: a status, the fault's name, and the words, of which each line is one of a list."""
+    """A run and its result: a status, the name of the error, and its texts, each line one of a list."""
 
     words: List[str]
     status: int
@@ -83,7 +83,7 @@ def cases_of_inputs():
     syntax = 'this can\'t stand here; a message is S1F1 W <A "text"> ., its end is a full stop'
     yield from notation(b"S1F1 W .\nS1F1 W", "Syntax at=15", [f"line 2, column 7: {syntax}", "S1F1 W", "      ^"])
     yield from notation(b"\tS1F1 \xff .\n", "Syntax at=6", [f"line 1, column 7: {syntax}", " S1F1 ? .", "      ^"])
-    # (of a long line 60 octets before the place are shown, and 40 from there on)
+    # (of a long line 60 bytes before the place are shown, and 40 from there on)
     long = b"S1F1 <A " + 60 * b"0x41 " + b"? >." + 60 * b" "
     shown = (60 * "0x41 ")[-60:] + ("? >." + 60 * " ")[:40]
     yield from notation(long, "Syntax at=308", [f"line 1, column 309: {syntax}", shown, 60 * " " + "^"])
@@ -133,7 +133,7 @@ def one_timeless():
 
 
 def differing():
-    """Octets that come again as others."""
+    """Bytes that come again as others."""
     talk = pcap_writer.Talk(pcap_writer.Capture())
     data = pcap_writer.message(pcap_writer.SELECT[0][1])
     for octets in (data, data[:-1] + b"\x07"):
@@ -227,7 +227,7 @@ def no_low_ports():
 
 
 def cases_of_ways():
-    """Links that the system doesn't allow, or knows no way to."""
+    """Links that the system does not allow, or knows no way to."""
     no_answer = "no answer from 224.0.0.1:5000: see --address, the network, and what stands between"
     yield Case([*END, "--address", "224.0.0.1", "--port", "5000"], 3, "Link", [no_answer])
     with open("/proc/sys/net/ipv4/ip_unprivileged_port_start", encoding="ascii") as file:
@@ -284,7 +284,7 @@ class ResettingPeer:
 
 
 def told_by(case, words, env):
-    """The status, and what is told on standard error, of a run whose words are these."""
+    """The status and the standard error of a run with these arguments."""
     how = {"stdout": subprocess.PIPE, **case.how}
     if "stdin" not in how:
         how["input"] = case.octets
@@ -353,7 +353,7 @@ def judged():
 
 
 def explains_unreadable():
-    """On standard error the audit says why a line can't be read, and shows it. All else is as without words."""
+    """On standard error the audit says why a line cannot be read, and shows it. All else is as without words."""
     for log in reasons.damaged_logs("words", 400):
         plain, worded = (
             subprocess.run([PROGRAM, "audit", *more], input=log, capture_output=True, timeout=SOON) for more in ([], ["-v"])
@@ -374,14 +374,14 @@ def unreadable_words(log, audited):
         why = reasons.of_first_line(line)
     else:
         why = reasons.of_later_line(line, 2 * audited.settings.max + 64)
-    # (60 octets before the place are shown, and 40 from there on)
+    # (60 bytes before the place are shown, and 40 from there on)
     before, behind = line[: why.column - 1][-60:], line[why.column - 1 :][:40]
     shown = "".join(" " if it == 9 else chr(it) if 32 <= it <= 126 else "?" for it in before + behind)
     return f"line {audited.line}, {why.words()}\n{shown}\n{' ' * len(before)}^\n"
 
 
 def documented(cases):
-    """Each sentence stands in the table of docs/FORMATS.md, but for what is the user's in it."""
+    """Each sentence is in the table of docs/FORMATS.md, but for what is the user's in it."""
     with open(f"{TOP}/docs/FORMATS.md", encoding="utf-8") as file:
         page = " ".join(file.read().split())
     for case in cases:

@@ -46,14 +46,14 @@ def repeated(log: bytes) -> bytes:
 
 
 def many_sorts() -> bytes:
-    """More kinds of failures than are told apart, of each kind five."""
+    """More kinds of failures than are distinguished, five of each kind."""
     kinds = [(stream, function) for function in range(16) for stream in range(17)]
     frames = [b"2 < 0001%02x%02x0000%08x\n" % (stream, function, at) for at, (stream, function) in enumerate(kinds)]
     return EMPTY + b"0 up\n0 > ffff0000000100000001\n1 < ffff0000000200000001\n" + b"".join(frames) * 5
 
 
 def many_kinds() -> bytes:
-    """More kinds of primaries than are told of apart, in both directions, some of whose replies take long."""
+    """More kinds of primaries than are distinguished, in both directions, some with slow replies."""
     lines, now = [b"0 up\n0 > ffff0000000100000001\n1 < ffff0000000200000001\n"], 1
     for at in range(200):
         mark, reply = (b">", b"<") if at % 3 else (b"<", b">")
@@ -93,7 +93,7 @@ def excerpt_of(log: bytes) -> Excerpt:
 
 
 def difference(log: bytes) -> Optional[str]:
-    """What is told of a log and what it should be, where they differ."""
+    """The output for a log and the expected output, if they differ."""
     audited = answer_of(["audit"], log)
     for excerpt in (WHOLE, excerpt_of(log)):
         words, wanted = ["explain", *excerpt.words()], explain.explain(log, excerpt)

@@ -44,7 +44,7 @@ SMALL = [
     (["show"], "examples/cut-off.bin"),
 ]
 
-# The least that a pipe holds, and how much the command holds back, in octets.
+# The least that a pipe holds, and how much the command holds back, in bytes.
 PIPE = 4096
 BUFFER = 65_536
 
@@ -98,7 +98,7 @@ def full_device(run):
 
 
 def file_that_fills(run, room):
-    """A file may have so many octets, and the call that would pass this writes a part or nothing."""
+    """A file may have that many bytes, and the call that would pass this writes a part or nothing."""
     for place in places(len(run.ample.output)):
 
         def limit(most=place):
@@ -113,7 +113,7 @@ def file_that_fills(run, room):
 
 
 def pipe_that_closes(run, place, is_ignored):
-    """Runs the command into a pipe from which so many octets are read before it closes; says what was read too."""
+    """Runs the command into a pipe from which that many bytes are read before it closes; says what was read too."""
     reading, writing = os.pipe()
     fcntl.fcntl(writing, fcntl.F_SETPIPE_SZ, PIPE)
 
@@ -162,7 +162,7 @@ def closed_files(run):
 
 
 def calls_that_fail(run, room, library):
-    """Each call moves an octet; then each write fails in turn, and each read: every second one as if a signal came."""
+    """Each call moves a byte; then each write fails in turn, and each read: every second one as if a signal came."""
     told = f"{room}/refused"
     env = {"LD_PRELOAD": library, "REFUSED": told, "ONE_OCTET": "1"}
     yield "an octet at a time", answer_of(run.words, run.given, env=env) == run.ample
@@ -179,7 +179,7 @@ def calls_that_fail(run, room, library):
 
 
 def failing(what, place):
-    """The environment in which the call after so many octets fails."""
+    """The environment in which the call after that many bytes fails."""
     return {f"REFUSE_{what}": str(place + 1), "INTERRUPTED": str(place % 2)}
 
 

@@ -301,7 +301,7 @@ def link_is_not_tested_before_it_is_selected():
 
 
 def random_conversations_test_links_as_the_reference():
-    """A peer that says this and that at any moment, and answers a test of the link or doesn't."""
+    """A peer that says this and that at any time, and answers a test of the link or does not."""
     tested = 0
     for number in range(12):
         chance = Chance(f"linktest {number}")
@@ -492,7 +492,7 @@ IN_TURN = [
 
 
 def replies_are_given_in_turn():
-    """Whether the primaries come one by one or all at once, and in each connection anew."""
+    """Whether the primaries come one by one or all at once, and in each connection again."""
     peers = Listening()
     options = ["--again", "--connections", "2", "--t5", "50", "--answer"]
     serving = Serving("host", "active", peers.port, *options, script=SEVERAL, send=False)
@@ -529,7 +529,7 @@ def equipment_answers_by_its_script():
 
 
 def random_replies_are_those_of_the_reference():
-    """Random primaries to an equipment with a random script: its log is that of the reference."""
+    """Random primaries to equipment with a random script: its log is that of the reference."""
     for number in range(40):
         chance = Chance(f"script {number}")
         replies = conversations.random_replies(chance)
@@ -601,7 +601,7 @@ def flood_of_octets():
 
 
 def flood_of_requests():
-    """The peer asks for 60,000 octets on and on, and never reads: a send fails, or the next octets come past T8."""
+    """The peer asks for 60,000 bytes on and on, and never reads: a send fails, or the next bytes come past T8."""
     port = free_port()
     name = f"/tmp/hsms-flood-{port}.log"
     serving = Serving("equipment", "passive", port, "--t8", "300", stdout=open(name, "wb"))
@@ -727,7 +727,7 @@ def log_is_full():
         same(Serving("equipment", "passive", free_port(), stdout=full).ended(), (3, None, "hsms: Log\n"))
 
 
-# Messages that nobody answers but by stream 9, so that many octets lie unread where their sender ends.
+# Messages that nobody answers but by stream 9, so that many bytes lie unread where their sender ends.
 UNANSWERED = b"S6F11 <A \"unknown\"> .\n"
 
 
@@ -752,7 +752,7 @@ def nobody_listens():
 
 
 def numbers_at_their_limits():
-    """Each number that an option may have at least or at most, which `every_option_is_taken` doesn't take."""
+    """Each number that an option may have at least or at most, which `every_option_is_taken` does not take."""
     port = free_port()
     for option, number in (
         ("--device", "0"), ("--t3", "1"), ("--t6", "3600000"), ("--t7", "3600000"), ("--t8", "3600000"),
@@ -856,7 +856,7 @@ ALONE = "ffff0000000100000001"
 
 
 def served_again(serving, count):
-    """So many connections were served to their ends, in one log of version 2 whose times go on."""
+    """This many connections were served to their ends, in one log of version 2 whose times go on."""
     status, log, told = serving.ended()
     same((status, told), (0, ""))
     same(log.split(" ")[:2], ["hsms-log", "2"])
@@ -951,7 +951,7 @@ def script_is_sent_once():
 
 
 def peer_is_away_for_a_while():
-    """A host whose peer isn't there yet tries again after T5, and waits as long between two connections."""
+    """A host whose peer is not there yet tries again after T5, and waits as long between two connections."""
     port = free_port()
     serving = Serving("host", "active", port, "--again", "--connections", "2", "--t5", "300", script=b"")
     time.sleep(A_WHILE)

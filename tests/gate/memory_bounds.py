@@ -24,7 +24,7 @@ from tests.support.reference.endpoint_inputs import Answering, Listed
 from tests.support.reference.session import Settings
 from tests.support.worked_examples import ENTRIES, message, octets, refused
 
-# How much more an input may take than one that claims nothing, in octets.
+# How much more an input may take than one that claims nothing, in bytes.
 MORE = 65_536
 
 GREATEST = 33_554_432
@@ -35,7 +35,7 @@ CONNECTIONS = 10_000
 
 @dataclass(frozen=True)
 class Claim:
-    """Words, an input that claims much, one of about as many octets that doesn't, and what the first is answered."""
+    """Words, an input that claims much, one of about as many bytes that does not, and what the first is answered."""
 
     words: str
     given: bytes
@@ -49,7 +49,7 @@ def shown(text):
 
 
 def in_message(words, text):
-    """The text of a message claims much. Beside it stands one of as many octets, a list or a body of binary octets."""
+    """The text of a message claims much. Next to it is one of as many bytes, a list or a body of binary bytes."""
     size = len(octets(text))
     plain = "21" + bytes([size - 2]).hex() + "00" * (size - 2) if size < 258 else ""
     plain = plain or "22" + (size - 3).to_bytes(2, "big").hex() + "00" * (size - 3)
@@ -57,12 +57,12 @@ def in_message(words, text):
 
 
 def in_notation(words, text, fault):
-    """Beside a text with counts stands the same text without any."""
+    """Beside a text with counts is the same text without any."""
     return Claim(words, text.encode(), re.sub(r" \[\d+\]", "", text).encode(), refused(fault))
 
 
 def list_with(piece):
-    """The list of an end that is selected, to which these octets come then."""
+    """The list of an end that is selected, to which these bytes come then."""
     settings = Settings("equipment", "passive", 0, 45000, 6000, 10000, 5000, GREATEST, 100)
     told = [Told("start", 0), Told("hear", message("ffff0000000100000001")), Told("hear", piece)]
     return Listed(Maker(settings, b"", 1), told)
@@ -75,7 +75,7 @@ def at_end(piece, beside):
 
 
 def connections(*ending):
-    """A log of many connections, each with a primary of system bytes of its own, and behind it these lines."""
+    """A log of many connections, each with a primary of system bytes of its own, and after it these lines."""
     lines = ["up", "> ffff0000000100000001", "< ffff0000000200000001", "> 000081010000{0:08x}", *ending, "down"]
     numbers = range(2, 2 + CONNECTIONS)
     log = "".join(f"{number} {line.format(number)}\n" for number in numbers for line in lines)
@@ -122,7 +122,7 @@ class Measure:
         self.env = {"LD_PRELOAD": call_failer(room), "HELD": self.held}
 
     def most(self, claim, given):
-        """What the program of a claim answers, and the most octets that it held."""
+        """What the program of a claim answers, and the most bytes that it held."""
         with open(self.held, "wb") as file:
             file.write(bytes(16))
         answer = answer_of(claim.words.split(), given, claim.program, env=self.env)

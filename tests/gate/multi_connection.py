@@ -58,7 +58,7 @@ class Part:
 
 
 def parts_of(log):
-    """The parts of a log; or, behind those before it, the verdict on an `up` whose time is less than the `down`'s."""
+    """The parts of a log; or, after those before it, the verdict on an `up` whose time is less than the `down`'s."""
     lines = log.split(b"\n")
     first = re.sub(rb"^hsms-log 2 ", b"hsms-log 1 ", lines[0])
     part, down = Part(1, first), None

@@ -31,7 +31,7 @@ WORKERS = 2
 VERDICTS = ["pass", "unreadable", *session.RULES]
 
 # What the inputs have to reach, by command: each verdict of an audit also where several connections had come up, and
-# each rule of frames by one that was thrown away, and what the logs at corners are made for.
+# each rule of frames by one that was discarded, and what the logs at corners are made for.
 TO_REACH = {
     "audit": [
         *[what + several for what in VERDICTS for several in ("", f", {SEVERAL}")],

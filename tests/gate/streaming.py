@@ -30,7 +30,7 @@ A_WHILE = 0.5
 FIRST = b"hsms-log 1 host active 0 45000 6000 10000 5000 1048576 32\n"
 FRONT = FIRST + b"0 up\n0 > ffff0000000100000001\n"
 
-# The longest first line has 256 octets, and with a MAX of 256 the longest later one 576, each without a CR behind.
+# The longest first line has 256 bytes, and with a MAX of 256 the longest later one 576, each without a CR after.
 NARROW = FIRST.replace(b" 1048576 ", b" 256 ")
 SHORT_LOG = b"pass entries=1 sent=0 taken=0 discarded=0 expired=0 waiting=0\n"
 
@@ -80,7 +80,7 @@ HEX_SHOWN = [([HEX[:at], HEX[at:]], LINES) for at in range(1, len(HEX), 7)]
 HEX_LONG = LONG.hex().encode()
 HEX_SHOWN.append(([HEX + HEX_LONG[:200_000], HEX_LONG[200_000:] + b"\n" + HEX], LINES + LONG_LINE + LINES))
 
-# A log of which a line fails, and what is told of it.
+# A log with a failing line, and its verdict.
 LATE = FRONT + b"5 < ffff0000000200000001\n10 > 00008101000000000002\n46000 down\n"
 LATE_TOLD = b"""\
      1         hsms-log 1 host active 0 45000 6000 10000 5000 1048576 32
@@ -153,7 +153,7 @@ def shown_in_pieces(pieces, *options):
 
 
 def told_of(command, wanted, octets, *options):
-    """What a command tells of these octets while the pipe is open, as much as is wanted of it."""
+    """The output of a command for these bytes while the pipe is open, up to the expected length."""
     with started(command, *options) as telling:
         given(telling, octets)
         told = b""
@@ -190,7 +190,7 @@ def given(audit, octets):
 
 
 def told_while_open(octets):
-    """What the audit of these octets has written when it ends by itself, while the pipe is open."""
+    """What the audit of these bytes has written when it ends by itself, while the pipe is open."""
     with started("audit") as audit:
         given(audit, octets)
         try:
@@ -202,7 +202,7 @@ def told_while_open(octets):
 
 
 def told_at_the_end(front, rest):
-    """What the audit writes once the pipe is closed behind the rest; before that, it may write nothing."""
+    """What the audit writes once the pipe is closed after the rest; before that, it may write nothing."""
     with started("audit") as audit:
         given(audit, front)
         try:
@@ -213,7 +213,7 @@ def told_at_the_end(front, rest):
 
 
 def tries():
-    """What is tried: who tells, of what, and what is to be told."""
+    """The cases: the command, its input and the expected output."""
     yield from ((told_while_open, [octets], wanted) for octets, wanted in FAILING)
     yield from ((told_at_the_end, [front, rest], wanted) for front, rest, wanted in PASSING)
     yield from ((shown_in_pieces, [pieces], wanted) for pieces, wanted in SHOWN)

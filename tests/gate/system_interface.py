@@ -36,10 +36,10 @@ NO_WRITE = (3, b"hsms: Write\n")
 NO_LINK = (3, "hsms: Link\n")
 NO_LOG = (3, "hsms: Log\n")
 
-# How long something is watched that goes on, or that doesn't, in seconds.
+# How long something is watched that goes on, or that does not, in seconds.
 A_WHILE = 0.3
 
-# Timers that don't run out here.
+# Timers that do not run out here.
 LONG_TIMERS = ["--t7", "600000", "--t8", "600000"]
 
 
@@ -92,7 +92,7 @@ class Lines:
 
 
 class NeverReading:
-    """An equipment with long replies, and a peer that asks for them and never reads one."""
+    """Equipment with long replies, and a peer that asks for them and never reads one."""
 
     def __init__(self, t8):
         self.serving, self.peer = selected("--t8", str(t8), "--mdln", "m" * 60_000)
@@ -115,7 +115,7 @@ class NeverReading:
         return line
 
     def blocked(self, longest):
-        """Asks until no reply goes on: when the last one was asked for and logged, and the line behind it, if any."""
+        """Asks until no reply goes on: when the last one was asked for and logged, and the line after it, if any."""
         asked = logged = self.asked
         while True:
             line = self.next(longest)
@@ -126,7 +126,7 @@ class NeverReading:
                 self.ask()
 
     def is_given_up(self):
-        """The end has logged all, passes, and told that its link failed."""
+        """The end has logged everything, its log passes, and it reported that its link failed."""
         status, _, told = self.serving.ended()
         same((status, told), NO_LINK)
         log = "".join(line + "\n" for line, _ in self.log)
@@ -164,7 +164,7 @@ def it_closes_after_its_peer():
 
 
 def it_closes_after_t8():
-    """The peer neither closes nor stops sending: T8 doesn't begin anew with what comes."""
+    """The peer neither closes nor stops sending: T8 does not begin again with what comes."""
     t8 = 0.5
     serving, peer = selected("--t8", str(int(1000 * t8)))
     peer.send(control(9, 2))
@@ -190,7 +190,7 @@ def a_failed_link_is_closed_at_once(library):
 
 
 def is_refused_soon(peer):
-    """Whether an octet of the peer is refused before long, since the other end has closed the connection."""
+    """Whether a byte of the peer is refused before long, since the other end has closed the connection."""
     end = time.monotonic() + SOON
     while time.monotonic() < end:
         try:
@@ -436,7 +436,7 @@ def of_two_clients_one_is_served():
 
 
 def shows_where_nobody_reads(**how):
-    """What `show` ends with by itself, whose input stays open behind a message."""
+    """What `show` ends with by itself, whose input stays open after a message."""
     reading, writing = os.pipe()
     with open("/dev/full", "wb") as full:
         output = {"pipe": writing, "full": full, "closed": None}[how.pop("to")]
@@ -491,7 +491,7 @@ LEAST_SPAN, LONGEST_SPAN = 2, 15
 
 
 class Asked:
-    """A Linktest, by the peer's clock in milliseconds: it is answered between these two moments."""
+    """A Linktest, by the peer's clock in milliseconds: it is answered between these two times."""
 
     def __init__(self, peer, system):
         self.system = system
@@ -511,7 +511,7 @@ def are_close(first, last):
 
 
 def logged_times_are_true():
-    """The clock of the log begins between two moments that each entry tells. If it goes as the peer's, all agree."""
+    """The clock of the log begins between two times that each entry shows. If it goes as the peer's, all agree."""
     serving, peer = selected()
     asked = [Asked(peer, system) for system in range(2, 32)]
     begin = min(asked, key=lambda one: one.length)
@@ -531,12 +531,12 @@ def logged_times_are_true():
 
 # ---- small messages
 
-# What takes less isn't held back. An acknowledgement that is put off comes after 40 ms.
+# What takes less is not held back. An acknowledgement that is put off comes after 40 ms.
 NOT_HELD_BACK = 0.02
 
 
 def least_time(stream, count, ask, tries):
-    """The least time until so many octets come which are written in two pieces, the first of them unacknowledged."""
+    """The least time until that many bytes come which are written in two pieces, the first of them unacknowledged."""
     stream.setsockopt(socket.SOL_SOCKET, socket.SO_RCVLOWAT, count)
     least = math.inf
     for _ in range(tries):
@@ -609,15 +609,15 @@ def a_wait_is_never_of_nothing(library):
         served(serving, ["up", "cut t7", "down"])
 
 
-# How many ends wait at the same time, for how long, and how much later most of them may end, in milliseconds. The system's
-# own timers would be a tenth of a second late or so.
+# How many ends wait at the same time, for how long, and how much later most of them may end, in milliseconds. The
+# system's own timers would be a tenth of a second late or so.
 ENDS = 15
 FOR_SO_LONG = 2500
 LATE = 40
 
 
 def timers_are_not_late():
-    """The middle one of many, whose waits begin at different moments."""
+    """The middle one of many, whose waits begin at different times."""
     ends = []
     for _ in range(ENDS):
         ends.append(equipment("--t7", str(FOR_SO_LONG)))
@@ -651,7 +651,7 @@ def pieces_of(chance, octets):
 
 
 def pieces_come_whole():
-    """Around the 4,096 octets that a wait takes at most: messages one by one, and then cut into pieces anyhow."""
+    """Around the 4,096 bytes that a wait takes at most: messages one by one, and then cut into pieces anyhow."""
     with tempfile.TemporaryFile() as log:
         serving, peer = selected(stdout=log)
         asked = loop_back_pieces(peer)
@@ -677,7 +677,7 @@ def loop_back_pieces(peer):
 
 
 def nothing_comes_of_a_quiet_wait():
-    """What follows one is read from its first octet on."""
+    """What follows one is read from its first byte on."""
     peers = Listening()
     serving = Serving("host", "active", peers.port, "--t3", "200", script=b"S1F1 W . S1F13 W .")
     peer = peers.accepted()
@@ -734,7 +734,7 @@ def nothing_is_written_after_a_failed_write(library):
 
 
 def a_line_goes_out_in_parts(library):
-    """Where each write moves an octet, the log is the same, and a write that a signal interrupts ends it there."""
+    """Where each write moves a byte, the log is the same, and a write that a signal interrupts ends it there."""
     _, whole = served_with_a_failed_write(library, 0)
     told, log = served_with_a_failed_write(library, 0, ONE_OCTET="1")
     same((told, log == whole), ((0, ""), True))
@@ -746,7 +746,7 @@ def a_line_goes_out_in_parts(library):
 
 # ---- the script `hsms`
 
-# It stands for `rt`, which lets no other one work on a crate that stands on the same ones. Two crates that don't stand
+# It represents `rt`, which lets no other one work on a crate that uses the same ones. Two crates that do not
 # on one another have to be tried at once, and one may fail.
 STUB = """#!/usr/bin/env python3
 import fcntl, os, sys, time
@@ -828,7 +828,7 @@ NO_SOURCES = [
 
 
 class Script:
-    """The script in a repository of its own, where a stub stands for `rt`. Files have the times that they are given."""
+    """The script in a repository of its own, where a stub represents `rt`. Files have the times that they are given."""
 
     def __init__(self, room):
         self.room = os.path.realpath(room)
@@ -871,7 +871,7 @@ RAN = (0, b"run with show --max 256\n")
 
 
 def built_in_order(calls):
-    """Each crate of the command is proved once, after those that it stands on."""
+    """Each crate of the command is proved once, after those that it uses."""
     begins = {name: f"begin {name} " + ("run --jobs N -- --help" if name == "hsms_tool" else "lib --jobs N") for name in BELOW}
     same(sorted(calls), sorted([*begins.values(), *(f"end {name}" for name in BELOW)]))
     for name, below in BELOW.items():
@@ -880,7 +880,7 @@ def built_in_order(calls):
 
 
 def runs(script, is_built, **how):
-    """The script runs the command, and builds it before or doesn't."""
+    """The script runs the command, and builds it before or does not."""
     answer, calls = script.run("show", "--max", "256", **how)
     same((answer.status, answer.output), RAN)
     if is_built:

@@ -34,7 +34,7 @@ def midstream():
 
 
 def gap():
-    """The second of three event reports wasn't captured."""
+    """The second of three event reports was not captured."""
     talk = Talk(Capture())
     talk.say(1, *SELECT[0])
     talk.say(2, *SELECT[1])
@@ -47,7 +47,7 @@ def gap():
 
 
 def cut_short():
-    """A capture of the first 96 octets of each packet."""
+    """A capture of the first 96 bytes of each packet."""
     talk = Talk(Capture())
     talk.say(1, *SELECT[0], kept=96)
     talk.say(2, *SELECT[1], kept=96)
@@ -83,7 +83,7 @@ def never_selected():
 
 
 def slow_message():
-    """A message whose octets come with 6 s between them."""
+    """A message whose bytes come with 6 s between them."""
     talk = Talk(Capture())
     talk.say(1, *SELECT[0])
     talk.at(2)
@@ -149,7 +149,7 @@ def half_a_packet():
 
 
 def damaged():
-    """The second packet is of an interface that isn't there."""
+    """The second packet is of an interface that is not there."""
     capture = Capture("pcapng<")
     talk = Talk(capture)
     octets = bytearray(capture.octets)
@@ -161,7 +161,7 @@ def damaged():
 
 
 def other_packets():
-    """Packets that carry no TCP, or whose headers or form aren't read, within a session; a RST far from it."""
+    """Packets that carry no TCP, or whose headers or form are not read, within a session; a RST far from it."""
     capture = Capture()
     talk = Talk(capture)
     talk.say(1, *SELECT[0])

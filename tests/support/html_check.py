@@ -32,7 +32,7 @@ class Line(NamedTuple):
 
 
 class Told(NamedTuple):
-    """What is told: the lines, with None where some are left out, and what stands behind them in the text."""
+    """The text output: its lines, with None where some are skipped, and what follows them."""
 
     lines: List[Optional[Line]]
     end: List[str]
@@ -125,12 +125,12 @@ def read(page: bytes) -> Node:
 
 
 def shown(octets: bytes) -> str:
-    """Octets of the log as the page shows them."""
+    """Bytes of the log as the page shows them."""
     return re.sub("[\x00-\x08\x0a-\x1f\x7f-\x9f]", "\ufffd", octets.decode("utf-8", "replace"))
 
 
 def told_by(text: bytes, is_utc: bool) -> Told:
-    """What the text tells."""
+    """The content of the text output."""
     width = DATE if is_utc else TIME
     lines: List[Optional[Line]] = []
     end: List[str] = []
@@ -186,7 +186,7 @@ def check_link(link: Node, number: Optional[str] = None):
 
 
 def check_links(nodes: List[Node]):
-    """Each id stands once, and each link leads to one."""
+    """Each id occurs once, and each link leads to one."""
     ids = [node.attributes["id"] for node in nodes if "id" in node.attributes]
     if len(set(ids)) < len(ids):
         raise Fault(f"an id stands twice: {sorted(it for it in ids if ids.count(it) > 1)[:4]}")
@@ -207,7 +207,7 @@ def check_lines(main: Node, told: Told):
 
 
 def check_groups(section: Node, told: Told):
-    """Each group begins at a line that fails so, each rest is of one, and each failure where the log is judged."""
+    """Each group begins at a line that fails so, each rest is of one, and each failure where the log is audited."""
     failing = {(line.number, it[0].split(":")[0][5:]) for line in told.lines if line for it in line.failures}
     groups = {}
     for item in section.all("li"):
@@ -237,7 +237,7 @@ def cells_of(words: str) -> List[str]:
 
 
 def check_end(section: Node, told: Told):
-    """What stands on top is what the text has at its end."""
+    """The head is what the text has at its end."""
     rows = [[cell.text() for cell in row.all("td")] for row in section.all("tr")][1:]
     counts = [node.text() for node in section.all("p", "counts")]
     unjudged = [node.text() for node in section.nodes() if node.tag == "p" and not node.attributes]

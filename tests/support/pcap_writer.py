@@ -12,7 +12,7 @@ FORMS = ["pcap<", "pcap>", "nanoseconds<", "nanoseconds>"]
 FORMS += ["pcapng<", "pcapng>", "pcapng-nanoseconds<", "pcapng-binary>"]
 MORE_FORMS = [*FORMS, "pcapng-old<", "pcapng-old>", "pcapng-offset<", "pcapng-offset>", "pcapng-two<", "pcapng-two>"]
 
-# The interfaces of a file of pcapng, by its form: the resolution's octet, the ticks a second, an offset in seconds.
+# The interfaces of a file of pcapng, by its form: the resolution's byte, the ticks a second, an offset in seconds.
 INTERFACES = {
     "pcapng-nanoseconds": [(9, 10**9, 0)],
     "pcapng-binary": [(0x9E, 2**30, 0)],
@@ -52,7 +52,7 @@ class Capture:
         return self.pack("II", kind, length) + body.ljust(length - 12, b"\0") + self.pack("I", length)
 
     def packet(self, when, octets, kept=None):
-        """Adds a packet at a time in microseconds, of which the first octets are kept, or all."""
+        """Adds a packet at a time in microseconds, of which the first bytes are kept, or all."""
         kept = octets[:kept]
         counts = len(kept), len(octets)
         self.count += 1
@@ -98,7 +98,7 @@ class Capture:
 
 
 def ipv4(hosts, tcp, shape=None):
-    """A packet of IPv4; `options` has some, and `offload` doesn't tell its length, as a network card is given it."""
+    """A packet of IPv4; `options` has some, and `offload` leaves its length out, as a network card is given it."""
     options = bytes([1, 1, 1, 0]) if shape == "options" else b""
     length = 0 if shape == "offload" else 20 + len(options) + len(tcp)
     addresses = b"".join(bytes([10, 0, 0, host]) for host in hosts)
@@ -108,7 +108,7 @@ def ipv4(hosts, tcp, shape=None):
 
 def ipv6(hosts, tcp, shape=None):
     """A packet of IPv6; `options` has a header of options before the segment, `routing` and `fragment` such a header, a
-    number so many headers of options, and `offload` doesn't tell its length."""
+    number that many headers of options, and `offload` leaves its length out."""
     named = {"options": [60], "routing": [43], "fragment": [44]}
     kinds = [60] * shape if isinstance(shape, int) else named.get(shape, [])
     options = b"".join(bytes([after, 0, 1, 4, 0, 0, 0, 0]) for after in [*kinds[1:], 6][:len(kinds)])
@@ -157,7 +157,7 @@ def message(frame):
 
 
 def pieces(rng, stream):
-    """A stream as segments, each its place and octets: cut anywhere, some again, swapped or overlapping."""
+    """A stream as segments, each its place and bytes: cut anywhere, some again, swapped or overlapping."""
     cuts = [0]
     while cuts[-1] < len(stream):
         cuts.append(min(len(stream), cuts[-1] + rng.choice([1, 3, 4, 14, 200, 1448, 1448, 9000])))

@@ -12,7 +12,7 @@ from tests.support.reference.linktest import Amiss
 HELD_AT_MOST = int(os.environ.get("HELD", "3"))
 FAULTS = AssertionError, Amiss, OSError, subprocess.TimeoutExpired, ValueError
 
-# How much is told of a fault, in characters.
+# The maximum length of a printed error, in characters.
 LONGEST_TOLD = 2000
 
 

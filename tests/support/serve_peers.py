@@ -24,7 +24,7 @@ for _ in range(os.getpid() % 12768):
 SOON = 30
 A_WHILE = 0.5
 
-# How /proc/net/tcp tells of a socket that it listens.
+# The state of a listening socket in /proc/net/tcp.
 LISTENS = "0A"
 
 SELECT = bytes.fromhex("0000000affff0000000100000001")
@@ -98,8 +98,8 @@ class Serving:
             self.run.stdin = None
 
     def listens(self):
-        """Waits until this end listens, so that one that connects then isn't refused; before long it does, whatever the
-        system tells.
+        """Waits until this end listens, so that one that connects then is not refused; before long it does, whatever
+        the system shows.
         """
         end = time.monotonic() + SOON
         while not is_listened_at(self.port) and self.run.poll() is None and time.monotonic() < end:
@@ -119,7 +119,7 @@ class Serving:
         return False
 
     def ended(self):
-        """The status, the log and what is told on standard error."""
+        """The status, the log and standard error."""
         try:
             log, told = self.run.communicate(timeout=SOON)
         except subprocess.TimeoutExpired:
@@ -241,7 +241,7 @@ def same(told, wanted):
 
 
 def in_time(passed, least, most):
-    """That so many milliseconds passed, at least and less than."""
+    """That this many milliseconds passed, at least and less than."""
     if passed < least:
         raise AssertionError(f"{passed} ms passed, {least} had to")
     if passed >= most:
@@ -249,7 +249,7 @@ def in_time(passed, least, most):
 
 
 def events(log):
-    """The lines of a log behind the first, without their times."""
+    """The lines of a log after the first, without their times."""
     return [re.sub(r"^\d+ ", "", line) for line in log.split("\n")[1:] if line]
 
 
@@ -290,7 +290,7 @@ def refused(serving, status, words):
 
 
 def equipment(*options, **others):
-    """An equipment that listens, and its peer."""
+    """Equipment that listens, and its peer."""
     port = free_port()
     serving = Serving("equipment", "passive", port, *options, **others)
     return serving, Peer.connected(port)

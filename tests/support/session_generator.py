@@ -32,7 +32,9 @@ class Sent:
 
     @property
     def length(self) -> int:
-        """How many numbers it takes. One octet without PSH asks whether the other end is there, and takes none, as a RST."""
+        """How many numbers it takes. One byte without PSH asks whether the other end is there, and takes none, as a
+        RST.
+        """
         if len(self.data) == 1 and not self.flags & PUSH or self.flags & RST:
             return 0
         return len(self.data) + bool(self.flags & SYN) + bool(self.flags & FIN)
@@ -65,7 +67,7 @@ class Session:
         return any(packet.flags & SYN for packet in self.captured)
 
     def shows_loss(self) -> bool:
-        """Whether a packet of the capture acknowledges what isn't in it, or stands behind it."""
+        """Whether a packet of the capture acknowledges what is not in it, or is after it."""
         for way in (ACTIVE, PASSIVE):
             own = [packet for packet in self.captured if packet.way == way]
             held = {packet.number + at for packet in own for at in range(packet.length)}
@@ -103,7 +105,7 @@ def random_text(rng) -> str:
 
 
 def random_frames(rng) -> List[Tuple[int, str]]:
-    """A lawful talk. Each frame but the first is sent by an end that knows all before it."""
+    """A valid talk. Each frame but the first is sent by an end that knows all before it."""
     frames = list(SELECT)
     for system in range(2, rng.choice([2, 4, 8, 20])):
         way, kind = rng.randrange(2), rng.random()
@@ -120,13 +122,13 @@ def random_frames(rng) -> List[Tuple[int, str]]:
 
 
 class Speaker:
-    """Puts the packets of a connection one behind the other."""
+    """Puts the packets of a connection one after the other."""
 
     def __init__(self, rng, session: Session, firsts):
         self.rng, self.session, self.next = rng, session, list(firsts)
 
     def send(self, way, flags, data=b"", away=0, pause=None):
-        """A packet whose first octet stands so far from the next one; it acknowledges all that was said."""
+        """A packet whose first byte is so far from the next one; it acknowledges all that was said."""
         pause = self.rng.randrange(1, 60_000) if pause is None else pause
         acknowledged = self.next[1 - way] if flags & ACK else 0
         self.session.sent.append(Sent(way, self.next[way] + away, flags, data, acknowledged, pause))
@@ -230,7 +232,7 @@ def put_old_reset(rng, captured):
 
 
 def make_up_octets(rng, captured):
-    """Gives keep-alives another octet than was sent, where the capture shows before that its place was acknowledged."""
+    """Gives keep-alives another byte than was sent, where the capture shows before that its place was acknowledged."""
     acknowledged = [0, 0]
     for at, packet in enumerate(captured):
         if packet.flags == ACK and len(packet.data) == 1 and packet.number < acknowledged[1 - packet.way]:
@@ -261,9 +263,9 @@ def noise(rng, capture, when):
             capture.octets += capture.section()
 
 
-# The messages of sessions that are not judged, and segments that are not one message of HSMS: data without a stream, or
-# with no text and no system bytes, no device, another session ID of a control message, a text, another type, a text that
-# is not one item, two messages, a part of one.
+# The messages of sessions that are not audited, and segments that are not one message of HSMS: data without a stream,
+# or with no text and no system bytes, no device, another session ID of a control message, a text, another type, a text
+# that is not one item, two messages, a part of one.
 ONE_MESSAGE = [
     "0000000affff0000000500000001", "0000000affff000000090000ffff", "0000000a00008101000000000001",
     "0000000c7fff060b0000000000000100", "0000000f00050102000000000007210305ab00",
@@ -277,7 +279,7 @@ NOT_ONE_MESSAGE = [
 
 
 def stranger(rng, capture, when) -> bool:
-    """A segment of a session that is not judged, or one that is not HSMS. Whether it is of such a session."""
+    """A segment of a session that is not audited, or one that is not HSMS. Whether it is of such a session."""
     is_message = rng.random() < 0.5
     data = bytes.fromhex(rng.choice(ONE_MESSAGE if is_message else NOT_ONE_MESSAGE))
     ports = rng.choice([(41000, 5010), (41001, 6036), (41000 + rng.randrange(20), rng.randrange(5001, 5020)), (5000, 5000),
@@ -358,8 +360,8 @@ def made(seed) -> Made:
 
 
 def damaged(seed) -> Made:
-    """A capture that is cut anywhere, or has an octet changed, or some taken out or put in: nobody knows its truth. Of some
-    the connections of one address alone are looked at.
+    """A capture that is cut anywhere, or has a byte changed, or some taken out or put in: nobody knows its truth. Of
+    some the connections of one address alone are looked at.
     """
     whole = made(seed)
     rng = random.Random(f"damaged {seed}")

@@ -50,7 +50,7 @@ LINES = [
     ("ffff0000000500000002 00", "linktest.req ffff 00000002 ! 00"),
 ]
 
-# Texts, the depth, and the item in notation, or None where the text isn't one item within the depth.
+# Texts, the depth, and the item in notation, or None where the text is not one item within the depth.
 ITEMS = [
     ("41024142", 32, '<A [2] "AB">'),
     ("4200024142", 32, '<A [2] "AB">'),
@@ -142,7 +142,7 @@ SECOND_SELECT = "6 > ffff0000000100000002\n"
 
 
 def log_of_depth(depth: int, lists: int) -> str:
-    """A log whose settings allow lists of this depth, and data of so many, each within the one before."""
+    """A log whose settings allow lists of this depth, and data of that many, each within the one before."""
     return LOG.replace(" 32\n", f" {depth}\n", 1) + f"6 > 00000101000000000002{'0101' * (lists - 1)}0100\n"
 
 

@@ -36,17 +36,17 @@ from tests.support.reference import capture_audit, corruption, messages, random_
 from tests.support.reference.cases import ended, words_of
 from tests.support.reference.random_messages import Chance, disturbed
 
-# How many inputs are made of one, it among them, and the longest of which others are made, in octets.
+# How many inputs are made of one, it among them, and the longest of which others are made, in bytes.
 BRANCHES = 24
 LONGEST = {"audit": 1000, "show": 400, "encode": 600, "capture": 3000}
 
-# Past so many octets an input isn't kept that a damage has made longer.
+# Past this many bytes, an input is not kept that a damage has made longer.
 LONGEST_DAMAGED = 20_000
 
-# How often a case is given once more with another answer, and what stands behind that answer's output.
+# How often a case is given once more with another answer, and what is after that answer's output.
 CONTROL, CHANGED = 10_000, b"\0changed"
 
-# Octets of a header that mean something, of SECS-II, HSMS or TCP.
+# Bytes of a header that mean something, of SECS-II, HSMS or TCP.
 TELLING = (0, 1, 2, 3, 4, 5, 6, 7, 8, 9, 10, 13, 16, 17, 18, 20, 24, 69, 0x7F, 0x80, 0x81, 0x82, 0x89, 0xFE, 0xFF)
 
 Damage = Callable[[Chance, bytes], bytes]
@@ -56,7 +56,7 @@ Damage = Callable[[Chance, bytes], bytes]
 
 
 def moved(chance: Chance, parts: List[bytes]) -> List[bytes]:
-    """Parts of which two are exchanged, one is missing, or one stands once more, there or elsewhere."""
+    """Parts of which two are exchanged, one is missing, or one occurs once more, there or elsewhere."""
     changed, kind = list(parts), chance.randrange(4)
     if not changed:
         return changed
@@ -135,7 +135,7 @@ def other_mark(chance: Chance, log: bytes) -> bytes:
 
 
 def other_octet_of_header(chance: Chance, log: bytes) -> bytes:
-    """An octet of a frame's header is another one."""
+    """A byte of a frame's header is another one."""
     found = any_found(chance, FRAME, log)
     if not found:
         return log
@@ -155,7 +155,7 @@ def header_of_another(chance: Chance, log: bytes) -> bytes:
 
 
 def other_setting(chance: Chance, log: bytes) -> bytes:
-    """A word of the first line is another one that may stand there, or nearly."""
+    """A word of the first line is another one that may be there, or nearly."""
     first, _, rest = log.partition(b"\n")
     words = first.split(b" ")
     if len(words) != 11:
@@ -180,7 +180,7 @@ def one_more_line(chance: Chance, log: bytes) -> bytes:
 
 
 def within_a_line(chance: Chance, log: bytes) -> bytes:
-    """A line of which a word, a space or an octet is another one."""
+    """A line of which a word, a space or a byte is another one."""
     lines = log.split(b"\n")
     at = chance.place(lines)
     lines[at] = random_logs.odd_line(chance, lines[at])
@@ -196,11 +196,11 @@ OF_LOGS: List[Damage] = [
 ]
 
 
-# Messages in octets, in digits, and in notation.
+# Messages in bytes, in digits, and in notation.
 
 
 def messages_of(stream: bytes) -> List[bytes]:
-    """The messages of a stream with their lengths, and what is left behind them."""
+    """The messages of a stream with their lengths, and what is left after them."""
     found, place = [], 0
     while place + 4 <= len(stream):
         end = place + 4 + int.from_bytes(stream[place:place + 4], "big")
@@ -216,7 +216,7 @@ def messages_moved(chance: Chance, stream: bytes) -> bytes:
 
 
 def within_a_message(chance: Chance, stream: bytes) -> bytes:
-    """An octet of a message is another one, mostly of its header or of the front of its text; its length stays."""
+    """A byte of a message is another one, mostly of its header or of the front of its text; its length stays."""
     parts = messages_of(stream)
     at = chance.place(parts)
     part = bytearray(parts[at])
@@ -283,14 +283,14 @@ def another_number(chance: Chance, text: bytes) -> bytes:
 
 
 def other_white_space(chance: Chance, text: bytes) -> bytes:
-    """White space stands or is missing where words or marks meet."""
+    """White space occurs or is missing where words or marks meet."""
     words = [word for word in TOKENS.findall(text) if word.strip() or chance.happens(0.9)]
     words.insert(chance.randrange(len(words) + 1), chance.one(b" ", b"\t", b"\r\n", b"\n", b"\r", b"  "))
     return b"".join(words)
 
 
 def more_values(chance: Chance, text: bytes) -> bytes:
-    """A value stands several times, and what stands in front of it has no count."""
+    """A value occurs several times, and what is in front of it has no count."""
     found = any_found(chance, VALUES, text)
     many = chance.one(2, 3, 100, 245, 300)
     return replaced(text, found, found[1] + (b" " + found[2]) * many) if found else text
@@ -314,7 +314,7 @@ OF_NOTATION: List[Damage] = [
 
 
 def packets_of(octets: bytes) -> List[bytes]:
-    """The records or blocks of a capture file, its header in front and what is left behind them."""
+    """The records or blocks of a capture file, its header in front and what is left after them."""
     order = "<" if octets[:2] in (b"\xd4\xc3", b"\x4d\x3c") or octets[8:9] == b"\x4d" else ">"
     is_new = octets[:4] == b"\x0a\x0d\x0d\x0a"
     place, found = (0, []) if is_new else (24, [octets[:24]])
@@ -333,7 +333,7 @@ def packets_moved(chance: Chance, octets: bytes) -> bytes:
 
 
 def within_a_packet(chance: Chance, octets: bytes) -> bytes:
-    """Octets of a packet are others, mostly of its headers."""
+    """Bytes of a packet are others, mostly of its headers."""
     parts = packets_of(octets)
     at = chance.place(parts)
     part = bytearray(parts[at])

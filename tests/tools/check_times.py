@@ -19,7 +19,7 @@ from tests.support.command import TOP
 # How a kept file is named: by its library, the path of the function, and what it is of the function's proof.
 KEPT = re.compile(r"Rattle-\w+-(?:proofs|specs)\.(.*)\.(\w[\w+-]*)\.oantt$")
 
-# So many seconds without a file are between two checks, and not within one.
+# A gap of this many seconds without a file is between two checks, not within one.
 BETWEEN = 30
 
 

@@ -75,11 +75,11 @@ LONGEST_CHECK = 3600
 # Where checks of a crate keep what they proved of it.
 KEPT = "out/incremental"
 
-# The status of a check that is to be of a function which isn't there.
+# The status of a check that is to be of a function which is not there.
 NO_SUCH_FUNCTION = 2
 
-# How many bodies are tried together, how many where one check isn't enough for those of a crate, so that its checks end
-# together, and how many such checks a body may have before it is tried alone.
+# How many bodies are tried together, how many where one check is not enough for those of a crate, so that its checks
+# end together, and how many such checks a body may have before it is tried alone.
 TOGETHER = 115
 IN_ONE_OF_SOME = 45
 AMONG_OTHERS = 2
@@ -94,22 +94,22 @@ NAME_OF_TYPE = r"&?(?:\w+::)*(\w+)(?:<([^{]*?)>)?"
 TYPE = re.compile(r"(?m)^(?:pub(?:\(\w+\))? )?(?:struct|enum) (\w+)")
 OF_TYPE = re.compile(rf"(?:unsafe )?impl(?:<[^{{]*?>)? {NAME_OF_TYPE}(?: for {NAME_OF_TYPE})? \{{")
 
-# What names constants in a definition or a proof, a constant, and where a name stands that is of no path.
+# What names constants in a definition or a proof, a constant, and where a name is that is of no path.
 CITED = re.compile(r"(?m)^ *(?:ghost )?use .*\bTheConstants\b.*$")
 CONSTANT = re.compile(r"(?ms)^(?:pub(?:\(\w+\))? )?(?:const|static) (\w+):.*?;$")
 BARE_NAME = re.compile(r"(?<![\w:])[A-Z]\w*\b(?!::)")
 
-# Where a function begins, and one of a cycle of calls, whose attribute stands above it.
+# Where a function begins, and one of a cycle of calls, whose attribute is above it.
 FUNCTION = re.compile(r"(?m)^( *)(?:pub(?:\(\w+\))? )?(?:const )?(?:unsafe )?fn (\w+)")
 IN_A_CYCLE = re.compile(r"(?m)^ *#\[cycle\(\w+\)\]\n(?: *(?://.*|#\[.*)\n)* *(?:pub(?:\(\w+\))? )?(?:unsafe )?fn (\w+)")
 
 # What is said above a function, and asked of its proof: comments and attributes, each in lines of its own.
 ABOVE = re.compile(r"(?m)(?:^ *(?://|#\[).*\n)*\Z")
 
-# What stands in the place of a body that no check looks at.
+# What is in the place of a body that no check looks at.
 NO_BODY = "unreachable!()"
 
-# What a check says of a function that isn't there.
+# What a check says of a function that is not there.
 NO_FUNCTION = re.compile(r"has no function `([^`]+)`")
 
 # Where the proof of a function lies, and one that is a hole.
@@ -121,29 +121,30 @@ pub {name}_spec : {{M : Type 1}} → statement M
 {name}_spec = ?
 """
 
-# What a check says of such a proof where it can't be one, and of a function that is proved but for holes.
+# What a check says of such a proof where it cannot be one, and of a function that is proved but for holes.
 NO_HOLE = re.compile(r"^\./proofs/(\S+)/Proof\.antt(?::\d+:\d+)?: error", re.MULTILINE)
 BUT_FOR_HOLES = re.compile(r"^fn (\S+): (?:no holes|depends on a hole)", re.MULTILINE)
 
-# What a check says of a function that isn't proved, of a goal, and of a line of a proof by hand. That a record or a module
-# has no such name may stand in the line after.
+# What a check says of a function that is not proved, of a goal, and of a line of a proof by hand. That a record or a
+# module has no such name may be in the line after.
 NOT_PROVED = re.compile(r"^fn (\S+): (?:not proved|no proof)(.*)", re.MULTILINE)
 LINE_OF_A_PROOF = re.compile(
     r"^(?:note: )?(?:\./)?proofs/(\S+?)\.antt:\d+:\d+: error: (.*)((?:\n +has no .*)?)", re.MULTILINE
 )
 A_NAME_IS_GONE = re.compile(r"has no\b|is not in scope|was not admitted")
 
-# Whether the line after counts. By hand it does. In the gate it does not yet: some of its bodies are refused by that alone.
+# Whether the line after counts. By hand it does. In the gate it does not yet: some of its bodies are refused by that
+# alone.
 READS_LINE_AFTER = True
 
 
 class BadEdit(Exception):
-    """An edit that can't be applied."""
+    """An edit that cannot be applied."""
 
 
 @dataclass(frozen=True)
 class Change:
-    """A text of a file of a crate, and what stands in its place."""
+    """A text of a file of a crate, and what is in its place."""
 
     path: str
     old: str
@@ -174,7 +175,9 @@ class Edit:
         return texts
 
     def texts_or_none(self, texts):
-        """The same, or None where other edits in these texts leave no place to it, as where they have its old text twice."""
+        """The same, or None where other edits in these texts leave no place to it, as where they have its old text
+        twice.
+        """
         try:
             return self.texts(texts)
         except BadEdit:
@@ -183,7 +186,9 @@ class Edit:
             return None
 
     def turned(self):
-        """The functions that the edit turns, each by its module or type and its name, and None for what is no function."""
+        """The functions that the edit turns, each by its module or type and its name, and None for what is no
+        function.
+        """
         return {function_at(self.crate, it) for it in self.changes}
 
     def functions(self):
@@ -191,7 +196,7 @@ class Edit:
         return {named(path.split("::")) for path in self.only} or self.turned()
 
     def paths(self):
-        """These functions, as `rt check --only` takes them; None where it isn't known which they are."""
+        """These functions, as `rt check --only` takes them; None where it is not known which they are."""
         found = self.functions()
         return set(self.only) or (None if None in found else {path_of(self.crate, *it) for it in found})
 
@@ -220,7 +225,9 @@ def path_of(crate, owner, name):
 
 
 def function_at(crate, change):
-    """The function that a change lies in: its module, or the type whose it is, and its name; None where it lies in none."""
+    """The function that a change lies in: its module, or the type whose it is, and its name; None where it lies in
+    none.
+    """
     if not change.path.startswith("src/"):
         return None
     text = text_of(f"{folder_of(crate)}/{change.path}")
@@ -243,8 +250,8 @@ def is_of_trait(of_type):
 
 
 def named_impl(of_type):
-    """How a check names an `impl`: by its type, and then by its trait with what that is given, if it is one of a trait. What
-    drops a value is named as a function of its type.
+    """How a check names an `impl`: by its type, and then by its trait with what that is given, if it is one of a
+    trait. What drops a value is named as a function of its type.
     """
     name = of_type[3] or of_type[1]
     # (a trait may also be given what is said at the `impl`, a letter, or a lifetime)
@@ -253,7 +260,7 @@ def named_impl(of_type):
 
 
 def changes_in(lines):
-    """The changes that lines tell."""
+    """The changes that lines describe."""
     path, texts, word = "", {}, ""
     found = []
     for line in [*lines, ""]:
@@ -277,7 +284,7 @@ def named_in(lines):
 
 
 def edits_in(path, crate, name):
-    """The edits of a file: one, or one behind each line `-- BODY`."""
+    """The edits of a file: one, or one after each line `-- BODY`."""
     lines = text_of(path).split("\n")
     starts = [place for place, line in enumerate(lines) if re.fullmatch(r"-- \w+", line)]
     if not starts:
@@ -361,8 +368,8 @@ def sources_of(crate, parts=("src",)):
 
 
 def functions_in(crate):
-    """The functions of a crate's sources that may have a proof of their own, by their paths: those that are no trait's, no
-    macro's and in no cycle of calls.
+    """The functions of a crate's sources that may have a proof of their own, by their paths: those that are no
+    trait's, no macro's and in no cycle of calls.
     """
     found = set()
     for path, text in sources_of(crate).items():
@@ -378,13 +385,13 @@ def types_in(crate):
 
 
 def module_of(crate, path, of_type):
-    """The module that a check names for what stands in a source of a crate: for the functions of a type the type's."""
+    """The module that a check names for what is in a source of a crate: for the functions of a type the type's."""
     name = of_type and not is_of_trait(of_type) and (of_type[3] or of_type[1])
     return types_in(crate).get(name) or module_at(path)
 
 
 def functions_of(crate, path, item, in_cycles):
-    """The functions of an item of a source that are in no cycle of calls, each by its path, with where it stands."""
+    """The functions of an item of a source that are in no cycle of calls, each by its path, with where it is."""
     of_type = OF_TYPE.match(item)
     owner = [named_impl(of_type)] if of_type else []
     found = [it for it in FUNCTION.finditer(item) if len(it[1]) == 4 * len(owner)]
@@ -406,7 +413,7 @@ def without_bodies(crate, path, text, functions):
 
 
 def body_at(item, function):
-    """From where to where the body of a function stands within its braces; nowhere where these stand in one line."""
+    """From where to where the body of a function is within its braces; nowhere where these are in one line."""
     indent = function[1]
     brace = re.compile(rf"(?m)^{indent}(?:\S.*)?\{{(\}})?$").search(item, function.start())
     end = item.find(f"\n{indent}}}\n", brace.end() - 1) if brace and not brace[1] else -1
@@ -420,8 +427,8 @@ def calls_itself(item, function, end):
 
 
 def span_of(text, owner, name):
-    """From where to where a function stands in a source, with what is said above it, and how far it is indented. None where
-    it isn't there, is a trait's or in a cycle of calls.
+    """From where to where a function is in a source, with what is said above it, and how far it is indented. None where
+    it is not there, is a trait's or in a cycle of calls.
     """
     start = 0
     for item in ITEM.split(text):
@@ -440,8 +447,8 @@ def span_of(text, owner, name):
 
 @functools.lru_cache(maxsize=None)
 def constants_in(crate):
-    """The source and the text of each constant of a crate, by its name: of those that no clause, no definition and no proof
-    names, and no two have.
+    """The source and the text of each constant of a crate, by its name: of those that no clause, no definition and no
+    proof names, and no two have.
     """
     found = [(it[1], path, it[0]) for path, text in sources_of(crate).items() for it in CONSTANT.finditer(text)]
     often = Counter(name for name, *_ in found)
@@ -477,7 +484,7 @@ class Copies:
         return of[0]
 
     def made_of_these(self):
-        """The constants that name one of these, and aren't among them, with their texts."""
+        """The constants that name one of these, and are not among them, with their texts."""
         others = {name: text for name, (_, text) in constants_in(self.crate).items() if name not in self.texts}
         return {name: text for name, text in others.items() if self.named_in(text) != text}
 
@@ -496,7 +503,7 @@ class Copies:
         return f"{name}_OTHERWISE_{self.number}"
 
     def add_to(self, texts):
-        """Sources with each of these constants behind the one that it is a copy of."""
+        """Sources with each of these constants after the one that it is a copy of."""
         for name, text in self.texts.items():
             path, right = constants_in(self.crate)[name]
             wrong = self.named_in(text.replace(f" {name}:", f" {self.other(name)}:", 1))
@@ -505,9 +512,9 @@ class Copies:
 
 
 class Double:
-    """A wrong body of a function as another function beside it, under a name of its own, with the same contract. So a check
-    tries several bodies of one function. Where a constant is wrong, it is the function as it is, but with copies of this
-    constant and of those that are made of it.
+    """A wrong body of a function as another function beside it, under a name of its own, with the same contract. So a
+    check tries several bodies of one function. Where a constant is wrong, it is the function as it is, but with copies
+    of this constant and of those that are made of it.
     """
 
     def __init__(self, edit, number):
@@ -531,7 +538,7 @@ class Double:
         return self.copies.named_in(text) if self.copies else text
 
     def add_to(self, texts):
-        """Sources with this function behind the one whose body it has, and what is copied for it."""
+        """Sources with this function after the one whose body it has, and what is copied for it."""
         texts = self.copies.add_to(texts) if self.copies else texts
         text = texts[self.path]
         _, end, _ = span_of(text, self.owner, self.name)
@@ -552,8 +559,8 @@ class Double:
 
 
 class Room:
-    """A copy of a crate, in which edits are checked. There each function that no edit turns has no body, and its proof is a
-    hole.
+    """A copy of a crate, in which edits are checked. There each function that no edit turns has no body, and its proof
+    is a hole.
     """
 
     def __init__(self, crate, home, like=None, is_beside=False):
@@ -615,10 +622,11 @@ class Room:
         return texts, doubles
 
     def check(self, edits=(), of_crate=False):
-        """Checks the functions that edits turn, or else the crate, with the edits, and takes them back. Says which edits leave
-        their functions proved, which are refused, with what is said of them, and what was written.
+        """Checks the functions that edits turn, or else the crate, with the edits, and takes them back. Says which
+        edits leave their functions proved, which are refused, with what is said of them, and what was written.
 
-        A proof sees of another function its contract alone. So what an edit doesn't turn stays proved, or not, as it is.
+        A proof sees of another function its contract alone. So what an edit does not turn stays proved, or not, as it
+        is.
         """
         texts, doubles = self.apply(edits)
         function = lambda it: {doubles[it].function()} if it in doubles else it.functions()
@@ -662,7 +670,9 @@ class Room:
         return next((it for it in output.split("\n") if re.search(r":\d+:\d+: error\[", it)), None)
 
     def check_past_holes(self, only, texts, filled):
-        """Checks functions of the crate with these texts of its files, where only those whose holes are filled have bodies."""
+        """Checks functions of the crate with these texts of its files, where only those whose holes are filled have
+        bodies.
+        """
         holes = self.by_hand.keys() - set(filled)
         whole = {**self.sources, **texts}
         sources = {path: without_bodies(self.crate, path, whole[path], holes) for path in self.sources}
@@ -670,7 +680,9 @@ class Room:
         return self.check_of(only)
 
     def check_of(self, only):
-        """A check of these functions, past holes, or of the crate where there are none: its status, and what it writes."""
+        """A check of these functions, past holes, or of the crate where there are none: its status, and what it
+        writes.
+        """
         asked = [word for path in sorted(only) for word in ("--only", path)]
         how = {"stdout": subprocess.PIPE, "stderr": subprocess.STDOUT, "timeout": LONGEST_CHECK, "check": False}
         ran = subprocess.run([*self.words, *(["--allow-holes", *asked] if asked else [])], cwd=self.folder, **how)
@@ -678,7 +690,9 @@ class Room:
 
 
 def refused_in(output):
-    """The functions that a check refuses by a goal or a line of their own, by module or type and name, with what it says."""
+    """The functions that a check refuses by a goal or a line of their own, by module or type and name, with what it
+    says.
+    """
     found = {}
     for path, said in NOT_PROVED.findall(output):
         goal = re.search(r"`search` did not prove (.*?)(?:; it calls|$)", said)
@@ -686,7 +700,8 @@ def refused_in(output):
             found.setdefault(named(path.split("::")[1:]), []).append(goal[1])
     for path, said, more in LINE_OF_A_PROOF.findall(output):
         if not A_NAME_IS_GONE.search(re.sub(r"`[^`]*`", "", said + more if READS_LINE_AFTER else said)):
-            # a file of a function's proof lies in its folder; a lemma of a file of its own speaks of what isn't a function
+            # a file of a function's proof lies in its folder; a lemma of a file of its own speaks of what is not a
+            # function
             *parts, file = path.split("/")
             found.setdefault(named(parts) if parts else ("", file), []).append(said[:120])
     return found
@@ -699,8 +714,8 @@ def named(parts):
 
 
 def in_lots(edits):
-    """Edits in lots that can each be tried in one check, and at most so many. None that turns more than functions and
-    constants is among others. The lots are of one size, so that they end together. Those of one source stand in one, so
+    """Edits in lots that can each be tried in one check, and at most that many. None that turns more than functions and
+    constants is among others. The lots are of one size, so that they end together. Those of one source are in one, so
     that fewer checks look at what they call.
     """
     left, lots = sorted(edits, key=lambda it: ([change.path for change in it.changes], sorted(map(str, it.functions())))), []
@@ -731,7 +746,7 @@ def chosen(edits, most):
 
 
 def can_be_double(edit):
-    """Whether an edit can stand beside another one of its function, or of its constant."""
+    """Whether an edit can be next to another one of its function, or of its constant."""
     try:
         return bool(Double(edit, 0))
     except BadEdit:
@@ -739,14 +754,16 @@ def can_be_double(edit):
 
 
 class Lanes:
-    """Room for some checks at once: whoever comes when all are taken waits, and whose crate has most to try goes first."""
+    """Room for some checks at once: whoever comes when all are taken waits, and whose crate has most to try goes
+    first.
+    """
 
     def __init__(self, most):
         self.most, self.taken, self.waiting, self.freed = most, 0, [], threading.Condition()
 
     @contextmanager
     def one(self, size):
-        """A lane for a check of a crate that has so many edits to try."""
+        """A lane for a check of a crate that has that many edits to try."""
         with self.freed:
             self.waiting.append(size)
             while self.taken >= self.most() or size < max(self.waiting):
@@ -770,7 +787,7 @@ class Rooms:
         self.free, self.made = [self.first], 1
 
     def make(self, most):
-        """Makes rooms, so that there are so many. No check may run meanwhile."""
+        """Makes rooms, so that there are that many. No check may run meanwhile."""
         for number in range(self.made, most):
             self.free.append(Room(self.crate, f"{self.home}/{number}", self.first))
         self.made = max(self.made, most)
@@ -807,7 +824,7 @@ class Trial:
             return room.check(edits, of_crate)
 
     def is_proved(self):
-        """Whether the crate is proved as it stands, and what a check of it writes."""
+        """Whether the crate is proved as it is, and what a check of it writes."""
         *_, output = self.check()
         return "\nlogic=proved" in output, output
 
@@ -843,7 +860,7 @@ class Trial:
             return lot
         _, refused, _ = self.check(lot)
         if not refused:
-            # it came to no verdict, or one of them doesn't compile
+            # it came to no verdict, or one of them does not compile
             middle = len(lot) // 2
             return self.not_named(lot[:middle]) + self.not_named(lot[middle:])
         left = [it for it in lot if it not in refused]
@@ -871,7 +888,7 @@ class Trial:
         self.at_once(self.compile_lot, in_lots(self.applicable(edits)))
 
     def compile_lot(self, lot):
-        """Compiles the crate with these edits, and with fewer of them where it doesn't compile."""
+        """Compiles the crate with these edits, and with fewer of them where it does not compile."""
         self.count(checks=1)
         with self.lanes.one(self.size - self.passed), self.rooms.one() as room:
             error = room.error_of(lot)
@@ -906,15 +923,15 @@ class Trial:
 
 
 def first_error(output):
-    """The first line of what a check wrote that tells what it refuses."""
+    """The first line in the output of a check that names what it refuses."""
     lines = output.strip().split("\n")
     tells = re.compile(r":\d+:\d+: error|^note: \S+:\d+:\d+: it is not proved|: (?:not proved|no proof)|^error")
     return next((line for line in lines if tells.search(line)), lines[-1])[:300]
 
 
 def tried(crate, bodies, equivalent, is_proved, lanes, is_beside=False, compiling=False):
-    """Tries the wrong bodies of a crate, or if there are none its equivalent edits, or only compiles both, and prints the
-    result.
+    """Tries the wrong bodies of a crate, or if there are none its equivalent edits, or only compiles both, and prints
+    the result.
 
     With wrong bodies, it only checks that the equivalent edits can be applied.
     """
@@ -973,7 +990,7 @@ def size_of(crate):
 
 
 def is_built_below(crates, proved):
-    """Builds what crates stand on, where it isn't among those that are proved."""
+    """Builds the crates below these, except those that are proved."""
     below = set().union(*[crates_below(it, crates_listed()) for it in crates]) - proved
     words = [f"{TOP}/build", *sorted(below)]
     return not below or subprocess.run(words, stdin=subprocess.DEVNULL, check=False).returncode == 0
@@ -992,7 +1009,9 @@ class Proofs:
         return int(told) if told else None
 
     def are_there(self, crate):
-        """Whether the edits of a crate may be tried: where what it stands on is proved. `rt ci` shows that it is too."""
+        """Whether the edits of a crate may be tried: once the crates below it are proved. `rt ci` proves the crate
+        itself.
+        """
         if self.ended() is not None:
             return True
         log = f"{self.folder}/proofs"

@@ -67,7 +67,7 @@ def paths():
 
 
 def files_of_items():
-    """The files that an item of a list names behind the folder of a crate."""
+    """The files that an item of a list names after the folder of a crate."""
     for document in ("CONTRIBUTING.md", "docs/ARCHITECTURE.md"):
         for item in ITEM.findall(text_of(document)):
             crates = CRATE.findall(item)

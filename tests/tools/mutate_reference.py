@@ -37,7 +37,7 @@ from tests.support.command import TOP
 
 PACKAGE = "tests.support.reference"
 
-# The modules that are turned, each with the kinds of inputs that speak of it, the likeliest first.
+# The modules that are mutated, each with the kinds of inputs that reach it, the likeliest first.
 KINDS_OF = {
     "items": ["show", "encode", "audit"],
     "messages": ["show", "encode", "audit", "driven"],
@@ -47,11 +47,11 @@ KINDS_OF = {
     "linktest": ["tested"],
 }
 
-# How long a turned reading may take over all inputs, in seconds.
+# The maximum time of a mutant on all inputs, in seconds.
 LONGEST = 600
 
-# A way to turn a node of the syntax tree: what is said of it, and the node in its place.
-Turn = Tuple[str, Callable[[ast.AST], ast.AST]]
+# A mutation of a node of the syntax tree: its description, and a function that returns the new node.
+Mutation = Tuple[str, Callable[[ast.AST], ast.AST]]
 
 NEIGHBOURS = {
     ast.Lt: ast.LtE, ast.LtE: ast.Lt, ast.Gt: ast.GtE, ast.GtE: ast.Gt, ast.Eq: ast.NotEq, ast.NotEq: ast.Eq,
@@ -83,8 +83,8 @@ def leaves(statement: ast.AST) -> bool:
     return isinstance(statement, ast.If) and isinstance(statement.body[-1], (ast.Return, ast.Raise))
 
 
-def turns_of(node: ast.AST) -> Iterator[Turn]:
-    """Each way to turn a node."""
+def mutations_of(node: ast.AST) -> Iterator[Mutation]:
+    """Yields each mutation of a node."""
     if isinstance(node, ast.Compare) and len(node.ops) == 1 and type(node.ops[0]) in NEIGHBOURS:
         yield "the comparison", changed(ops=[NEIGHBOURS[type(node.ops[0])]()])
     if isinstance(node, (ast.BinOp, ast.BoolOp)) and type(node.op) in NEIGHBOURS:
@@ -116,21 +116,21 @@ def turns_of(node: ast.AST) -> Iterator[Turn]:
             yield f"lines {body[at].lineno} and {body[at + 1].lineno} swapped", changed(body=swapped(body, at))
 
 
-class Turner(ast.NodeTransformer):
-    """Counts the nodes of a tree, and turns one of them."""
+class Mutator(ast.NodeTransformer):
+    """Counts the nodes of a tree, and mutates one of them."""
 
-    def __init__(self, place: int, turn: Callable[[ast.AST], ast.AST]):
-        self.place, self.turn, self.count = place, turn, -1
+    def __init__(self, place: int, mutation: Callable[[ast.AST], ast.AST]):
+        self.place, self.mutation, self.count = place, mutation, -1
 
     def visit(self, node):
         self.count += 1
         here = self.count
         node = self.generic_visit(node)
-        return self.turn(node) if here == self.place else node
+        return self.mutation(node) if here == self.place else node
 
 
 def nodes_of(tree: ast.AST) -> Iterator[ast.AST]:
-    """The nodes of a tree in the order in which a Turner counts them."""
+    """The nodes of a tree in the order in which a Mutator counts them."""
     yield tree
     for child in ast.iter_child_nodes(tree):
         yield from nodes_of(child)
@@ -142,7 +142,7 @@ def tree_of(module: str) -> ast.AST:
 
 
 def annotations_of(tree: ast.AST) -> set:
-    """The nodes of annotations and decorators, which nothing is turned in."""
+    """The nodes of annotations and decorators, which are not mutated."""
     fields = [getattr(node, name, None) for node in ast.walk(tree) for name in ("annotation", "returns")]
     fields += [each for node in ast.walk(tree) for each in getattr(node, "decorator_list", [])]
     typed = [node.value for node in ast.walk(tree) if isinstance(node, ast.Assign) and is_type(node.value)]
@@ -153,15 +153,15 @@ def is_type(value: ast.AST) -> bool:
     return isinstance(value, ast.Subscript) and isinstance(value.value, ast.Name) and value.value.id[:1].isupper()
 
 
-def all_turns(module: str, line: int) -> List[Tuple[int, int, str]]:
-    """The place of each node that can be turned, the number of the turn, and what is said of it."""
+def all_mutations(module: str, line: int) -> List[Tuple[int, int, str]]:
+    """The place of each node that can be mutated, the number of the mutation, and its description."""
     tree = tree_of(module)
     kept, unordered, found, last = annotations_of(tree), unordered_in(tree), [], 0
     for place, node in enumerate(nodes_of(tree)):
         last = getattr(node, "lineno", last)
         if id(node) not in kept and line in (0, last):
             found += [(place, number, f"{module}.py:{last}: {what}: {shown(node)}")
-                      for number, (what, _) in enumerate(turns_of(node))
+                      for number, (what, _) in enumerate(mutations_of(node))
                       if id(node) not in unordered or not what.endswith("swapped")]
     return found
 
@@ -176,21 +176,21 @@ def shown(node: ast.AST) -> str:
     return ast.unparse(node).split("\n")[0][:90]
 
 
-def turned_module(module: str, place: int, number: int) -> None:
-    """Puts a turned module in the place of the one of this name."""
+def mutate_module(module: str, place: int, number: int) -> None:
+    """Replaces the module of this name by a mutant."""
     tree = tree_of(module)
     node = next(node for at, node in enumerate(nodes_of(tree)) if at == place)
-    _, turn = list(turns_of(node))[number]
-    turned = ast.fix_missing_locations(Turner(place, turn).visit(copy.deepcopy(tree)))
+    _, mutation = list(mutations_of(node))[number]
+    mutant = ast.fix_missing_locations(Mutator(place, mutation).visit(copy.deepcopy(tree)))
     name = f"{PACKAGE}.{module}"
     made = types.ModuleType(name)
     sys.modules[name] = made
     setattr(importlib.import_module(PACKAGE), module, made)
-    exec(compile(turned, f"{module}.py", "exec"), made.__dict__)
+    exec(compile(mutant, f"{module}.py", "exec"), made.__dict__)
 
 
 def answer(kind: str, given) -> object:
-    """What the reading answers to an input."""
+    """Returns the answer of the reference to an input."""
     if kind == "tested":
         return tested_again(given)
     messages, session, endpoint_inputs = (
@@ -205,7 +205,7 @@ def answer(kind: str, given) -> object:
 
 
 def tested_again(given) -> object:
-    """The log that an end writes again which tests its link, or why it can't."""
+    """The log that an end writes again which tests its link, or why it cannot."""
     linktest, ends = (importlib.import_module(f"{PACKAGE}.{name}") for name in ("linktest", "ends"))
     try:
         return linktest.log_again(given.lines, given.settings, ends.equipment_desk(b"M", b"1"), given.pause)
@@ -214,7 +214,7 @@ def tested_again(given) -> object:
 
 
 def inputs_of(share: float) -> List[Tuple[str, object, object]]:
-    """Each input of the gate: its kind, what is given, and what the reading answers as it stands."""
+    """Each input of the gate: its kind, the input, and the answer of the reference."""
     corruption, edge_cases, endpoint_cases, endpoint_inputs, idle_links, messages, random_logs, random_messages = (
         importlib.import_module(f"{PACKAGE}.{name}")
         for name in (
@@ -256,8 +256,8 @@ def in_child(work: Callable[[], int]) -> int:
 
 
 def first_noticing(path: str, module: str, place: int, number: int, killers: List[int]) -> int:
-    """Asks a turned reading, and answers 0 where each input is answered as ever, 1 where one isn't."""
-    turned_module(module, place, number)
+    """Runs a mutant, and returns 0 if each input gets its usual answer, and otherwise 1."""
+    mutate_module(module, place, number)
     importlib.import_module(f"{PACKAGE}.endpoint_inputs")
     with open(path, "rb") as file:
         made = pickle.load(file)
@@ -273,7 +273,7 @@ def first_noticing(path: str, module: str, place: int, number: int, killers: Lis
 
 
 def killers_of(path: str, module: str) -> List[int]:
-    """The inputs that noticed most turns of a module so far."""
+    """The inputs that noticed most mutants of a module so far."""
     try:
         with open(f"{path}.{os.getpid()}") as file:
             pairs = [line.split() for line in file]
@@ -289,9 +289,9 @@ def main() -> int:
     words.add_argument("--share", type=float, default=0.1)
     told = words.parse_args()
     asked = [name.partition(":") for name in told.modules or KINDS_OF]
-    turns = [(name, *turn) for name, _, line in asked for turn in all_turns(name, int(line or 0))]
-    random.Random(1).shuffle(turns)
-    with tempfile.TemporaryDirectory(prefix="hsms-turned-") as room, ThreadPoolExecutor(told.workers) as pool:
+    mutations = [(name, *mutation) for name, _, line in asked for mutation in all_mutations(name, int(line or 0))]
+    random.Random(1).shuffle(mutations)
+    with tempfile.TemporaryDirectory(prefix="hsms-mutants-") as room, ThreadPoolExecutor(told.workers) as pool:
         path = f"{room}/inputs"
 
         def store() -> int:
@@ -303,13 +303,13 @@ def main() -> int:
             print("the inputs can't be made")
             return 1
 
-        def tried(turn) -> Tuple[str, bool]:
-            name, place, number, what = turn
+        def tried(mutation) -> Tuple[str, bool]:
+            name, place, number, what = mutation
             killers = killers_of(path, name)
             return what, in_child(lambda: first_noticing(path, name, place, number, killers)) != 0
 
         results = []
-        for what, is_noticed in pool.map(tried, turns):
+        for what, is_noticed in pool.map(tried, mutations):
             results.append(is_noticed)
             if not is_noticed:
                 print(f"unnoticed: {what}", flush=True)

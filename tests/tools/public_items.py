@@ -137,7 +137,7 @@ def sources_of(crate):
 
 
 def shallow_body(code, place):
-    """What stands in the braces that open next, and nothing of what stands in braces within them."""
+    """What is in the braces that open next, and nothing of what is in braces within them."""
     depth, kept = 0, []
     for character in code[code.index("{", place) :]:
         if character == "}":

@@ -13,10 +13,10 @@ from tests.support.reference.unaudited import Unjudged
 
 MODULUS = 1 << 32
 
-# After so many later connections one that is over, or never had both numbers, is forgotten.
+# After this many later connections, one that is over, or never had both numbers, is forgotten.
 REMEMBERED = 4096
 
-# Behind all packets.
+# After all packets.
 NEVER = 1 << 70
 
 OTHER_ROLE = {"host": "equipment", "equipment": "host"}
@@ -38,7 +38,7 @@ class Options:
     depth: int = 32
 
     def words(self) -> List[str]:
-        """The words of the command line that say what isn't left out."""
+        """The words of the command line that say what is not left out."""
         given = [(one.name, getattr(self, one.name)) for one in fields(self) if getattr(self, one.name) != one.default]
         return [word for name, value in given for word in (f"--{name.rstrip('_')}", str(value))]
 
@@ -59,7 +59,7 @@ class Options:
 class Connection:
     """A connection at the port: its ends, the numbers of its SYNs, and its segments.
 
-    It is `closed` at a packet where another one takes its place, or where it isn't waited for any more.
+    It is `closed` at a packet where another one takes its place, or where it is not waited for any more.
     """
 
     ends: Tuple[Tuple[str, int], Tuple[str, int]]
@@ -73,7 +73,7 @@ class Connection:
         return " ".join(f"{address}:{port}" for address, port in self.ends)
 
     def told(self, options: Options) -> Told:
-        """What is told of it where no packet follows."""
+        """Its events if no packet follows."""
         if self.answer is None:
             waiting = [one for one in self.seen if shows_answer(one)]
             return Told([], ("Lost", waiting[0].packet) if waiting else None, self.closed)
@@ -103,13 +103,13 @@ class Port:
         return connection.closed is not None or connection.told(self.options).over is not None
 
     def known(self, pair: frozenset) -> Optional[Connection]:
-        """The pair's connection, if it isn't forgotten."""
+        """The pair's connection, if it is not forgotten."""
         connection = self.latest.get(pair)
         is_old = connection and len(self.all) - connection.place > REMEMBERED
         return None if is_old and self.is_idle(connection) else connection
 
     def is_idle(self, connection: Connection) -> bool:
-        """Whether nothing is to be told of a connection any more, unless more of its packets come."""
+        """Whether a connection has no more events unless more of its packets arrive."""
         return self.is_over(connection) or connection.answer is None and not connection.told(self.options).fault
 
     def begin(self, packet: Packet, ends, number: int, old: Optional[Connection]) -> Connection:
@@ -121,7 +121,7 @@ class Port:
         return connection
 
     def take(self, packet: Packet, segment: Segment) -> bool:
-        """Takes a segment. False where it has no time and belongs to a connection that isn't over."""
+        """Takes a segment. False where it has no time and belongs to a connection that is not over."""
         pair = frozenset((segment.source, segment.target))
         if len(pair) < 2 or self.options.port not in (segment.source[1], segment.target[1]):
             self.unjudged.take(segment)
@@ -148,7 +148,7 @@ class Port:
         return True
 
     def begun_by(self, segment: Segment):
-        """The ends and the SYN's number of the connection that a segment tells, if it is a SYN."""
+        """The ends and the SYN's sequence number of the connection that a segment opens, if it is a SYN."""
         kind = segment.flags & (SYN | ACK)
         if kind == SYN and segment.target[1] == self.options.port:
             return (segment.source, segment.target), segment.number
@@ -165,7 +165,7 @@ def seen_of(packet: Packet, segment: Segment, connection: Connection) -> Seen:
 
 @dataclass
 class Outcome:
-    """What is told of a connection, and at which packet it is over: `NEVER`, where it isn't before the end."""
+    """The events of a connection, and the packet at which it is finished: `NEVER` if it is not before the end."""
 
     connection: Connection
     told: Told
@@ -178,7 +178,7 @@ class Outcome:
 
 
 class Capture:
-    """A capture file, as far as it is read: its connections, packets that are left out, and why it isn't read on."""
+    """A capture file, as far as it is read: its connections, packets that are left out, and why it is not read on."""
 
     def __init__(self, octets: bytes, options: Options):
         self.options = options
@@ -196,7 +196,7 @@ class Capture:
         self.outcomes = [outcome for outcome in map(self.outcome, port.all) if outcome]
 
     def outcome(self, connection: Connection) -> Optional[Outcome]:
-        """What is told of a connection: None where it never came up and nothing is missing."""
+        """The events of a connection: None if it was never established and nothing is missing."""
         told = connection.told(self.options)
         closed = NEVER if connection.closed is None else connection.closed
         over = min(closed, NEVER if told.over is None else told.over)
@@ -251,7 +251,7 @@ def verdict_of(outcome: Outcome, end: int, options: Options) -> str:
 
 @dataclass
 class Answer:
-    """What the command writes, and its status. `fault` is what is told on standard error."""
+    """The output of the command, and its status. `fault` is its standard error."""
 
     lines: List[str]
     fault: Optional[str]
@@ -280,13 +280,13 @@ def judge(octets: bytes, options: Options) -> Answer:
 
 
 def answer_of(lines: List[str], fault: Optional[str], capture: Capture) -> Answer:
-    """The answer where no log fails: a fault, or that something isn't judged."""
+    """The answer where no log fails: a fault, or that something is not audited."""
     fault = fault or ("NotJudged" if capture.unjudged.is_refused else None)
     return Answer(lines, fault, 2 if fault else 0)
 
 
 def of_file(capture: Capture, outcome: Outcome) -> str:
-    """How the fault of a connection is told: one that the file has, as the file's."""
+    """The error of a connection as it is written. An error of the file is written as such."""
     is_files = capture.fault and outcome.told.fault[0] == capture.fault.split()[0]
     return capture.fault if is_files else outcome.fault
 

@@ -23,7 +23,7 @@ TOO_DEEP = "Text, lists 92 to 101 deep"
 # The longest log of which it is said what each of its entries shows, in entries.
 SHORT = 12
 
-# A `t3` with capital digits, and what is said of a log that has one which is lawful.
+# A `t3` with capital digits, and what is said of a log that has one which is valid.
 CAPITAL_T3 = re.compile(rb"\d+ t3 (?=.*[A-F])[0-9A-Fa-f]{8}")
 CAPITALS = "t3 in capital digits"
 
@@ -74,7 +74,7 @@ def failings_of(audited: Audited) -> Set[str]:
 
 
 def timings_of(audited: Audited) -> Set[str]:
-    """The lawful expiries and ends past a timer, and what is lawful once the session is over."""
+    """The valid expiries and ends past a timer, and what is valid once the session is over."""
     timings = set()
     for at, entry in enumerate(audited.entries):
         if entry.event in ("t3", "cut", "down", session.DISCARDED):
@@ -87,7 +87,7 @@ def timings_of(audited: Audited) -> Set[str]:
 
 
 def closings_of(audited: Audited) -> Set[str]:
-    """What closed a transaction or left it open, as the last entry shows: it would be the answer, and is lawful, or it
+    """What closed a transaction or left it open, as the last entry shows: it would be the answer, and is valid, or it
     answers no transaction."""
     entries = audited.entries + [audited.failing] * audited.verdict.endswith("rule=NoTransaction")
     *before, last = entries or [None]
@@ -102,7 +102,7 @@ def closings_of(audited: Audited) -> Set[str]:
 
 
 def causes_of(audited: Audited) -> Set[str]:
-    """The rules for which frames were thrown away lawfully, before the session was over."""
+    """The rules for which frames were discarded by the rules, before the session was over."""
     causes = set()
     for at, entry in enumerate(audited.entries):
         if entry.event == session.DISCARDED:
@@ -112,8 +112,8 @@ def causes_of(audited: Audited) -> Set[str]:
 
 
 def depths_of(audited: Audited) -> Set[str]:
-    """Whether data was lawful whose lists are nested nearly as deep as any may be, and whether one list more broke
-    `Text`, as a frame that was thrown away or that fails."""
+    """Whether data was valid whose lists are nested nearly as deep as any may be, and whether one list more broke
+    `Text`, as a frame that was discarded or that fails."""
     if audited.settings is None or audited.settings.depth not in DEPTHS:
         return set()
     flowing = [entry.frame for entry in audited.entries if entry.flows]
@@ -134,7 +134,7 @@ def nesting_of(frame: Frame) -> int:
 
 
 def spellings_of(log: bytes, audited: Audited) -> Set[str]:
-    """Whether a lawful `t3` has its system bytes in capital digits."""
+    """Whether a valid `t3` has its system bytes in capital digits."""
     lines = session.lines_of(log)[1:audited.line - (not audited.verdict.startswith("pass"))]
     return {CAPITALS} if any(CAPITAL_T3.fullmatch(line) for line in lines) else set()
 
@@ -158,7 +158,7 @@ def ended(output: bytes, fault: Optional[Fault]) -> Answer:
 
 
 def words_of(options: Options) -> List[str]:
-    """The options that aren't as they are where they are left out."""
+    """The options that are not as they are where they are left out."""
     words = []
     for field in fields(options):
         value = getattr(options, field.name)

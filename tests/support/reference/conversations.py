@@ -35,7 +35,7 @@ TO_REACH = [
 
 @dataclass(frozen=True)
 class Told:
-    """What an end is told: the call of it, and the moment, the octets or the message that is handed in, if any."""
+    """An input of an endpoint: the call, and the time, the bytes or the message that it passes, if any."""
 
     call: str
     given: Any = None
@@ -43,8 +43,9 @@ class Told:
 
 @dataclass(frozen=True)
 class Maker:
-    """What an end is made of. The desk of equipment tells the model; the obliging one may stand in place of any, and
-    each answers what the replies of a script don't, if there is one."""
+    """What an end is made of. The message handler of equipment gives the model; the obliging one may be in place of
+    any, and each answers what the replies of a script do not, if there is one.
+    """
 
     settings: Settings
     model: bytes
@@ -53,7 +54,7 @@ class Maker:
     replies: Tuple[Message, ...] = ()
 
     def new_end(self) -> End:
-        """An end that was told nothing yet."""
+        """An endpoint before its first input."""
         desk = host_desk() if self.settings.role == "host" else equipment_desk(self.model, REVISION)
         desk = obliging_desk() if self.is_obliging else desk
         return End(self.settings, scripted_desk(self.replies, desk), self.first_system)
@@ -74,7 +75,7 @@ class Maker:
 
 
 class Party:
-    """One of the two ends, and the octets that it sent and that the other one didn't get yet."""
+    """One of the two ends, and the bytes that it sent and that the other one did not get yet."""
 
     def __init__(self, chance: Chance, role: str, link: str, replies: Tuple[Message, ...] = ()):
         timers = (chance.one(20, 60, 3600), chance.one(60, 200, 1000), chance.one(100, 1000), chance.one(50, 200, 1000))
@@ -127,7 +128,7 @@ def name_of(entry: Entry) -> str:
 
 
 class Talk:
-    """Two ends, what they are told, and the time."""
+    """Two endpoints, their inputs, and the time."""
 
     def __init__(self, chance: Chance, script: Tuple[Message, ...] = ()):
         self.chance = chance

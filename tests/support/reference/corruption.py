@@ -21,7 +21,7 @@ MAKERS = {
 }
 COMMANDS = list(ENDINGS)
 
-# Lengths and counts that lie, in octets and in words.
+# Lengths and counts that lie, in bytes and in words.
 CLAIMS = [bytes.fromhex(claim) for claim in "00 01 02 7f 80 fe ff 0000 00ff 0100 ffff 03ffffff ffffff 00ffffff".split()]
 LENGTHS = (0, 1, 9, 10, 11, 255, 256, 257, 1_048_576, 1_048_577, 33_554_432, 33_554_433, 0x7FFFFFFF, 0xFFFFFFFF)
 NUMBERS = (0, 1, 2, 9, 255, 256, 3_600_001, 16_777_216, 99_999_999, (1 << 32) - 1, 1 << 32, (1 << 64) - 1, 1 << 64)
@@ -51,7 +51,7 @@ def flip(chance: Chance, octets: bytes) -> bytes:
 
 
 def claim(chance: Chance, octets: bytes) -> bytes:
-    """Octets somewhere are another length or count."""
+    """Bytes somewhere are another length or count."""
     told = chance.choice(CLAIMS)
     at = chance.randrange(len(octets))
     return octets[:at] + told + octets[at + len(told):]
@@ -90,7 +90,7 @@ def other_digit(chance: Chance, octets: bytes) -> bytes:
 
 
 def part(chance: Chance, octets: bytes) -> Tuple[int, int]:
-    """The places where a part of some octets begins and ends."""
+    """The places where a part of some bytes begins and ends."""
     begin = chance.randrange(len(octets) + 1)
     return begin, min(len(octets), begin + chance.one(0, 1, 2, 4, 10, 14, 60, len(octets)))
 
@@ -114,7 +114,7 @@ def mix(chance: Chance, octets: bytes) -> bytes:
 
 
 def reconnect(chance: Chance, octets: bytes) -> bytes:
-    """An `up` or a `down` of a log stands twice, is left out or is the other one; or one more comes in between."""
+    """An `up` or a `down` of a log occurs twice, is left out or is the other one; or one more comes in between."""
     lines = octets.split(b"\n")
     places = [at for at, line in enumerate(lines) if line.endswith((b" up", b" down"))]
     if not places or chance.happens(0.2):
@@ -160,7 +160,7 @@ def damaged(chance: Chance, command: str) -> bytes:
 
 
 def case(seed: str, number: int) -> Case:
-    """The run of a number from 0 on: mostly of the command whose input was damaged, else of another one."""
+    """The run of a number from 0 on: mostly of the command whose input was corrupt, else of another one."""
     chance = Chance(f"{seed} damaged {number}")
     command = COMMANDS[number % len(COMMANDS)]
     given = damaged(chance, command)

@@ -56,7 +56,7 @@ def asking(link: str) -> str:
     return SENT if link == "active" else TAKEN
 
 
-# Frames that break two rules, the first of which is told. The last one of each list breaks them.
+# Frames that break two rules, the first of which is reported. The last one of each list breaks them.
 
 LONG_FRAMES: List[List[Line]] = [
     [(0, TAKEN, changed(S1F1, ptype=1))],
@@ -101,7 +101,7 @@ TWO_RULES: List[List[Line]] = [
     [(0, TAKEN, SELECT_RSP)],
 ]
 
-# The same while the session isn't selected.
+# The same while the session is not selected.
 TWO_RULES_UNSELECTED: List[List[Line]] = [
     [(0, TAKEN, changed(S1F1, text=LONG))],
     [(0, TAKEN, changed(S1F1, session=1))],
@@ -172,7 +172,7 @@ EXPIRIES: List[List[Line]] = [
     [(0, TAKEN, S1F1), (T3, "t3 00000002")],
 ]
 
-# A frame that is thrown away opens nothing and selects nothing.
+# A frame that is discarded opens nothing and selects nothing.
 THROWN_AWAY: List[List[Line]] = [
     [*selected(), (0, DISCARDED, changed(S1F1, text=NO_ITEM)), (0, TAKEN, S1F1), (0, SENT, S1F2)],
     [*selected(), (0, DISCARDED, changed(S1F1, text=NO_ITEM)), (0, SENT, S1F2)],

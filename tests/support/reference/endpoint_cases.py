@@ -30,7 +30,7 @@ NAMES += [(0, 0), (1, 0), (1, 2), (2, 26), (9, 2)]
 
 
 class Table:
-    """An end, and what it is told."""
+    """An endpoint, and its inputs."""
 
     def __init__(self, role: str, link: str, is_obliging: bool = False, first_system: int = 1):
         settings = Settings(role, link, DEVICE, T3, T6, T7, T8, MAX, 1)
@@ -59,7 +59,7 @@ class Table:
             self.hear(Draft(stype=1, system=1))
 
     def ask(self) -> int:
-        """Sends S1F1, and tells its number."""
+        """Sends S1F1, and returns its system bytes."""
         self.tell("send", Message(1, 1, True, None))
         return self.number()
 
@@ -128,7 +128,7 @@ def parts_of(things: List[str]) -> List[Tuple[str, ...]]:
 
 def tables_of_timers(role: str, link: str) -> Iterator[Table]:
     """What is waited for, and when time goes past an edge at once, or from edge to edge. The session is selected, or
-    isn't yet, or its selection was refused."""
+    is not yet, or its selection was refused."""
     waits = [(0, part) for part in parts_of(OF_A_SESSION)]
     waits += [(None, part) for part in parts_of(OF_A_LINK)]
     waits += [(1, part) for part in parts_of(OF_A_LINK) if link == "active"]
@@ -173,7 +173,7 @@ def tables_of_lengths(role: str, link: str) -> Iterator[Table]:
 
 def tables_of_sends(role: str, link: str) -> Iterator[Table]:
     """What is sent: own numbers that begin again, streams and functions at their edges, a message as long as any may be
-    and one octet longer, lists as deep as any may be and one deeper; and what comes behind a Separate. Each primary is
+    and one byte longer, lists as deep as any may be and one deeper; and what comes after a Separate. Each primary is
     answered."""
     for first_system in ((1 << 32) - 1, (1 << 31) - 1, 0):
         table = Table(role, link, first_system=first_system)

@@ -18,7 +18,7 @@ GREATEST_MOMENT = (1 << 64) - 1
 
 @dataclass(frozen=True)
 class Listed:
-    """An end, and what it is told."""
+    """An endpoint, and its inputs."""
 
     maker: Maker
     told: List[Told]
@@ -56,7 +56,7 @@ def place_of(chance: Chance, told: List[Told], *calls: str) -> int:
 
 
 def with_octets(chance: Chance, told: List[Told]) -> List[Told]:
-    """Octets that come are damaged."""
+    """Bytes that come are corrupt."""
     at = place_of(chance, told, "hear")
     octets = told[at].given
     if not isinstance(octets, bytes) or not octets:
@@ -66,7 +66,7 @@ def with_octets(chance: Chance, told: List[Told]) -> List[Told]:
 
 
 def in_two_pieces(chance: Chance, told: List[Told]) -> List[Told]:
-    """Octets come in two pieces, at one moment or with a tick between."""
+    """Bytes come in two pieces, at one time or with a tick between."""
     at = place_of(chance, told, "hear")
     octets = told[at].given
     if not isinstance(octets, bytes):
@@ -77,7 +77,7 @@ def in_two_pieces(chance: Chance, told: List[Told]) -> List[Told]:
 
 
 def in_one_piece(chance: Chance, told: List[Told]) -> List[Told]:
-    """All octets from a place on come at once."""
+    """All bytes from a place on come at once."""
     at = place_of(chance, told, "hear")
     octets = b"".join(each.given for each in told[at:] if each.call == "hear")
     return [*told[:at], Told("hear", octets), *(each for each in told[at:] if each.call != "hear")]
@@ -95,7 +95,7 @@ def at_another_moment(chance: Chance, told: List[Told]) -> List[Told]:
 
 
 def with_garbage(chance: Chance, told: List[Told]) -> List[Told]:
-    """Octets by chance come in between."""
+    """Bytes by chance come in between."""
     at = chance.randrange(len(told) + 1)
     octets = chance.octets(chance.one(1, 3, 4, 14, 60))
     return [*told[:at], Told("hear", octets), *told[at:]]
@@ -124,7 +124,7 @@ DAMAGES = [
 
 
 def damaged(seed: str, number: int) -> Listed:
-    """The list of a number from 0 on: some as they are made, the others damaged."""
+    """The list of a number from 0 on: some as they are made, the others corrupt."""
     chance = Chance(f"{seed} driven {number}")
     if chance.happens(0.03):
         return Listed(*full_endpoints.crowd(chance))
@@ -146,7 +146,7 @@ def listed(seed: str, number: int) -> Listed:
 
 
 class Answering:
-    """An end of the reference that is told a list, the lines that each call answers, and what it did."""
+    """An endpoint of the reference on a list of inputs, the lines of each call's result, and what it did."""
 
     def __init__(self, listed: Listed):
         self.maker = listed.maker

@@ -32,7 +32,7 @@ class Answer:
     item: Optional[Item] = None
 
 
-# It is asked about a primary, and told how many of its stream and function came before on the connection.
+# It gets a primary, and the number of earlier ones with its stream and function on the connection.
 Desk = Callable[[Message, int], Answer]
 
 
@@ -41,7 +41,7 @@ def list_of(*elements: Item) -> Item:
 
 
 def desk_with(identity: Item, nine: str) -> Desk:
-    """A desk that tells an identity in S1F2 and S1F14, and says this to stream 9."""
+    """A message handler that gives an identity in S1F2 and S1F14, and this for stream 9."""
 
     def answer(message: Message, _before: int) -> Answer:
         name = (message.stream, message.function)
@@ -143,7 +143,7 @@ class End:
         self.heard = 0
         self.asked: Counter = Counter()
 
-    # What it is told.
+    # Its inputs.
 
     def start(self, now: int) -> List[Entry]:
         if self.log.up is not None:
@@ -254,7 +254,7 @@ class End:
             self.ask(lambda number: frame_of(self.settings.device, 9, function, 0, number, text))
 
     def text_of(self, item: Optional[Item]) -> Optional[bytes]:
-        """The text of an item, or None where the item nests too deep, has no octets, or is too long for a frame."""
+        """The text of an item, or None where the item nests too deep, has no bytes, or is too long for a frame."""
         if item is None:
             return b""
         if nesting(item) > self.settings.depth:

@@ -13,30 +13,30 @@ from tests.support.reference.items import Fault
 from tests.support.reference.messages import Frame
 from tests.support.reference.session import DISCARDED, OTHER_DIRECTION, SENT, TAKEN, Before, Entry, Settings, Unreadable
 
-# The deepest nesting that is told in notation.
+# The deepest nesting that is written in notation.
 DEEPEST = 100
 
-# How many requests of each direction, and how many of their closings, are known where it is told what was expected.
+# How many requests of each direction, and how many of their closings, are known for a hint.
 KEPT = 256
 
-# How many failures that are alike are told whole, and of how many groups it is known what they have in common.
+# How many failures that are alike are written in full, and of how many groups it is known what they have in common.
 TOLD_WHOLE = 3
 GROUPS = 256
 
-# How many kinds of primaries are told of apart.
+# The number of kinds of primaries that are distinguished.
 KINDS = 64
 
-# What is told in place of lines that are left out.
+# The text in place of skipped lines.
 DOTS = b"       ..\n"
 
-# The first moment of 1970, and the last one that is told as a date, in ms since then.
+# The first time of 1970, and the last one that is written as a date, in ms since then.
 EPOCH = datetime(1970, 1, 1, tzinfo=timezone.utc)
 LAST_DATE = 253402207200999
 
 # The line that words of what was expected name.
 LINE_NAMED = re.compile(r"\bline (\d+)")
 
-# What is told of a line in JSON, or of something else.
+# A JSON object, of a line or of something else.
 Object = Dict[str, Any]
 
 SENTENCES = {
@@ -102,7 +102,7 @@ Sort = Tuple[object, ...]
 
 
 def sort_of(entry: Entry, rule: str) -> Sort:
-    """The rule, and what fails: of a frame its direction, whether it was thrown away, its session ID and its kind, of
+    """The rule, and what fails: of a frame its direction, whether it was discarded, its session ID and its kind, of
     data with stream, function and W."""
     frame = entry.frame
     if frame is None:
@@ -111,7 +111,7 @@ def sort_of(entry: Entry, rule: str) -> Sort:
     return (rule, entry.event, frame.session, frame.kind, *detail)
 
 
-# What is done about a failure: the entry that stands in place of the failing one, and one that is put before it.
+# What is done about a failure: the entry that is in place of the failing one, and one that is put before it.
 Remedy = Tuple[Optional[Entry], Optional[Entry]]
 
 
@@ -156,14 +156,14 @@ def remedy_words(entry: Entry, remedy: Remedy, is_utc: bool) -> str:
 
 
 class Note:
-    """What is told below a line, in words and in JSON; of a failure also its rule, and what is alike in such failures."""
+    """An annotation below a line, as text and as JSON; for a failure also its rule and its group."""
 
     def __init__(self, words: str, members: Object, rule: Optional[str] = None, sort: Sort = ()):
         self.words, self.members, self.rule, self.sort = [below(words)], members, rule, sort
 
 
 def unreadable(why: reasons.Why) -> Note:
-    """What is told below a line that can't be read."""
+    """The annotations below an unreadable line."""
     sentence = SENTENCES["unreadable"]
     members = {"column": why.column, "reason": why.reason, "expected": why.form}
     note = Note(f"FAIL unreadable: {sentence}", {"rule": "unreadable", "sentence": sentence, **members}, "unreadable", ("unreadable",))
@@ -172,7 +172,7 @@ def unreadable(why: reasons.Why) -> Note:
 
 
 class Alike:
-    """Failures of a line one behind another that are told by the same line."""
+    """Consecutive failures of one line that one line reports."""
 
     def __init__(self, rule: str, line: int):
         self.rule, self.line, self.times = rule, line, 1
@@ -188,8 +188,9 @@ class Alike:
 
 
 def visible(line: bytes) -> bytes:
-    """A line of the log with `\\x1b` in place of a control character, for each octet of it: of C0, 7F, of C1 in UTF-8, and
-    an octet from 80 to 9F that is not part of UTF-8."""
+    """A line of the log with `\\x1b` in place of a control character, for each byte of it: of C0, 7F, of C1 in UTF-8,
+    and a byte from 80 to 9F that is not part of UTF-8.
+    """
 
     def written(character: str) -> bytes:
         octets = character.encode(errors="surrogateescape")
@@ -200,7 +201,7 @@ def visible(line: bytes) -> bytes:
 
 
 class Line:
-    """A line of the log: its number, what it says, in words and in JSON, and what is told below it."""
+    """A line of the log: its number, its explanation as text and as JSON, and the annotations below it."""
 
     def __init__(self, number: int, entry: Optional[Entry], said: bytes, is_utc: bool):
         date = date_of(entry.time) if entry and is_utc else None
@@ -247,7 +248,7 @@ def members_of(entry: Entry) -> Object:
 
 
 class Rest(NamedTuple):
-    """How many failures of a group aren't told whole, the line of the first of the group, and that of the last."""
+    """How many failures of a group are not written in full, the line of the first of the group, and that of the last."""
 
     rule: str
     count: int
@@ -276,7 +277,7 @@ class Groups:
         self.groups: Dict[Sort, Group] = {}
 
     def like(self, note: Note, number: int) -> Optional[int]:
-        """The line of the first failure that is like this one, where it isn't told whole."""
+        """The line of the first failure that is like this one, where it is not written in full."""
         if note.sort not in self.groups and len(self.groups) == GROUPS:
             return None
         lines = self.groups.setdefault(note.sort, Group(note.rule)).lines
@@ -284,7 +285,7 @@ class Groups:
         return lines[0] if len(lines) > TOLD_WHOLE else None
 
     def told(self, line: Line) -> List[Union[Note, Alike]]:
-        """What is told below a line."""
+        """The annotations below a line."""
         told: List[Union[Note, Alike]] = []
         for note in line.notes:
             like = self.like(note, line.number) if note.rule else None
@@ -313,15 +314,15 @@ class Gap(NamedTuple):
 
 
 class Told(NamedTuple):
-    """A line that is told, and what is told below it."""
+    """An explained line, and the annotations below it."""
 
     line: Line
     notes: List[Union[Note, Alike]]
 
 
 class Excerpt(NamedTuple):
-    """Which lines are told, with `around` those that fail, with so many before and behind them; and whether their times
-    are told as dates."""
+    """The filter of lines, with `around` those that fail, with that many before and after them; and whether their times
+    are written as dates."""
 
     around: Optional[int] = None
     first: int = 1
@@ -338,8 +339,9 @@ class Excerpt(NamedTuple):
         return number >= self.first and (self.last is None or number <= self.last)
 
     def shown(self, lines: List[Line]) -> Tuple[List[Union[Told, Gap]], List[Rest]]:
-        """The lines that are told, with the gaps between them, before and behind them, and the failures that aren't told
-        whole."""
+        """The lines that are written, with the gaps between them, before and after them, and the failures that are not
+        written whole.
+        """
         groups = Groups()
         within = {line.number: Told(line, groups.told(line)) for line in lines if self.has(line.number)}
         numbers = set(within)
@@ -358,7 +360,7 @@ WHOLE = Excerpt()
 
 
 class Telling:
-    """The log as it is gone on with, each entry with the number of its line, and what is told."""
+    """The log as it is repaired, each entry with the number of its line, and the explanation."""
 
     def __init__(self, settings: Settings, is_utc: bool):
         self.settings, self.is_utc = settings, is_utc
@@ -448,7 +450,7 @@ class Telling:
         return list(range(count - len(session.connection_of(self.entries)), count))
 
     def requests(self, direction: str) -> List[int]:
-        """The positions of the last requests of a direction on the connection, also of such as were thrown away."""
+        """The positions of the last requests of a direction on the connection, also of such as were discarded."""
         events = (TAKEN, DISCARDED) if direction == TAKEN else (SENT,)
         kinds = ("primary", "select.req", "linktest.req")
         entries = self.entries
@@ -572,7 +574,7 @@ def times_of(times: List[Tuple[int, int]]) -> Object:
     ranked = sorted(time for time, _ in times)
     least, greatest = ranked[0], ranked[-1]
     line = max(line for time, line in times if time == greatest)
-    # The least times that half of the replies, and 99 of 100, don't exceed.
+    # The least times that half of the replies, and 99 of 100, do not exceed.
     median, most = (max(least, rounded(ranked[-(-len(ranked) * share // 100) - 1])) for share in (50, 99))
     if len(ranked) < 100:
         most = greatest
@@ -596,13 +598,13 @@ def rounded(time: int) -> int:
 
 
 class Explained(NamedTuple):
-    """All that is told of a log but the verdict."""
+    """The explanation of a log without the verdict."""
 
     shown: List[Union[Told, Gap]]
-    # Why nothing was judged, if so.
+    # Why nothing was audited, if so.
     unjudged: Optional[str]
     rests: List[Rest]
-    # Nothing of these where line 1 can't be read.
+    # Nothing of these where line 1 cannot be read.
     failures: Optional[Dict[str, int]]
     outcomes: List[Object]
 
@@ -629,7 +631,7 @@ class Explained(NamedTuple):
 
 
 def unjudged(lines: List[bytes], excerpt: Excerpt) -> Explained:
-    """What is told of the lines of a log whose first one can't be read."""
+    """The explanation of a log whose first line cannot be read."""
     limit = session.LONGEST_FIRST_LINE
     told = [Line(number, None, line[:limit], excerpt.is_utc) for number, line in enumerate(lines, 1)]
     for line, octets in list(zip(told, lines))[:1]:
@@ -661,7 +663,7 @@ def verdict_object(words: str) -> Object:
 
 
 class Answer(NamedTuple):
-    """All that is told of a log: as text, as the objects of JSON, and as text with control characters as they are."""
+    """The explanation of a log: as text, as the objects of JSON, and as text with control characters as they are."""
 
     text: bytes
     objects: List[Object]

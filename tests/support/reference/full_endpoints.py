@@ -47,7 +47,7 @@ def is_too_long(message: Message, settings: Settings) -> bool:
 
 
 def item_of(depth: int, length: int) -> Item:
-    """A binary item of so many octets, in so many lists."""
+    """A binary item of the given number of bytes, in the given number of lists."""
     item = Item(BY_NAME["B"], bytes(length))
     for _ in range(depth):
         item = Item(BY_NAME["L"], [item])
@@ -72,7 +72,7 @@ def selecting(settings: Settings, first_system: int) -> Told:
 
 
 def crowd(chance: Chance) -> Tuple[Maker, List[Told]]:
-    """An end that opens as many transactions as it may, selected or not, and what it is told before, then and after."""
+    """An end that opens as many transactions as it may, selected or not, and its inputs before, then and after."""
     limits = (256, chance.one(1, 2, 4))
     role, link = chance.one("host", "equipment"), chance.one("active", "passive")
     settings = Settings(role, link, chance.one(0, 7), 45_000, 6000, 10_000, 5000, *limits)

@@ -62,7 +62,7 @@ class Tested:
                 self.answer()
 
     def answer(self):
-        """The peer answers a test, or doesn't."""
+        """The peer answers a test, or does not."""
         if self.chance.happens(0.8):
             asked = self.end.log.sent_control[-1]
             self.come(asked.time + self.chance.one(0, 3), control(6, asked.frame.system))
@@ -93,7 +93,7 @@ def shifted(line: str, by: int) -> str:
 
 
 def moved(chance: Chance, lines: List[str]) -> List[str]:
-    """The lines, of which one test and what follows it come so much sooner or later; or the test stands there twice."""
+    """The lines, of which one test and what follows it come so much sooner or later; or the test is there twice."""
     tests = [at for at, line in enumerate(lines) if " > ffff00000005" in line]
     if not tests:
         return lines
@@ -102,7 +102,7 @@ def moved(chance: Chance, lines: List[str]) -> List[str]:
 
 
 def paused(number: int) -> Paused:
-    """The log of this number: as an end wrote it, or with a test at another moment."""
+    """The log of this number: as an end wrote it, or with a test at another time."""
     chance = Chance(f"1 pause {number}")
     tested = Tested(chance)
     lines = tested.talk()

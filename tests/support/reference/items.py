@@ -14,13 +14,13 @@ class Fault(Exception):
         self.numbers = numbers
 
     def words(self) -> str:
-        """The fault as the command tells it behind `hsms: ` (this project's own form)."""
+        """The error as the command writes it after `hsms: ` (this project's own form)."""
         return "".join([self.name, *(f" {name}={number}" for name, number in self.numbers.items())])
 
 
 @dataclass(frozen=True)
 class Format:
-    """A format (SEMI E5): its name, its code (bits 8 to 3 of the format octet), the octets of a value (0 of a list)."""
+    """A format (SEMI E5): its name, its code (bits 8 to 3 of the format byte), the bytes of a value (0 of a list)."""
 
     name: str
     code: int
@@ -85,7 +85,8 @@ class Item:
 def header_at(octets: bytes, place: int, depth: int) -> Tuple[Format, int, int]:
     """The format, the place of the body and its length (of a list the count of elements) of the item at a place.
 
-    A faulty header is told by its first fault in the order of this project's table; its place is that of the header.
+    A faulty header is reported by its first error in the order of this project's table; its place is that of the
+    header.
     """
     if place >= len(octets):
         raise Fault("Truncated", at=place)
@@ -109,7 +110,7 @@ def header_at(octets: bytes, place: int, depth: int) -> Tuple[Format, int, int]:
 
 
 def item_at(octets: bytes, place: int, depth: int) -> Tuple[Item, int]:
-    """The item at a place, its lists nested within the depth, and the place behind it."""
+    """The item at a place, its lists nested within the depth, and the place after it."""
     form, place, length = header_at(octets, place, depth)
     if not form.is_list:
         return Item(form, values_of(form, octets[place:place + length])), place + length
@@ -121,7 +122,7 @@ def item_at(octets: bytes, place: int, depth: int) -> Tuple[Item, int]:
 
 
 def values_of(form: Format, body: bytes) -> Any:
-    """The values of a body (SEMI E5): the most significant octet first, signed numbers in two's complement."""
+    """The values of a body (SEMI E5): the most significant byte first, signed numbers in two's complement."""
     if form.holds_octets:
         return body
     parts = [body[start:start + form.width] for start in range(0, len(body), form.width)]
@@ -152,7 +153,7 @@ def fault_of_text(octets: bytes, depth: int) -> Optional[str]:
 
 
 def body_of(item: Item) -> bytes:
-    """The octets of an item's values. True is written as 01."""
+    """The bytes of an item's values. True is written as 01."""
     if item.form.is_list:
         return b"".join(encode(element) for element in item.values)
     if item.form.holds_octets:
@@ -166,7 +167,7 @@ def body_of(item: Item) -> bytes:
 
 
 def encode(item: Item) -> bytes:
-    """The shortest spelling of an item: the fewest length octets in each header."""
+    """The shortest spelling of an item: the fewest length bytes in each header."""
     body = body_of(item)
     length = len(item.values) if item.form.is_list else len(body)
     if length > GREATEST_LENGTH:

@@ -12,7 +12,7 @@ LATE = 100
 
 
 class Amiss(Exception):
-    """What a log tells isn't what has to be."""
+    """A log differs from what has to be in it."""
 
 
 def told_again(end: End, time: int, event: str, pause: int):
@@ -34,7 +34,7 @@ def told_again(end: End, time: int, event: str, pause: int):
 
 
 def log_again(lines: List[str], given: Settings, desk: Desk, pause: int) -> List[str]:
-    """The lines that an end writes which is told what these came of."""
+    """The lines that an endpoint writes on the inputs of these lines."""
     end = End(given, desk, 1)
     end.start(int(lines[1].split(" ")[0]))
     while len(end.log.entries) < len(lines) - 1:

@@ -9,14 +9,14 @@ from tests.support.reference.items import Fault
 HEADER = 10
 GREATEST_INPUT = 67_108_864
 
-# Octets in digits, with blanks before, between and behind them.
+# Bytes in digits, with blanks before, between and after them.
 OCTETS = re.compile(rb"[ \t]*(?:[0-9A-Fa-f]{2}[ \t]*)*")
 
 CONTROL_KINDS = {1: "select.req", 2: "select.rsp", 5: "linktest.req", 6: "linktest.rsp", 7: "reject", 9: "separate"}
 
 
 class Frame:
-    """A message without its length octets: the fields of its header, and its text."""
+    """A message without its length bytes: the fields of its header, and its text."""
 
     def __init__(self, octets: bytes):
         self.octets = octets
@@ -53,7 +53,7 @@ class Frame:
 
 
 def frame_at(octets: bytes, place: int, greatest: int) -> Tuple[Frame, int]:
-    """The message at a place before the end, and the place behind it. Its faults are those of a stream of octets."""
+    """The message at a place before the end, and the place after it. Its faults are those of a stream of bytes."""
     rest = len(octets) - place
     length = int.from_bytes(octets[place:place + 4], "big")
     if rest >= 4 and length < HEADER:
@@ -67,7 +67,7 @@ def frame_at(octets: bytes, place: int, greatest: int) -> Tuple[Frame, int]:
 
 
 def frames_of(octets: bytes, greatest: int) -> Tuple[List[Frame], Optional[Fault]]:
-    """The messages of a stream of octets up to its end or its first fault, and that fault."""
+    """The messages of a stream of bytes up to its end or its first fault, and that fault."""
     frames, place = [], 0
     while place < len(octets):
         try:
@@ -89,7 +89,7 @@ def shown(frame: Frame, depth: int) -> str:
 
 
 def shown_data(frame: Frame, depth: int) -> str:
-    """A data message in notation, or where its text isn't readable, with the text in hexadecimal."""
+    """A data message in notation, or where its text is not readable, with the text in hexadecimal."""
     try:
         item = items.decode_text(frame.text, depth)
     except Fault:
@@ -124,7 +124,7 @@ class Options:
 
 
 def frame_of_line(line: bytes, number: int, options: Options) -> Optional[Frame]:
-    """The message of a line of hexadecimal with this number, or None where the line has no octet."""
+    """The message of a line of hexadecimal with this number, or None where the line has no byte."""
     if len(line) > 4 * options.max + 64:
         raise Fault("NoMessage", line=number)
     digits = line[:-1] if line.endswith(b"\r") else line
@@ -158,14 +158,14 @@ def frames_given(given: bytes, options: Options) -> Tuple[List[Frame], Optional[
 
 
 def show(given: bytes, options: Options) -> Tuple[bytes, Optional[Fault]]:
-    """What `hsms show` writes of what it is given, and the fault that it tells."""
+    """The output of `hsms show` for an input, and its error."""
     frames, fault = frames_given(given, options)
     lines = [shown(frame, options.depth) + "\n" for frame in frames]
     return "".join(lines).encode(), fault
 
 
 def encode(text: bytes, options: Options) -> Tuple[bytes, Optional[Fault]]:
-    """What `hsms encode` writes of messages in notation, and the fault that it tells. With one it writes nothing."""
+    """The output of `hsms encode` for messages in notation, and its error. With an error there is no output."""
     try:
         if len(text) > GREATEST_INPUT:
             raise Fault("Input")
@@ -179,7 +179,7 @@ def encode(text: bytes, options: Options) -> Tuple[bytes, Optional[Fault]]:
 
 
 def encoded(message: notation.Message, number: int, options: Options) -> bytes:
-    """The octets of the message of a number from 0 on. System bytes are counted up; 0 follows ffffffff."""
+    """The bytes of the message of a number from 0 on. System bytes are counted up; 0 follows ffffffff."""
     text = items.encode(message.item) if message.item else b""
     length = HEADER + len(text)
     if length > options.max:

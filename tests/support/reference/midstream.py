@@ -15,10 +15,10 @@ from tests.support.reference.tcp import ACTIVE, FARTHEST, LATER, PASSIVE, Seen, 
 
 MODULUS = 1 << 32
 
-# How far an octet may be from the first number that is known of its direction.
+# How far a byte may be from the first number that is known of its direction.
 REACH = 1 << 25
 
-# So many octets say whose a message is, and so many messages one behind another are looked at.
+# The number of bytes that show whose a message is, and the number of consecutive messages that are checked.
 FRONT = 14
 LOOKED_AT = 3
 
@@ -33,7 +33,7 @@ ASKS = {"reply": "data", "select.rsp": "select.req", "linktest.rsp": "linktest.r
 
 
 def is_of(frame: Frame, length: int, options: Options) -> bool:
-    """Whether a message of the session may have this header, and so many octets of header and text."""
+    """Whether a message of the session may have this header, and that many bytes of header and text."""
     if frame.is_data:
         return frame.session == options.device
     is_bare = length == HEADER and frame.kind in CONTROL_KINDS.values()
@@ -41,7 +41,7 @@ def is_of(frame: Frame, length: int, options: Options) -> bool:
 
 
 def size_at(octets: bytes, place: int, options: Options) -> Optional[int]:
-    """How many octets the message at a place has: 0 where it isn't there whole, None where something else stands."""
+    """How many bytes the message at a place has: 0 where it is not there whole, None where something else is."""
     if len(octets) - place < FRONT:
         return 0
     length = int.from_bytes(octets[place:place + 4], "big")
@@ -54,7 +54,7 @@ def size_at(octets: bytes, place: int, options: Options) -> Optional[int]:
 
 
 def row(octets: bytes, place: int, options: Options) -> Optional[int]:
-    """How many messages stand whole one behind another, three at most; None where something else is among them."""
+    """How many messages are whole one after another, three at most; None where something else is among them."""
     for count in range(LOOKED_AT):
         size = size_at(octets, place, options)
         if not size:
@@ -64,7 +64,7 @@ def row(octets: bytes, place: int, options: Options) -> Optional[int]:
 
 
 def begins_at(octets: bytes, options: Options) -> Optional[int]:
-    """The first place of octets, behind which none follow, from which on whole messages are read."""
+    """The first place of bytes, after which none follow, from which on whole messages are read."""
     return next((place for place in range(len(octets)) if row(octets, place, options)), None)
 
 
@@ -73,7 +73,7 @@ def away(number: int, first: int) -> int:
 
 
 def octets_by_place(seen: List[Seen], end: int, first: int) -> Dict[int, int]:
-    """The octets of a direction by their places, of which the first copy counts. One that only asks is none, and a RST
+    """The bytes of a direction by their places, of which the first copy counts. One that only asks is none, and a RST
     has none."""
     found, acknowledged = {}, 0
     for one in seen:
@@ -90,8 +90,9 @@ def octets_by_place(seen: List[Seen], end: int, first: int) -> Dict[int, int]:
 
 
 def first_number(seen: List[Seen], end: int) -> int:
-    """The first number that is known of a direction: that of its first packet or of the first ACK of it, whichever comes
-    later."""
+    """The first number that is known of a direction: that of its first packet or of the first ACK of it, whichever
+    comes later.
+    """
     own = next((one.number for one in seen if one.end == end), None)
     acknowledged = next((one.acknowledged for one in seen if one.end != end and one.acknowledged is not None), None)
     if own is None or acknowledged is None:
@@ -100,9 +101,9 @@ def first_number(seen: List[Seen], end: int) -> int:
 
 
 def beginning(seen: List[Seen], end: int, options: Options) -> Tuple[int, bool]:
-    """The number of the octet at which a direction begins, and whether three messages stand there. Where none begins a
-    message it is that behind the last octet, or the first one that is known, whichever comes later. Octets before the
-    first number that is known don't count where one is missing behind them: it was sent before the capture."""
+    """The number of the byte at which a direction begins, and whether three messages are there. Where none begins a
+    message it is that after the last byte, or the first one that is known, whichever comes later. Bytes before the
+    first number that is known do not count where one is missing after them: it was sent before the capture."""
     first = first_number(seen, end)
     octets = octets_by_place(seen, end, first)
     low = REACH
@@ -122,7 +123,7 @@ def beginning(seen: List[Seen], end: int, options: Options) -> Tuple[int, bool]:
 
 
 def beginnings(seen: List[Seen], options: Options) -> Tuple[List[int], List[Seen]]:
-    """The numbers at which both directions begin, by the packets that are kept, and these packets if one isn't sure."""
+    """The numbers at which both directions begin, by the packets that are kept, and these packets if one is not sure."""
     count = octets = 0
     for count, one in enumerate(seen, 1):
         octets += len(one.data)
@@ -140,7 +141,7 @@ def beginnings(seen: List[Seen], options: Options) -> Tuple[List[int], List[Seen
 
 @dataclass
 class Line:
-    """An entry of a log, or a response that is left out of it. `packet` is 0 where it is supposed."""
+    """An entry of a log, or a response that is left out of it. `packet` is 0 where it is assumed."""
 
     packet: int
     time: int
@@ -151,11 +152,11 @@ class Line:
 
 @dataclass
 class Told:
-    """What is told of a connection, and the fault with the packet that is named for it."""
+    """The events of a connection, and the error with its packet."""
 
     lines: List[Line] = field(default_factory=list)
     fault: Optional[Tuple[str, int]] = None
-    given_up: List[bytes] = field(default_factory=list)  # what the packets bring that are kept, if a beginning isn't sure
+    given_up: List[bytes] = field(default_factory=list)  # what the packets bring that are kept, if a beginning is not sure
 
     @property
     def missing(self) -> Optional[int]:
@@ -163,7 +164,7 @@ class Told:
 
 
 def behind(one: Seen, begins: List[int]) -> Seen:
-    """The part of a segment that stands from the beginning on."""
+    """The part of a segment that is from the beginning on."""
     begin = begins[one.end]
     place = away(one.number, begin)
     has_fin = one.has_fin and away(one.number + len(one.data), begin) >= 0
@@ -187,7 +188,7 @@ def both_have_begun(seen: List[Seen], begins: List[int]) -> Optional[int]:
 
 
 def told_of(seen: List[Seen], options: Options) -> Told:
-    """What is told of a connection that was up before the capture, where these are all of its segments."""
+    """The events of a connection that was up before the capture and has these segments."""
     seen = list(dropwhile(lambda one: one.is_reset, seen))
     begins, kept = beginnings(seen, options)
     return replace(told_from(seen, begins, options), given_up=[one.data for one in kept])
@@ -220,7 +221,7 @@ def told_from(seen: List[Seen], begins: List[int], options: Options) -> Told:
     return Told(supposed(messages, begun, options), told.fault)
 
 
-# What stands before.
+# What is before.
 
 
 def is_asked(frame: Frame, said: List[Frame]) -> bool:
@@ -235,7 +236,7 @@ def asks(frame: Frame) -> Optional[str]:
 
 
 def decided_by(frame: Frame, said: List[Frame]) -> Optional[Tuple[str, Optional[int]]]:
-    """What a message says of what stood before, if it decides that, and the system bytes of what it answers."""
+    """What a message says of what was before, if it decides that, and the system bytes of what it answers."""
     if frame.is_data or frame.kind == "select.rsp" and frame.byte3 == 1:
         return "selected", None
     if frame.kind == "select.rsp":
@@ -244,7 +245,7 @@ def decided_by(frame: Frame, said: List[Frame]) -> Optional[Tuple[str, Optional[
 
 
 def first_decision(lines: List[Line]) -> Tuple[str, Optional[int], int]:
-    """What stood before, by the first message that decides it, and who sent what is supposed: selected, if none."""
+    """What was before, by the first message that decides it, and who sent what is assumed: selected, if none."""
     said: Tuple[List[Frame], List[Frame]] = ([], [])
     for line in lines[:LATER + 1]:
         if line.what == "message":
@@ -261,8 +262,8 @@ def control(stype: int, system: str) -> bytes:
 
 
 def supposed(lines: List[Line], begun: int, options: Options) -> List[Line]:
-    """The lines of a log: what is supposed, and what was captured, but for responses to what stood before. None where no
-    message is told."""
+    """The lines of a log: what is assumed, and what was captured, but for responses to what was before. None where no
+    message is written."""
     if not any(line.what == "message" for line in lines):
         return []
     what, system, end = first_decision(lines)
@@ -280,7 +281,7 @@ def supposed(lines: List[Line], begun: int, options: Options) -> List[Line]:
             if frame.kind in ASKS and not is_asked(frame, said[1 - line.end]) and line.time - begun <= options.t3:
                 line = replace(line, what="left out")
             said[line.end].append(frame)
-        if line.what == "down":  # one whose time isn't known has that of the line before
+        if line.what == "down":  # one whose time is not known has that of the line before
             line = replace(line, time=max(line.time, *(one.time for one in found if one.what != "left out")))
         found.append(line)
     return found if any(line.what == "message" and line.packet for line in found) else []

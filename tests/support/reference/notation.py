@@ -25,7 +25,7 @@ class Message:
 
 
 class Token(NamedTuple):
-    """A token: `word`, `quoted`, `mark`, the `end` of the text, or what is `broken` and may stand nowhere."""
+    """A token: `word`, `quoted`, `mark`, the `end` of the text, or what is `broken` and may be nowhere."""
 
     kind: str
     place: int
@@ -47,7 +47,7 @@ def tokens(text: bytes) -> Iterator[Token]:
 
 
 def token_at(text: bytes, place: int) -> Tuple[Token, int]:
-    """The token that begins at a place, and the place behind it."""
+    """The token that begins at a place, and the place after it."""
     word = WORD.match(text, place)
     if word:
         return Token("word", place, word[0]), word.end()
@@ -71,7 +71,7 @@ def number_below(word: bytes, bound: int) -> Optional[int]:
 
 
 def signed_number(word: bytes, bits: int) -> Optional[int]:
-    """The number in the range of a signed type that a word is. `-` stands only before a number other than 0."""
+    """The number in the range of a signed type that a word is. `-` is only before a number other than 0."""
     if not word.startswith(b"-"):
         return number_below(word, 1 << (bits - 1))
     number = number_below(word[1:], (1 << (bits - 1)) + 1)
@@ -79,7 +79,7 @@ def signed_number(word: bytes, bits: int) -> Optional[int]:
 
 
 def value_of(form: Format, word: bytes) -> Any:
-    """The value of a type that a word is, or None. Words of B, J, C2 and A are an octet each."""
+    """The value of a type that a word is, or None. Words of B, J, C2 and A are a byte each."""
     if form.is_unsigned:
         return number_below(word, 1 << (8 * form.width))
     if form.is_signed:
@@ -93,7 +93,7 @@ def value_of(form: Format, word: bytes) -> Any:
 
 
 class Reader:
-    """Reads messages token by token. The first token that may not stand where it does is the fault."""
+    """Reads messages token by token. The first token that may not occur where it does is the error."""
 
     def __init__(self, text: bytes, depth: int):
         self.depth = depth
@@ -162,7 +162,7 @@ class Reader:
         return Item(form, values)
 
     def count(self) -> Tuple[Optional[Token], Optional[int]]:
-        """The opening bracket and the number behind it, where they are written."""
+        """The opening bracket and the number after it, where they are written."""
         if not self.is_mark(b"["):
             return None, None
         bracket = self.take()
@@ -182,7 +182,7 @@ class Reader:
         return elements
 
     def values(self, form: Format) -> Any:
-        """The values of an item that is no list. Quoted texts stand in A alone."""
+        """The values of an item that is no list. Quoted texts are in A alone."""
         values = []
         while self.token.kind == "word" or self.token.kind == "quoted" and form.name == "A":
             value = self.token.octets if self.token.kind == "quoted" else value_of(form, self.token.octets)
@@ -224,5 +224,5 @@ def printed_values(item: Item) -> List[str]:
 
 
 def printed_run(run: bytes) -> str:
-    """A longest run of octets that may be quoted, or one that may not."""
+    """A longest run of bytes that may be quoted, or one that may not."""
     return f'"{run.decode()}"' if QUOTABLE.fullmatch(run) else f"0x{run[0]:02X}"

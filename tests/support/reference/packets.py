@@ -3,10 +3,10 @@ import struct
 from dataclasses import dataclass, field
 from typing import List, Optional, Tuple, Union
 
-# No record or block is longer, in octets.
+# No record or block is longer, in bytes.
 LONGEST = 1 << 24
 
-# Byte order and how many parts of a second are a millisecond, by the first octets of a file of pcap.
+# Byte order and how many parts of a second are a millisecond, by the first bytes of a file of pcap.
 PCAP = {
     b"\xd4\xc3\xb2\xa1": ("<", 1000),
     b"\xa1\xb2\xc3\xd4": (">", 1000),
@@ -20,7 +20,7 @@ CUSTOM = (0xBAD, 0x40000BAD)
 
 FIN, SYN, RST, PSH, ACK = 1, 2, 4, 8, 16
 
-# Why a packet is left out that may carry a segment, in the order in which they are told.
+# Why a packet is left out that may carry a segment, in the order of the output.
 KINDS = ["link", "short", "fragment", "cut", "header"]
 
 
@@ -35,12 +35,12 @@ class Packet:
 
 
 class Stopped(Exception):
-    """Why a file isn't read on, as the command tells it."""
+    """Why a file is not read on, as the command writes it."""
 
 
 @dataclass
 class File:
-    """What was read of a capture file: its packets, how many it counts, and why it isn't read on."""
+    """What was read of a capture file: its packets, how many it counts, and why it is not read on."""
 
     packets: List[Packet] = field(default_factory=list)
     count: int = 0
@@ -97,7 +97,7 @@ class Interface:
     offset: int = 0
 
     def time(self, ticks: int) -> int:
-        """The milliseconds of so many ticks. A time before 1970 is 0."""
+        """The milliseconds of that many ticks. A time before 1970 is 0."""
         return max(0, ticks * 1000 // self.ticks_of_second() + self.offset * 1000)
 
     def ticks_of_second(self) -> Optional[int]:
@@ -204,7 +204,7 @@ class Segment:
 
 
 class LeftOut(Exception):
-    """Why a packet isn't read that may carry a segment: one of the kinds."""
+    """Why a packet is not read that may carry a segment: one of the kinds."""
 
 
 def segment_of(packet: Packet) -> Union[Segment, str, None]:
@@ -226,7 +226,7 @@ def need(octets: bytes, size: int):
 
 def at_link(packet: Packet) -> Optional[Segment]:
     octets = packet.octets
-    headers = {1: (14, 12), 113: (16, 14), 276: (20, 0)}  # size, and where the protocol stands
+    headers = {1: (14, 12), 113: (16, 14), 276: (20, 0)}  # size, and where the protocol is
     if packet.link in headers:
         size, place = headers[packet.link]
         need(octets, size)

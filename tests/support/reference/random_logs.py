@@ -13,7 +13,7 @@ CAUSES = ("t6", "t7", "t8", "length")
 
 
 def nested_lists(depth: int) -> bytes:
-    """An empty list within others, so many in all."""
+    """An empty list within others, that many in all."""
     return b"\x01\x01" * (depth - 1) + b"\x01\x00"
 
 
@@ -29,7 +29,7 @@ class Request:
 class Walk:
     """A log that is written entry by entry, mostly as two ends would that keep the rules.
 
-    What it knows of the session is only for finding entries that are lawful, or nearly so.
+    What it knows of the session is only for finding entries that are valid, or nearly so.
     """
 
     def __init__(self, chance: Chance):
@@ -60,7 +60,7 @@ class Walk:
         self.lines.append(f"{self.time} {words}")
 
     def digits(self, octets: bytes) -> str:
-        """Octets in hexadecimal digits, sometimes in capital ones."""
+        """Bytes in hexadecimal digits, sometimes in capital ones."""
         return self.chance.choice([octets.hex()] * 9 + [octets.hex().upper()])
 
     def expiry_of(self, system: int) -> str:
@@ -144,7 +144,7 @@ class Walk:
         return direction, Draft(session, 0, self.chance.one(1, 2, 3, 4, 9), stype=7, system=request.draft.system)
 
     def next_frame(self) -> Tuple[str, Draft]:
-        """A frame that is lawful here."""
+        """A frame that is valid here."""
         kind = self.chance.random()
         if self.requests and kind < 0.45:
             return self.answer(self.chance.choice(self.requests))
@@ -198,7 +198,7 @@ class Walk:
             self.move(*self.answer(self.requests[0]))
 
     def step(self):
-        """An entry that is lawful, and expiries before it."""
+        """An entry that is valid, and expiries before it."""
         self.wait()
         if self.is_over or self.chance.happens(0.15):
             self.discard()
@@ -206,7 +206,7 @@ class Walk:
             self.move(*self.next_frame())
 
     def discard(self):
-        """A frame is thrown away, mostly for a cause, and nothing comes of it."""
+        """A frame is discarded, mostly for a cause, and nothing comes of it."""
         bare = Draft(byte3=self.chance.one(0, 1), stype=self.chance.one(2, 6, 7, 9), system=self.any_system())
         draft = bare if self.chance.happens(0.3) else self.next_frame()[1]
         if not self.is_over and self.chance.happens(0.2):
@@ -338,7 +338,7 @@ class Walk:
         self.move(self.chance.one(direction, direction, direction, DISCARDED), draft)
 
     def any_frame(self) -> Tuple[str, Draft]:
-        """A frame of any kind, which may be lawful here or not."""
+        """A frame of any kind, which may be valid here or not."""
         system = self.any_system()
         control = (self.own(self.link == "passive"), Draft(stype=self.chance.one(2, 2, 6, 7, 9), system=system))
         stream_nine = (self.own(self.role == "equipment"), Draft(self.device, 9, 1, system=system))
@@ -517,7 +517,7 @@ ODD_LINE_WORDS = [
 
 
 def odd_line(chance: Chance, line: bytes) -> bytes:
-    """A line of which a word, a space or an octet was changed."""
+    """A line of which a word, a space or a byte was changed."""
     words = line.split(b" ")
     at = chance.place(words)
     kind = chance.randrange(9)
@@ -539,7 +539,7 @@ def odd_line(chance: Chance, line: bytes) -> bytes:
     return b" ".join(words)
 
 
-# Words where the version stands, `1` and `2` among them.
+# Words where the version is, `1` and `2` among them.
 VERSIONS = [
     *[[word] for word in "0 1 2 3 9 10 11 12 20 21 01 02 002".split()],
     *[[word] for word in "2.0 2. 1.0 1,2 +1 +2 -1 -2 0x2 2x x2 two 1e0 \u0662".split()],
@@ -558,7 +558,7 @@ OTHER_WORDS = [
 
 
 def lines_with_other_words() -> Iterator[str]:
-    """Logs with a line of each form in which one word is another one, is left out, or stands one more."""
+    """Logs with a line of each form in which one word is another one, is left out, or is one more."""
     for form in FORMS:
         words = form.split(" ")
         lines = [" ".join(words[:at] + put + words[at + cut:]) for at in range(len(words) + 1)
@@ -567,7 +567,7 @@ def lines_with_other_words() -> Iterator[str]:
 
 
 def logs_at_edges() -> List[bytes]:
-    """Settings with each number at and past the edges of its range, versions that there are and that there aren't,
+    """Settings with each number at and past the edges of its range, versions that there are and that there are not,
     frames at the edge of a header, lines with words of others, no lines at all."""
     logs = [b"", b"\n", b"\r\n", b"#\n", b"\x00", *map(str.encode, lines_with_other_words())]
     words = FIRST_LINE.split(" ")

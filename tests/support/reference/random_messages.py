@@ -9,7 +9,7 @@ from typing import List, Tuple
 from tests.support.reference.items import FORMATS, Format, Item, body_of, values_of
 from tests.support.reference.messages import Options
 
-# Octets that mean something somewhere, and all octets.
+# Bytes that mean something somewhere, and all bytes.
 OCTETS = (0, 1, 2, 3, 5, 6, 7, 9, 10, 0x20, 0x22, 0x7E, 0x7F, 0x80, 0x81, 0xFF) * 16 + tuple(range(256))
 VALUE_FORMATS = [form for form in FORMATS if not form.is_list]
 LIST = FORMATS[0]
@@ -77,7 +77,7 @@ def nested(chance: Chance, depth: int) -> bytes:
 
 
 def of_length(chance: Chance, length: int) -> bytes:
-    """A text of so many octets that is an item."""
+    """A text of that many bytes that is an item."""
     body = length - 2
     if body <= 0xFF:
         return bytes([0x21, body]) + bytes(body)
@@ -100,7 +100,7 @@ def random_text(chance: Chance, depth: int, greatest: int) -> bytes:
 
 
 def disturbed(chance: Chance, octets: bytes) -> bytes:
-    """Octets of which a few were taken away, put in or changed."""
+    """Bytes of which a few were taken away, put in or changed."""
     changed = bytearray(octets)
     for _ in range(chance.one(1, 1, 2)):
         kind = chance.randrange(6)
@@ -119,7 +119,7 @@ def disturbed(chance: Chance, octets: bytes) -> bytes:
     return bytes(changed)
 
 
-# Messages as octets.
+# Messages as bytes.
 
 
 @dataclass(frozen=True)
@@ -177,7 +177,7 @@ def random_stream(chance: Chance) -> Tuple[bytes, Options]:
 
 
 def in_digits(chance: Chance, octets: bytes) -> bytes:
-    """Octets in digits, with blanks at places, and now and then one at a wrong place or a wrong digit."""
+    """Bytes in digits, with blanks at places, and now and then one at a wrong place or a wrong digit."""
     blank = chance.one(b"", b"", b" ", b"\t", b"  ")
     pairs = [b"%02x" % octet if chance.happens(0.9) else b"%02X" % octet for octet in octets]
     digits = chance.one(b"", b"", b" ") + blank.join(pairs) + chance.one(b"", b"", b" \t")
@@ -257,7 +257,7 @@ def hexadecimal(chance: Chance, octets: bytes) -> bytes:
 
 
 def ascii_tokens(chance: Chance, body: bytes) -> List[bytes]:
-    """Octets in quotes, as they are joined by chance, and in hexadecimal."""
+    """Bytes in quotes, as they are joined by chance, and in hexadecimal."""
     made: List[bytes] = [b'""'] if chance.happens(0.1) else []
     for octet in body:
         if octet not in range(0x20, 0x7F) or octet == 0x22 or chance.happens(0.2):
@@ -288,7 +288,7 @@ def nested_tokens(chance: Chance, depth: int) -> List[bytes]:
 
 
 def long_tokens(chance: Chance, length: int) -> List[bytes]:
-    """A message whose text has so many octets, between two short ones."""
+    """A message whose text has that many bytes, between two short ones."""
     body = length - 2 if length - 2 < 0x100 else length - 3
     values = chance.one([b"B"] + [b"0x00"] * body, [b"A", b'"' + b"x" * body + b'"'], [b"U1"] + [b"7"] * body)
     behind = chance.one([], [b"S1F2", b"."], [b"S1F1", b"<", b"U1", b"256", b">", b"."])
@@ -350,7 +350,7 @@ def random_notation(chance: Chance) -> Tuple[bytes, Options]:
     return (disturbed(chance, text) if chance.happens(0.1) else text), options
 
 
-# Near misses, and what stands beside them.
+# Near misses, and what is beside them.
 ODD_NOTATIONS = [
     "S127F255 W .",
     "S128F1 .",
@@ -406,13 +406,13 @@ def nested_at_edges() -> List[Tuple[bytes, Options]]:
             for depth in DEPTHS for lists in (depth, depth + 1) for inner in ("", "<U1 1>")]
 
 
-# What stands around an octet: a value's place, quotes, a word in front, a number in front.
+# What is around a byte: a value's place, quotes, a word in front, a number in front.
 AROUND = [(b"S1F1 <A ", b"> ."), (b'S1F1 <A "a', b'"> .'), (b"S1F1 W", b" ."), (b"S1F1 <U1 1", b"> .")]
 
 
 def notations_at_edges() -> List[Tuple[bytes, Options]]:
     """Near misses; numbers at the edges of their types; bodies, lists and inputs at the edges of their lengths; each
-    octet where it is white, a token, of a word or quoted, or none of these."""
+    byte where it is white, a token, of a word or quoted, or none of these."""
     texts = ODD_NOTATIONS + QUOTED
     for form in VALUE_FORMATS:
         if form.is_signed or form.is_unsigned:

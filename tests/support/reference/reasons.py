@@ -32,7 +32,7 @@ class Why(NamedTuple):
 
 EMPTY = Why(1, "the log is empty", SETTINGS)
 
-# What is wrong with a word: the octet of it, from 0, and the reason. Its length stands for the octet after it.
+# What is wrong with a word: the byte of it, from 0, and the reason. Its length represents the byte after it.
 Wrong = Optional[Tuple[int, str]]
 Check = Callable[[bytes], Wrong]
 
@@ -89,7 +89,7 @@ FORMS = {b">": FRAME, b"<": FRAME, b"!": FRAME, b"t3": EXPIRY, b"cut": CUT}
 
 
 def wrong_in(line: bytes, checks: List[Check]) -> Tuple[int, str]:
-    """The first octet, from 0, that cannot be there in a line of words that have to pass these checks, and why."""
+    """The first byte, from 0, that cannot be there in a line of words that have to pass these checks, and why."""
     at = 0
     for number, check in enumerate(checks):
         if number > 0:
@@ -151,7 +151,7 @@ def of_later_line(line: bytes, limit: int) -> Why:
     return Why(at + 1, reason, form)
 
 
-# What an octet of a line is damaged to, and how other files begin.
+# What a byte of a line is corrupt to, and how other files begin.
 OTHERS = b" \t\r0158aAfFgzZ>#<!\x00\x1b\x7f\x9b\xc2\xff"
 FRONTS = [
     b"\xef\xbb\xbf", b"\xff\xfeh\0", b"\xfe\xff\0h", b"h\0s\0", b"\0h\0s", b"\x1f\x8b\x08\0", b"%PDF-1.7\n", b"%PD",
@@ -165,7 +165,7 @@ SETTINGS_LINE = b"hsms-log 1 host active 0 45000 6000 10000 5000 256 32"
 
 
 def damaged(chance: Chance, line: bytes) -> bytes:
-    """The line with some octets more, fewer or other ones, or a word more or less."""
+    """The line with some bytes more, fewer or other ones, or a word more or less."""
     for _ in range(chance.one(1, 1, 1, 2, 3)):
         at = chance.randint(0, len(line))
         other = bytes([chance.choice(OTHERS)])
@@ -178,7 +178,7 @@ def damaged(chance: Chance, line: bytes) -> bytes:
 
 
 def damaged_logs(seed: str, count: int) -> List[bytes]:
-    """Logs of which a line or more can't be read, mostly: the first one of some, a later one of the others."""
+    """Logs of which a line or more cannot be read, mostly: the first one of some, a later one of the others."""
     front = SETTINGS_LINE + b"\n"
     logs = [it + rest for it in FRONTS for rest in (b"", front, front + b"0 up\n")]
     logs += [b"x" * size + end for size in (255, 256, 257, 258, 600) for end in (b"", b"\n", b"\r\n", b"\r\r\n")]

@@ -76,7 +76,7 @@ class Entry:
 
 
 def lines_of(log: bytes) -> List[bytes]:
-    """The lines without their ends. One CR at the end of a line is taken away; behind a last LF there is no line."""
+    """The lines without their ends. One CR at the end of a line is taken away; after a last LF there is no line."""
     lines = log.split(b"\n")
     if lines[-1] == b"":
         lines.pop()
@@ -173,7 +173,7 @@ def is_open(entries: List[Entry], opener: int, position: int) -> bool:
 
 
 def connection_of(entries: List[Entry]) -> List[Entry]:
-    """The entries of the last connection: the last `up` and those behind it, or all where there is none."""
+    """The entries of the last connection: the last `up` and those after it, or all where there is none."""
     return next((entries[at:] for at in reversed(range(len(entries))) if entries[at].event == "up"), entries)
 
 
@@ -243,7 +243,7 @@ def breaks_backwards(before: Before, entry: Entry) -> bool:
 
 
 def breaks_not_up(before: Before, entry: Entry) -> bool:
-    """An `up` is the first entry, or in version 2 stands directly after `down`; all others are on a connection."""
+    """An `up` is the first entry, or in version 2 is directly after `down`; all others are on a connection."""
     if entry.event == "up":
         return bool(before.entries) and not (before.settings.version == 2 and before.follows_down)
     return before.up is None or before.is_down
@@ -342,7 +342,7 @@ def breaks_select_status(before: Before, direction: str, frame: Frame) -> bool:
 
 
 def breaks_no_cause(before: Before, entry: Entry) -> bool:
-    """A frame may be thrown away only once the session is over, or where it would break a rule as a taken one."""
+    """A frame may be discarded only once the session is over, or where it would break a rule as a taken one."""
     if entry.event != DISCARDED or before.is_over:
         return False
     return rule_of_frame(before, TAKEN, entry.frame) is None

@@ -10,7 +10,7 @@ from typing import List, Optional, Tuple
 
 ACTIVE, PASSIVE = 0, 1
 
-# How far a place may be from what is there, and how many octets may wait.
+# How far a place may be from what is there, and how many bytes may wait.
 FARTHEST = 1 << 26
 
 # How many later packets of the connection may bring what is missing.
@@ -19,7 +19,7 @@ LATER = 4096
 # The least length of a message, and the greatest of one that can be held.
 SHORTEST, LONGEST = 10, FARTHEST - 4
 
-# The cells of a stream: the SYN and the FIN have places as octets have.
+# The cells of a stream: the SYN and the FIN have places as bytes have.
 SYN, OCTET, FIN = 1, 2, 3
 
 
@@ -72,7 +72,7 @@ class Happening:
 
 @dataclass
 class Told:
-    """What is told of a connection; how that ends, if not by itself: a fault and its packet; and the packet at which
+    """The events of a connection; how they end, if not by themselves: an error and its packet; and the packet at which
     the connection is over, if it is."""
 
     happenings: List[Happening] = field(default_factory=list)
@@ -97,7 +97,7 @@ class Stream:
         self.flags: List[int] = []  # places at which a SYN or a FIN came
 
     def differs(self, place: int, kinds: bytes, values: bytes, acknowledged: int) -> bool:
-        """Whether a cell that isn't acknowledged yet is another one than is there."""
+        """Whether a cell that is not acknowledged yet is another one than is there."""
         begin, end = max(place, acknowledged), min(place + len(kinds), len(self.kinds))
         return any(
             self.kinds[at] and (self.kinds[at], self.values[at]) != (kinds[at - place], values[at - place])
@@ -122,7 +122,7 @@ class Stream:
 
     def message_size(self, place: int, end: int) -> Optional[int]:
         """How many cells the message at a place has, if it is there whole up to an end: it ends with a SYN or FIN, and
-        behind a length that no message has."""
+        after a length that no message has."""
         size = 4
         if self.kinds[place:min(place + 4, end)] == bytes([OCTET]) * 4:
             length = int.from_bytes(self.values[place:place + 4], "big")
@@ -135,7 +135,7 @@ class Stream:
 
 
 def place_near(known: int, base: int, number: int) -> Optional[int]:
-    """The place of a sequence number that is nearest to a known one, if it isn't too far."""
+    """The place of a sequence number that is nearest to a known one, if it is not too far."""
     away = (number - base - known + (1 << 31)) % (1 << 32) - (1 << 31)
     return known + away if abs(away) <= FARTHEST and known + away >= 0 else None
 
@@ -148,14 +148,14 @@ class Wire:
         self.streams = [Stream(), Stream()]
         self.placed: List[Placed] = []
         self.turns: List[Tuple[int, int]] = []  # at which packet, and whose, as positions of `placed`
-        self.waiting: List[List[int]] = [[], []]  # packets behind a gap, in the order of places
+        self.waiting: List[List[int]] = [[], []]  # packets after a gap, in the order of places
         self.received = [0, 0]  # up to which place the other end's turns acknowledge each direction
         self.confirmed = [0, 0]  # the same of its packets, whether they had their turn or not
-        self.ends: List[List[int]] = [[], []]  # behind each packet, where each direction's gap begins
+        self.ends: List[List[int]] = [[], []]  # after each packet, where each direction's gap begins
         self.acked: List[List[int]] = [[], []]  # and up to where it is acknowledged
         self.difference: Optional[int] = None
         self.reset_at: Optional[int] = None  # at which packet a reset is sure that ends it
-        self.passed: List[Tuple[int, List[int]]] = []  # by which packet both directions are told up to where
+        self.passed: List[Tuple[int, List[int]]] = []  # the packet at which the events of both directions are final up to there
         for segment in seen:
             self.take(segment)
 
@@ -203,8 +203,8 @@ class Wire:
     # Loss.
 
     def settled(self) -> List[Optional[int]]:
-        """For each packet the first one, it or a later one, behind which nothing is missing that it acknowledges or
-        stands behind; None where that never comes."""
+        """For each packet the first one, it or a later one, after which nothing is missing that it acknowledges or
+        is after; None where that never comes."""
         found = []
         for at, packet in enumerate(self.placed):
             own, other = self.ends[packet.end], self.ends[1 - packet.end]
@@ -222,7 +222,7 @@ class Wire:
         return self.placed[loss].packet
 
     def told(self) -> Told:
-        """What is told where no packet follows."""
+        """The events if no packet follows."""
         settled = self.settled()
         late = [at for at, first in enumerate(settled) if first is None or first > at + LATER]
         loss, difference = late[0] if late else None, self.difference
@@ -244,8 +244,9 @@ class Wire:
         return told
 
     def full(self) -> Optional[int]:
-        """The first packet that ends too far behind what is held of its direction, which is what isn't told or isn't
-        acknowledged."""
+        """The first packet that ends too far after what is held of its direction, which is what is not emitted or is
+        not acknowledged.
+        """
         for at, packet in enumerate(self.placed):
             if packet.to > max(packet.place, FARTHEST):
                 told = [place[packet.end] for known, place in self.passed if known < at]
@@ -291,7 +292,7 @@ class Wire:
         ]
 
     def cut(self, end: int, place: List[int], upto: int):
-        """The messages of a direction that end by a place, behind those that were cut off."""
+        """The messages of a direction that end by a place, after those that were cut off."""
         stream = self.streams[end]
         while place[end] < stream.end:
             size = stream.message_size(place[end], stream.end)
@@ -323,7 +324,7 @@ class Wire:
 
 
 def told_of(bases: Tuple[int, int], seen: List[Seen]) -> Told:
-    """What is told of a connection whose SYNs have these numbers, where these are all of its segments."""
+    """The events of a connection whose SYNs have these sequence numbers and that has these segments."""
     wire = Wire(bases, seen)
     told, full = wire.told(), wire.full()
     if full is None or told.over is not None and told.over < full:

@@ -42,7 +42,7 @@ def sessions_of(pairs: Set) -> str:
 
 @dataclass
 class Unjudged:
-    """The sessions and ports that are not judged: sessions by their two endpoints, or for each that is given up."""
+    """The sessions and ports that are not audited: sessions by their two endpoints, or for each that is given up."""
 
     options: object
     running: Set[frozenset] = field(default_factory=set)
