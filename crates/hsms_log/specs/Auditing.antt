@@ -71,8 +71,8 @@ pub record CountsAudit (reads : ℕ) (result : Result Verdict AuditFault) (old n
   pub empty_pulls : new.empty_pulls ≡ old.empty_pulls
   pub failures : new.failures ≡ failures_after result old.failures
 
--- For private contracts: holds if what was read of an input, of which no line fails so far, is the text before the
--- reader's state.
+-- For private contracts: holds if the reader is in its state after what was read of an input. No line of that fails so
+-- far.
 abbrev pub HasRead : Option (List ℕ) → Reading → Option (List ℕ) → Type 0
 HasRead old reader new =
     IfRecorded old (λ input. (text rest : List ℕ) × (input ≡ text ++ rest) × (new ≡ Some rest) × StateInvariant reader text)
