@@ -153,8 +153,8 @@ cut_early octets fits short =
     let big : 255 ≤ length_field long = omega arith in
     cut_shorter octets pad (cut_shorter front (255 ∷ []) (cut_within long long_fits (omega arith) (omega arith) (omega arith)))
 
--- There is no error if the length field, once it is present, is large enough for a header, and is within the limit once
--- the header is present.
+-- There is no error if the length field, once present, is large enough for a header. Once the header is present, the
+-- field is also within the limit.
 pub faultless : (max : ℕ) (octets : List ℕ) → (4 ≤ length octets → 10 ≤ length_field octets)
     → (14 ≤ length octets → length_field octets ≤ max) → IsFaultless max octets
 faultless max octets enough within = record {

@@ -29,7 +29,7 @@ impl Tally {
         }
     }
 
-    /// Counts that the end was found, if a read into `room` bytes returned `count` 0 and `room` is not 0.
+    /// Counts an end of the input if `count`, the result of a read into `room` bytes, is 0 and `room` is not 0.
     pub fn end(&mut self, room: usize, count: usize)
         ensures { self.new ≡ record self.old { ends = ends_after room (Ok count) self.old.ends } }
     {

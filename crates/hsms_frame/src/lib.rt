@@ -1,13 +1,13 @@
 //! HSMS messages (SEMI E37): headers, complete messages, and the readers and writers of their bytes.
 //!
-//! A message is four bytes with the length of what follows, a header of ten bytes, and a text. [`read_frame`] reads one
-//! message from a [`Source`] and no byte after it. Contracts see how often a [`Source`] or [`Sink`] was called and how
-//! often it failed. If it records bytes, contracts also see which bytes are left or were written. So a contract can state
-//! what a program did to it. [`laws`] contains facts about messages that hold for every program.
+//! A message is four bytes with the length of what follows, a header of ten bytes, and a text. [`read_frame`] reads
+//! one message from a [`Source`] and no byte after it. Contracts see how often a [`Source`] or [`Sink`] was called and
+//! how often it failed. If it records bytes, contracts also see which bytes are left or were written. So a contract
+//! can state what a program did to them. [`laws`] contains facts about messages that hold for every program.
 //!
-//! A message is built and written in one call. A program that receives bytes in chunks pushes each chunk, and takes
-//! messages until there are no more. A program that may wait reads one message at a time. [`Ahead`] reads a source in
-//! blocks, for a program that looks for messages in a buffer ([`front`]), or for other data:
+//! A program builds a message and writes it with one call. A program that receives bytes in chunks pushes each chunk,
+//! and takes messages until there are no more. A program that may wait reads one message at a time. [`Ahead`] reads a
+//! source in blocks, for a program that looks for messages in a buffer ([`front`]), or for other data:
 //!
 //! ```
 //! let frame = Frame { header: data_header(0, 1, 13, true, 1), text };

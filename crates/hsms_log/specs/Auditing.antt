@@ -29,8 +29,8 @@ FrontFails input n why left =
     (read block rest : List ℕ) × (input ≡ read ++ (block ++ rest)) × (left ≡ Some rest) × (length block ≤ block_size)
     × HoldsNoFailure read × FailsOnward (read ++ block) n why
 
--- Holds for the audit's result, by the input, what is left of it, and whether its end was found. The input may have
--- been read in part. If the end was found, a line that fails is one that only the end of the input ended.
+-- Holds if this is the audit's result for an input, with what is left of it and whether its end was found. The input
+-- may have been read in part. If the end was found, a line that fails is one that only the end of the input ended.
 abbrev pub AuditsAs : List ℕ → Result Verdict AuditFault → Option (List ℕ) → Type 0 → Type 0
 AuditsAs input (Ok (Pass summary)) left ended = Passes input summary × (left ≡ Some [])
 AuditsAs input (Ok (Fail n why)) left ended =
@@ -54,8 +54,8 @@ failures_after (Err Endless) n = n
 failures_after (Err Memory) n = n
 failures_after (Ok _) n = n
 
--- Holds for the reads that a result needs. A pass needs the read that found the end. Endless needs all of them, and
--- none that found the end.
+-- Holds if the reads that the result needs were made. A pass needs the read that found the end. Endless needs all of
+-- them, and none that found the end.
 abbrev pub UsesReads : ℕ → Result Verdict AuditFault → SourceState → SourceState → Type 0
 UsesReads reads (Ok (Pass summary)) old new = HasEnded old.ends new.ends
 UsesReads reads (Ok (Fail n why)) old new = Unit {0}
@@ -71,8 +71,8 @@ pub record CountsAudit (reads : ℕ) (result : Result Verdict AuditFault) (old n
   pub empty_pulls : new.empty_pulls ≡ old.empty_pulls
   pub failures : new.failures ≡ failures_after result old.failures
 
--- For private contracts: holds if what was read of an input, of which no line fails so far, is the text before the
--- reader's state.
+-- For private contracts: holds if the reader is in its state after what was read of an input. No line of that fails so
+-- far.
 abbrev pub HasRead : Option (List ℕ) → Reading → Option (List ℕ) → Type 0
 HasRead old reader new =
     IfRecorded old (λ input. (text rest : List ℕ) × (input ≡ text ++ rest) × (new ≡ Some rest) × StateInvariant reader text)

@@ -84,7 +84,7 @@ LinesFail lines n why = LineFails lines n why ⊎ ((lines ≡ []) × (n ≡ 1) �
 abbrev pub LinesPass : List (List ℕ) → Summary → Type 0
 LinesPass lines summary = (s : Parameters) × (log : List Entry) × EncodesRun lines s log × (summary ≡ summary_of log)
 
--- Holds for the verdict on lines.
+-- Holds if the lines have this verdict.
 abbrev pub LinesAudited : List (List ℕ) → Verdict → Type 0
 LinesAudited lines (Pass summary) = LinesPass lines summary
 LinesAudited lines (Fail n why) = LinesFail lines n why
@@ -97,7 +97,7 @@ Fails text n why = LinesFail (lines_of text) n why
 abbrev pub Passes : List ℕ → Summary → Type 0
 Passes text summary = LinesPass (lines_of text) summary
 
--- Holds for the verdict on a complete text.
+-- Holds if the complete text has this verdict.
 abbrev pub HasAuditVerdict : List ℕ → Verdict → Type 0
 HasAuditVerdict text verdict = LinesAudited (lines_of text) verdict
 

@@ -67,12 +67,12 @@ abbrev pub LinesPassOfOne : List (List ℕ) → Summary → Type 0
 LinesPassOfOne lines summary =
     (s : Parameters) × (log : List Entry) × EncodesRunOfOne lines s log × (summary ≡ summary_of_one log)
 
--- Holds for the verdict on lines: if there is no line, line 1 fails.
+-- Holds if the lines have this verdict. If there is no line, line 1 fails.
 abbrev pub LinesAuditedOfOne : List (List ℕ) → Verdict → Type 0
 LinesAuditedOfOne lines (Pass summary) = LinesPassOfOne lines summary
 LinesAuditedOfOne lines (Fail n why) = LineFailsOfOne lines n why ⊎ ((lines ≡ []) × (n ≡ 1) × (why ≡ Unreadable))
 
--- Holds for the verdict on a complete text.
+-- Holds if the complete text has this verdict.
 abbrev pub HasAuditVerdictOfOne : List ℕ → Verdict → Type 0
 HasAuditVerdictOfOne text verdict = LinesAuditedOfOne (lines_of text) verdict
 

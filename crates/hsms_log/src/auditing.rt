@@ -35,7 +35,7 @@ const BLOCK: usize = 4096;
 /// - *answers exactly one open primary*: `laws::each_response_answers_one` of `hsms_machine`, with `answers` and
 ///   `IsOpen` of its `specs/Transaction.antt`.
 /// - *awaited*, *within T3*, *unless .. came first*: `laws::expiry_is_logged_first` and `laws::replies_come_within_t3`
-///   of `hsms_machine`. A reply is awaited by the endpoint that sent a primary with the W bit; a reply at exactly T3 is
+///   of `hsms_machine`. A reply is awaited by the endpoint that sent a primary with the W bit. A reply at exactly T3 is
 ///   in time (SEMI E5, SEMI E37). After a Separate.req, a cut or a `down` nothing is overdue, and a log may end while
 ///   replies are awaited.
 /// - *passes*, *names the first line, and why*: `Passes` and `Fails` of `specs/Verdict.antt`. Each text has exactly one

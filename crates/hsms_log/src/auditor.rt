@@ -64,8 +64,8 @@ impl Auditor {
         Ok(())
     }
 
-    /// Returns whether it can process an entry without a line. It can after the settings line, if no other line has
-    /// begun and the settings allow the entry's message. It also can once a line has failed.
+    /// Returns whether it can process an entry without a line. It can after the settings line, if no line is unfinished
+    /// and the settings allow the entry's message. It also can once a line has failed.
     pub fn can_process(&self, entry: &Entry) -> bool
         ensures { IsTrue result ↔ CanProcess self.now entry.now }
     {
@@ -85,8 +85,8 @@ impl Auditor {
         }
     }
 
-    /// Returns whether it can process a comment without a line. It can after the settings line, if no other line has
-    /// begun. It also can once a line has failed.
+    /// Returns whether it can process a comment without a line. It can after the settings line, if no line is
+    /// unfinished. It also can once a line has failed.
     pub fn is_between(&self) -> bool
         ensures { IsTrue result ↔ IsBetween self.now }
     {

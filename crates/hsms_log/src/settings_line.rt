@@ -31,8 +31,8 @@ fn of_version(version: u8, settings: Settings) -> Option<Settings>
     }
 }
 
-/// Returns the version in a first line, and its settings for a log of one connection, or `None` in their place if a
-/// number is outside its limits.
+/// Returns the version in a first line, and its settings for a log of one connection. These are `None` if a number is
+/// outside its limits.
 #[tactic(auto, unfolding(crate::specs::Reading::settings_at))]
 fn version_and_settings(line: &[u8]) -> Option<(u8, Option<Settings>)>
     ensures found { (x : ℕ × Option Parameters) → result ≡ Some x → (p : Parameters) × (settings_at line.now ≡ Some p) × IsOf p x.0 x.1 }

@@ -27,7 +27,7 @@ impl Tally {
     ghost use Rattle.hsms_machine.specs.Entry.{frame_entry};
     ghost use Rattle.hsms_log.specs.AuditState.{counted};
 
-    /// Counts a line without a counted entry.
+    /// Counts a line without an entry.
     pub fn count_line(&mut self)
         requires { self.old.lines < 2 ^ 64 - 1 }
         ensures { self.new ≡ record self.old { lines = self.old.lines + 1 } }

@@ -74,7 +74,7 @@ is_from_active Active Incoming = false
 is_from_active Passive Outgoing = false
 is_from_active Passive Incoming = true
 
--- True if the message comes from the equipment.
+-- True if the message comes from equipment.
 abbrev pub is_from_equipment : Role → Flow → Bool
 is_from_equipment Equipment Outgoing = true
 is_from_equipment Equipment Incoming = false

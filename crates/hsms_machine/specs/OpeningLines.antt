@@ -1,5 +1,5 @@
--- The line number of each entry of a log in the input. A log in which the time of each entry is its line number
--- satisfies the same definitions as the log, so each open transaction has its line number.
+-- The line number of each entry of a log in the input. A log with line numbers as times satisfies the same definitions
+-- as the log. So each open transaction has its line number.
 use Rattle.std.specs.Prelude.{◌≡◌, ℕ, ◌≤◌, Bool, true, false, ◌&&◌, ◌||◌, not, List, [], ◌∷◌, ◌++◌, None, IsTrue, length}
 use Rattle.hsms_machine.specs.declared.entry.Entry.{Entry}
 use Rattle.hsms_machine.specs.declared.entry.Event.{Event}
@@ -68,7 +68,7 @@ abbrev pub is_sent_primary : Event → Bool
 is_sent_primary (Sent frame) = is_data_request frame.header
 is_sent_primary event = false
 
--- Holds if the entry at j has this line number, is a sent primary that is open after the log, and no other such primary
+-- Holds if the entry at j has this line number and is a sent primary that is open after the log. No other such primary
 -- has a lower line number.
 abbrev pub IsOldestPrimary : List Entry → List Entry → ℕ → Type 0
 IsOldestPrimary log placed place =
@@ -88,8 +88,8 @@ NoPrimaryIsOpen places =
     ForEachPlaced places (λ log placed. (j : ℕ) → IsOpen log j (length log)
     → IsTrue (is_sent_primary (entry_at log j).event) → ⊥)
 
--- Holds if the entry at j has this line number and opened a transaction that is open after the log and has the event's
--- direction and system bytes.
+-- Holds if the entry at j has this line number and opened a transaction that is open after the log. The transaction has
+-- the event's direction and system bytes.
 abbrev pub IsNamesake : List Entry → List Entry → Event → ℕ → Type 0
 IsNamesake log placed event place =
     (j : ℕ) × IsOpen log j (length log)

@@ -5,8 +5,7 @@ use Rattle.std.specs.List.{AllByRecursion, list_any}
 use Rattle.std.specs.Map.{values_of}
 use Rattle.hsms_machine.specs.declared.open_transactions.Transaction.{Transaction}
 
--- Holds if none was opened after the time, none was opened before an earlier one of the list, and no two have the same
--- system bytes.
+-- Holds if none was opened after the time, or before an earlier one of the list. No two have the same system bytes.
 abbrev pub IsOrdered : ℕ → List Transaction → Type 0
 IsOrdered moment [] = Unit {0}
 IsOrdered moment (first ∷ later) =

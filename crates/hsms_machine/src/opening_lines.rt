@@ -1,4 +1,4 @@
-//! Line numbers of the open transactions. They add to a tracker where in the input each open transaction was opened.
+//! Line numbers of the open transactions. Next to a tracker, they give the line of the input that opened each one.
 
 use crate::direction::Flow;
 use crate::entry::{Act, EntryRef};
@@ -84,7 +84,7 @@ impl Places {
     }
 
     /// Returns the line that opened the transaction which this entry, as the next one, closes: as its response, as a
-    /// reject, or as its `t3`. Allocates no memory.
+    /// reject, or as its `t3`. Returns `None` if it closes none. Allocates no memory.
     pub fn closes(&self, entry: &EntryRef<'_>) -> Option<u64>
         ensures place { IfSome result (ClosesOneOpenedAt self.now entry.now.event) }
         ensures none { IfNone result (ClosesNothing self.now entry.now.event) }
@@ -102,8 +102,8 @@ impl Places {
         }
     }
 
-    /// Returns the line of the first opened among the open sent primaries with the W bit. A failure of `T3Overdue`
-    /// involves this primary. Allocates no memory.
+    /// Returns the line of the first opened among the open sent primaries with the W bit. Returns `None` if none is
+    /// open. A failure of `T3Overdue` involves this primary. Allocates no memory.
     pub fn oldest_data(&self) -> Option<u64>
         ensures place { IfSome result (IsPlaceOfOldest self.now) }
         ensures none { IfNone result (NoPrimaryIsOpen self.now) }
@@ -113,7 +113,7 @@ impl Places {
     }
 
     /// Returns the line of the open transaction with the direction and the system bytes of this sent or accepted frame.
-    /// A failure of `SystemInUse` involves this transaction. Allocates no memory.
+    /// Returns `None` if there is none. A failure of `SystemInUse` involves this transaction. Allocates no memory.
     pub fn in_use(&self, entry: &EntryRef<'_>) -> Option<u64>
         ensures place { IfSome result (IsPlaceInUse self.now entry.now.event) }
         ensures none { IfNone result (IsNotInUse self.now entry.now.event) }

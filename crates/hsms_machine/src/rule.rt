@@ -14,8 +14,8 @@ pub enum Rule {
     Ended,
     /// An entry other than `t3`, while a sent primary has waited for its reply for longer than T3.
     T3Overdue,
-    /// An entry other than an expiry, while a sent Select.req or Linktest.req has waited for longer than T6, or the
-    /// connection has not been selected for longer than T7.
+    /// An entry other than an expiry, while T6 or T7 is overdue. A sent Select.req or Linktest.req has waited for
+    /// longer than T6, or the connection has not been selected for longer than T7.
     LinkOverdue,
     /// An expiry of T3, T6 or T7 before the timer expires.
     NotDue,

@@ -149,8 +149,8 @@ impl Tracker {
     }
 
     /// Returns the earliest time, in the milliseconds of the entries, at which a timer expires in the phases
-    /// NotSelected and Selected. The timers are T3 of an open sent primary, T6 of an open sent Select.req or
-    /// Linktest.req, and T7 of a session that is not selected. Times above 18,446,744,073,709,551,615 are omitted.
+    /// `NotSelected` and `Selected`. The timers are T3 of an open sent primary, T6 of an open sent Select.req or
+    /// Linktest.req, and T7 if the session is not selected. Times above 18,446,744,073,709,551,615 are omitted.
     pub fn next_due(&self) -> Option<u64>
         ensures { result ≡ next_due_of self.now }
     {
@@ -173,8 +173,8 @@ impl Tracker {
         self.view.sent_data.is_in_use(system) || self.view.sent_control.is_in_use(system)
     }
 
-    /// Returns the time and the header of the first opened among the open sent primaries with the W bit. Allocates no
-    /// memory.
+    /// Returns the time and the header of the first opened among the open sent primaries with the W bit. Returns `None`
+    /// if none is open. Allocates no memory.
     pub fn oldest_data(&self) -> Option<(u64, Header)>
         ensures { result ≡ oldest_of self.now.sent_data }
     {
@@ -182,8 +182,8 @@ impl Tracker {
         Some((opened.time, opened.header))
     }
 
-    /// Returns the time and the header of the first opened among the open sent Select.req and Linktest.req. Allocates
-    /// no memory.
+    /// Returns the time and the header of the first opened among the open sent Select.req and Linktest.req. Returns
+    /// `None` if none is open. Allocates no memory.
     pub fn oldest_control(&self) -> Option<(u64, Header)>
         ensures { result ≡ oldest_of self.now.sent_control }
     {
@@ -191,8 +191,8 @@ impl Tracker {
         Some((opened.time, opened.header))
     }
 
-    /// Proves that the open transactions are in order. In each of the four lists of the view no time decreases, none is
-    /// later than that of the last entry, and no two transactions have the same system bytes. Called for this fact
+    /// Proves that the open transactions are in order. In each of the four lists of the view no time decreases, and
+    /// none is later than that of the last entry. No two transactions have the same system bytes. Called for this fact
     /// only; it does nothing.
     pub fn keeps_order(&self)
         ensures { IsInOrder self.now }

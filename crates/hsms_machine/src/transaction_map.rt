@@ -161,7 +161,7 @@ impl Queue {
     }
 
     /// Removes the transaction at this index. The oldest is counted as closed, and the last is removed from the end:
-    /// none moves.
+    /// then none moves.
     #[inline(always)]
     fn remove_at(&mut self, place: usize)
         ensures { self.new ≡ remove self.old place }
@@ -185,7 +185,7 @@ impl Queue {
         }
     }
 
-    /// Removes the transaction at this index, if a later one may move up. The last is removed from the end.
+    /// Removes the transaction at this index; later ones may move up. The last is removed from the end.
     #[inline(never)]
     fn remove_later(&mut self, place: usize)
         ensures { self.new ≡ remove self.old place }

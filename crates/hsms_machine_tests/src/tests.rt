@@ -46,7 +46,7 @@ impl From<AllocError> for Stop {
     }
 }
 
-// Sessions are one text, because the check of a constant with many parts takes longer, and so does the check of each
+// Sessions are one text, because the check of a constant with many parts takes longer. So does the check of each
 // function with such an argument. Each begins with a line with its name. A line `selected`, `connected` or `first`
 // represents the entries of that name. The other lines are entries, as in a log, and the results that are expected
 // there. `= ` gives the rule that the entry before breaks, and how many sent primaries are open. `told` gives what the
