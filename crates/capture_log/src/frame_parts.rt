@@ -9,7 +9,7 @@ use hsms_frame::{Frame, HEADER_LENGTH, Header, drop_front};
 pub const LENGTH: usize = 4;
 
 /// The message of these octets, those of its length first; none where they are fewer than fourteen.
-#[tactic(auto, unfolding(hsms_log::specs::WordEncoding::message_octets), using(crate::proofs::Logs::encoded_bytes))]
+#[tactic(auto, unfolding(hsms_log::specs::LineFormat::message_octets), using(crate::proofs::Logs::encoded_bytes))]
 pub fn frame_of(octets: Vec<u8>) -> Option<Frame>
     ensures some { IfSome result (λ frame. drop 4 octets.items ≡ message_octets frame) }
     ensures none { result ≡ None → length octets.items < 14 }

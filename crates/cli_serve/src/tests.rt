@@ -5,11 +5,12 @@ use crate::handler_choice::desk_of;
 use crate::serving::serve_to;
 use crate::tcp_link::{SocketLink, connected, first_link, listener_of};
 use cli_filters::audit_to;
-use cli_options::{Request, Service, parse};
-use hsms_ends::Step;
+use cli_options::{Request, Service, ToolFault, parse};
+use hsms_ends::{ServeFault, Step};
 use hsms_frame::{Feed, Store};
 use std::alloc::{AllocError, Global};
-use std::io::{Read, Write};
+use std::io;
+use std::io::{ErrorKind, Read, Write};
 use std::net::{Net, OpenListener, TcpListener, TcpStream};
 use std::process::Abort;
 use std::time::Clock;
@@ -46,13 +47,25 @@ fn assert_so(rt: &impl Abort, is_so: bool, name: &str) {
     assert!(rt; is_so, "{name}");
 }
 
+// Returns an error after a failed allocation. Any other failure fails the test.
+fn failed(rt: &impl Abort, is_memory: bool, name: &str) -> Result<(), AllocError> {
+    if is_memory {
+        return Err(AllocError);
+    }
+    assert_so(rt, false, name);
+    Ok(())
+}
+
+fn is_memory(error: ConnectError) -> bool {
+    error == ConnectError::System(ErrorKind::OutOfMemory)
+}
+
+fn is_memory_of(error: &io::Error) -> bool {
+    error.kind() == ErrorKind::OutOfMemory
+}
+
 // The words of a command line that serves one connection at this port.
-fn words_for(
-    alloc: Global,
-    role: &str,
-    link: &str,
-    port: u16,
-) -> Result<Vec<String>, AllocError> {
+fn words_for(alloc: Global, role: &str, link: &str, port: u16) -> Result<Vec<String>, AllocError> {
     let line = format!(in alloc;
         "hsms serve --role {role} --link {link} --address {HERE} --port {port} --t8 100"
     )?;
@@ -82,11 +95,19 @@ fn serve_and_audit<R: Abort + Clock + Net>(
     let mut log = Store::new(vec![in alloc; 0u8; ROOM]?, ROOM, u64::MAX);
     let served = serve_to(alloc, &mut link, &mut log, service, desk, steps);
     link.end();
-    assert_so(rt, served.is_ok(), "the connection is served to its end");
+    if let Err(fault) = served {
+        return failed(
+            rt,
+            fault == ServeFault::Memory,
+            "the connection is served to its end",
+        );
+    }
     let mut text = Feed::new(Vec::from_slice(alloc, log.written())?, ROOM, u64::MAX);
     let mut line = Store::new(vec![in alloc; 0u8; ROOM]?, ROOM, u64::MAX);
-    let passes = audit_to(alloc, &mut text, &mut line);
-    assert_so(rt, passes.is_ok_and(|passes| passes), "the log passes");
+    match audit_to(alloc, &mut text, &mut line) {
+        Ok(passes) => assert_so(rt, passes, "the log passes"),
+        Err(fault) => return failed(rt, matches!(fault, ToolFault::Memory), "the log is audited"),
+    }
     assert_so(rt, line.written() == verdict.as_bytes(), verdict);
     Ok(())
 }
@@ -109,15 +130,18 @@ fn check_passive<R: Abort + Clock + Net>(
     alloc: Global,
     service: &Service<'_>,
 ) -> Result<(), AllocError> {
-    let listener = listener_of(rt, service).unwrap_or(None);
-    let Ok(mut peer) = TcpStream::connect(rt, (service.address, service.port)) else {
-        assert_so(rt, false, "the peer connects");
-        return Ok(());
+    let listener = match listener_of(rt, service) {
+        Ok(listener) => listener,
+        Err(error) => return failed(rt, is_memory_of(&error), "the endpoint listens"),
+    };
+    let mut peer = match TcpStream::connect(rt, (service.address, service.port)) {
+        Ok(peer) => peer,
+        Err(error) => return failed(rt, is_memory_of(&error), "the peer connects"),
     };
     assert_so(rt, peer.write_all(REQUESTS).is_ok(), "the peer sends");
-    let Ok(link) = first_link(rt, service, listener, Once) else {
-        assert_so(rt, false, "the endpoint accepts");
-        return Ok(());
+    let link = match first_link(rt, service, listener, Once) {
+        Ok(link) => link,
+        Err(error) => return failed(rt, is_memory(error), "the endpoint accepts"),
     };
     let verdict = "pass entries=7 sent=2 taken=3 discarded=0 expired=0 waiting=0\n";
     serve_and_audit(rt, alloc, link, service, &[], verdict)?;
@@ -131,9 +155,9 @@ fn check_active<R: Abort + Clock + Net>(
     service: &Service<'_>,
     listener: R::Listener,
 ) -> Result<(), AllocError> {
-    let Ok(link) = connected(rt, service, Once) else {
-        assert_so(rt, false, "the endpoint connects");
-        return Ok(());
+    let link = match connected(rt, service, Once) {
+        Ok(link) => link,
+        Err(error) => return failed(rt, is_memory(error), "the endpoint connects"),
     };
     let Ok((mut peer, _)) = listener.accept() else {
         assert_so(rt, false, "the peer accepts");
@@ -152,10 +176,8 @@ fn equipment_is_selected_tested_and_left(rt: HostRuntime) -> Result<(), AllocErr
     let words = words_for(alloc, "equipment", "passive", free_port(&rt).unwrap_or(0))?;
     match parse(alloc, &words) {
         Ok(Request::Serve(service)) => check_passive(&rt, alloc, &service),
-        _ => {
-            assert_so(&rt, false, "the command line asks for a service");
-            Ok(())
-        }
+        Err(ToolFault::Memory) => Err(AllocError),
+        _ => failed(&rt, false, "the command line asks for a service"),
     }
 }
 
@@ -170,9 +192,7 @@ fn host_selects_and_leaves(rt: HostRuntime) -> Result<(), AllocError> {
     let words = words_for(alloc, "host", "active", port)?;
     match parse(alloc, &words) {
         Ok(Request::Serve(service)) => check_active(&rt, alloc, &service, listener),
-        _ => {
-            assert_so(&rt, false, "the command line asks for a service");
-            Ok(())
-        }
+        Err(ToolFault::Memory) => Err(AllocError),
+        _ => failed(&rt, false, "the command line asks for a service"),
     }
 }

@@ -180,7 +180,7 @@ fn assert_lines(rt: &impl Abort, outcome: Outcome, written: &[u8]) {
         assert_octets(rt, written, TWO_LINES.as_bytes(), "each line");
     } else {
         let count = written.len();
-        assert_so(rt, outcome.as_str() == WANT_OF_MEMORY, "want of memory");
+        assert_so(rt, outcome.as_str() == WANT_OF_MEMORY, "out of memory");
         assert_so(rt, count == 0 || count == 25 || count == 62, "a line");
         assert_so(rt, TWO_LINES.as_bytes().starts_with(written), "whole lines");
     }

@@ -1,4 +1,4 @@
-//! Reads lists of inputs, passes them to endpoints, and writes the results; for `tests/driven.py`.
+//! Reads lists of inputs, passes them to endpoints, and writes the results; for `tests/gate/endpoint_inputs.py`.
 //!
 //! A list is a sequence of lines of standard input. First come the settings, as in the first line of a log. Then
 //! comes `desk NUMBER MODEL REVISION`: the first system bytes, and the texts that the equipment handler sends. Or

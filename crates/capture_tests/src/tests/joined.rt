@@ -106,7 +106,7 @@ fn data(wait: bool, function: u8, system: u32) -> Header {
 
 // Checks what is assumed because of a header.
 fn assert_assumed(rt: &impl Abort, header: Header, requests: &Requests, want: Option<Assumption>) {
-    assert_so(rt, assumed_by(header, requests) == want, "what is supposed");
+    assert_so(rt, assumed_by(header, requests) == want, "what is assumed");
 }
 
 // Returns a Select.rsp to a Select.req with these system bytes.

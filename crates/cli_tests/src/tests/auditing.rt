@@ -98,7 +98,7 @@ fn assert_verdict(rt: &impl Abort, outcome: Outcome, written: &[u8]) {
     if outcome.as_str() == "Ok(true)" {
         assert_octets(rt, written, PASS, "the verdict");
     } else {
-        assert_so(rt, outcome.as_str() == WANT_OF_MEMORY, "want of memory");
+        assert_so(rt, outcome.as_str() == WANT_OF_MEMORY, "out of memory");
         assert_so(rt, written.is_empty(), "nothing");
     }
 }

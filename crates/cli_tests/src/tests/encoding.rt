@@ -100,7 +100,7 @@ fn assert_frame(rt: &impl Abort, outcome: Outcome, written: &[u8]) {
     if outcome.as_str() == DONE {
         assert_octets(rt, written, FRAME.as_bytes(), "the frame");
     } else {
-        assert_so(rt, outcome.as_str() == WANT_OF_MEMORY, "want of memory");
+        assert_so(rt, outcome.as_str() == WANT_OF_MEMORY, "out of memory");
         assert_so(rt, written.is_empty(), "nothing");
     }
 }
