@@ -2,7 +2,8 @@
 """Writes docs/DEFINITIONS.md: the definitions that public contracts cite, by the comments in the crates' specs/.
 
 A definition is listed if a clause of an exported function cites it, or the model of an exported type does. Its text is the
-first sentence of the comment above it. Definitions that only others cite are explained in specs/.
+first sentence of the comment above it. Definitions that only others cite are explained in specs/, and laws
+in the module `laws` of their crate.
 
 `definitions.py --write` writes the page; without it the script compares the page with what it would write. The last line
 is `N passed, M failed`.
@@ -107,7 +108,7 @@ def part_of(crate, words):
     """Yields the lines of a crate's part."""
     yield f"## {CRATES[crate]}"
     yield ""
-    for file in sorted({word.file for word in words}):
+    for file in sorted({word.file for word in words} - {"Laws"}):
         names = [name for name in definitions_of(crate, file) if Word(crate, file, name) in words]
         yield f"[`{crate}/specs/{file}.antt`](../crates/{crate}/specs/{file}.antt)"
         yield ""
