@@ -25,8 +25,8 @@ from concurrent.futures import ThreadPoolExecutor
 sys.dont_write_bytecode = True
 from running import MB, PROGRAM, TOP, Runner
 
-sys.path.append(f"{TOP}/tests")
-from loopback import free_port
+sys.path.append(TOP)
+from tests.support.serve_peers import free_port
 
 HERE = "127.0.0.1"
 

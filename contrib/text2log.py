@@ -1,10 +1,10 @@
 #!/usr/bin/env python3
-"""Makes a session log from a text log that shows messages as bytes, as hex dumps, or as SML with system bytes.
+"""Converts a text log to a session log. The text log has messages as bytes, as hex dumps, or as SML with system bytes.
 
     text2log.py [OPTION ..] [FILE ..] > session.log
 
-FILE is the text log, or its parts in order; `-` or none is standard input. The program that wrote the log sent what
-`-->` or SEND marks, and received what `<--` or RECV marks:
+FILE is the text log, or its parts in order. Without FILE, or for `-`, it reads standard input. `-->` and SEND mark the
+messages that the program with the log sent. `<--` and RECV mark those that it received:
 
     2024-03-01 10:00:00.000 CONNECTED
     2024-03-01 10:00:00.001 SEND 00 00 00 0A FF FF 00 00 00 01 00 00 00 01
@@ -19,13 +19,13 @@ FILE is the text log, or its parts in order; `-` or none is standard input. The 
     2024-03-01 10:00:45.351 T3 TIMEOUT SystemBytes=00000003
     2024-03-01 10:00:50.000 DISCONNECTED
 
-STAMP and FORMS below describe a line: change them to the log at hand. A line that has none of the forms becomes a
-comment of the session log. But it is rejected if MEANT finds signs of a message, connection or timeout in it, or
-OTHER_STAMP another form of date and time. Blank lines, comments in SML and the text column of a dump carry nothing, and
-are dropped. `hsms encode` encodes SML.
+STAMP and FORMS below describe a line: adapt them to your log. A line that matches none of FORMS becomes a comment in
+the session log. But the line is an error if MEANT finds signs of a message, connection or timeout in it. It is also an
+error if OTHER_STAMP finds another format of date and time. Blank lines, comments in SML and the text column of a dump
+are skipped. `hsms encode` encodes SML.
 
-The status is 0, or 2 if a line is rejected, no line is an entry, or a file or `hsms` cannot be used. Then no log is
-written, and standard error has the number of the line, the reason and the text.
+Exit status: 0; 2 if a line is invalid, no line is an entry, or a file or `hsms` cannot be used. With status 2 no log is
+written, and standard error has the line number, the reason and the text.
 """
 import argparse
 import codecs
@@ -37,13 +37,13 @@ import sys
 from datetime import datetime, timedelta
 from typing import NamedTuple
 
-# The date and time of a line: both, as ISO 8601 has them or with a space between, or the time of day alone.
+# The date and time of a line: both, in ISO 8601 or with a space between them, or only the time of day.
 STAMP = re.compile(
     r"(?:(?P<date>\d{4}-\d\d-\d\d)[ T])?(?P<time>\d{1,2}:\d\d:\d\d)(?:[.,](?P<fraction>\d+))?"
     r"(?P<zone>Z|[+-]\d\d:?\d\d)?\s+(?P<what>.*)"
 )
 
-# What follows it, by the kind of the entry.
+# The text after the date and time, by the kind of the entry.
 WORDS = r"(?:\s+(?:[0-9A-Fa-f]{2})+)*"
 SYSTEM = r"(?:SystemBytes=)?(?P<system>(?:0x)?[0-9A-Fa-f]+)"
 FORMS = {
@@ -57,8 +57,8 @@ FORMS = {
 }
 MARKS = {"-->": ">", "<--": "<", "SEND": ">", "RECV": "<"}
 
-# Signs that a line shows an entry: words and marks of FORMS, an item or its end, ten bytes in a row, or the first
-# fourteen of a message.
+# Signs that a line is an entry: keywords and marks of FORMS, an item or its end, ten consecutive bytes, or the first
+# fourteen bytes of a message.
 TYPES = "L B BOOLEAN A J C2 I1 I2 I4 I8 F4 F8 U1 U2 U4 U8".split()
 MEANT = re.compile(
     r"\b(?:(?:DIS)?CONNECT(?:ED)?|SEND|RECV)\b|-->|<--|\b[sS]\d+[fF]\d+\b|(?i:system ?bytes|\w\.(?:req|rsp)\b)"
@@ -66,10 +66,10 @@ MEANT = re.compile(
     r"|(?<![0-9A-Fa-f])[0-9A-Fa-f]{2}(?:\s+[0-9A-Fa-f]{2}){9}|(?<!\S)00(?:\s*[0-9A-Fa-f]{2}){13}"
 )
 
-# Signs of a date and time in another form than STAMP: a time near the start of a line.
+# Signs of a date and time in another format than STAMP: a time near the start of a line.
 OTHER_STAMP = re.compile(r".{0,30}?\d:\d\d:\d\d")
 
-# A line of bytes, and one of a dump: an offset, at most sixteen bytes, and after a gap of three spaces a text column.
+# A line of bytes, and a line of a dump: an offset, at most sixteen bytes, three spaces, and a text column.
 PLAIN = re.compile(rf"\s*(?P<octets>(?:[0-9A-Fa-f]{{2}})+{WORDS})\s*")
 DUMP = re.compile(
     r"\s*(?P<offset>[0-9A-Fa-f]{4}(?:[0-9A-Fa-f]{4})?):?\s+"
@@ -86,26 +86,26 @@ TRUTHS = {"TRUE": "T", "T": "T", "FALSE": "F", "F": "F"}
 
 
 class Invalid(Exception):
-    """An invalid input: its place, the reason, and the text in question."""
+    """An invalid input: its position, the reason, and the invalid text."""
 
     def __str__(self):
-        place, reason, text = self.args
+        position, reason, text = self.args
         text = "".join(c if c.isprintable() else c.encode("unicode_escape").decode() for c in text.strip())
-        return ": ".join(part for part in (place, reason, text[:100] + " .." if len(text) > 100 else text) if part)
+        return ": ".join(part for part in (position, reason, text[:100] + " .." if len(text) > 100 else text) if part)
 
 
 class Line(NamedTuple):
-    """A line of a text log, and its place: the number, after the name of the file if one is given."""
+    """A line of a text log. Its position is its number, after the name of the file if one is given."""
 
-    place: str
+    position: str
     text: str
 
     def invalid(self, reason, text=None):
-        return Invalid(self.place, reason, self.text if text is None else text)
+        return Invalid(self.position, reason, self.text if text is None else text)
 
 
 class Group(NamedTuple):
-    """A line with a date and time, and the lines up to the next one. The first group of a log has no such line."""
+    """A line with a date and time, and the lines up to the next such line. The first group of a log has only `rest`."""
 
     line: Line
     stamp: re.Match
@@ -113,7 +113,7 @@ class Group(NamedTuple):
 
 
 class Message(NamedTuple):
-    """A data message in SML: its line, the entry's time and mark, the notation, and the system bytes."""
+    """A data message in SML: its line, the time and mark of its entry, the notation, and the system bytes."""
 
     line: Line
     begin: str
@@ -133,14 +133,14 @@ def octets_of_file(name):
 
 
 def lines_of(name):
-    """Returns the lines of a file without their ends and byte-order marks."""
+    """Returns the lines of a file without line ends and byte-order marks."""
     octets, file = octets_of_file(name), "" if name == "-" else f"{name}: "
     encoding = encoding_of(octets)
     try:
         texts = octets.decode(encoding).split("\n")
     except UnicodeDecodeError as error:
         number = octets[:error.start].decode(encoding, "ignore").count("\n") + 1
-        raise Invalid(f"{file}line {number}", f"not {encoding}", octets[error.start:error.end].hex(" ")) from None
+        raise Invalid(f"{file}line {number}", f"invalid {encoding}", octets[error.start:error.end].hex(" ")) from None
     lines = []
     for number, text in enumerate(texts, 1):
         lines.append(Line(f"{file}line {number}", (text[:-1] if text.endswith("\r") else text).lstrip("\ufeff")))
@@ -150,8 +150,8 @@ def lines_of(name):
 
 
 def encoding_of(octets):
-    """Returns the encoding of a text: by its byte-order mark, by a NUL byte in its first character, or UTF-8. A text
-    that is not UTF-8 is Latin-1."""
+    """Returns the encoding of a text. A byte-order mark or a NUL byte in the first character decides it. Otherwise the
+    text is UTF-8, or Latin-1 if it is not valid UTF-8."""
     for mark, encoding in MARKED.items():
         if octets.startswith(mark):
             return encoding
@@ -177,7 +177,7 @@ def groups_of(lines):
 
 
 def form_of(group):
-    """Returns the form of a group's first line, and the parts of that line. The form of a comment is None."""
+    """Returns the form of a group's first line, and the parts of that line. For a comment the form is None."""
     for form, pattern in FORMS.items():
         found = pattern.fullmatch(group.stamp["what"])
         if found:
@@ -186,19 +186,19 @@ def form_of(group):
 
 
 class Clock:
-    """The time of each stamp in milliseconds, where the stamps come in order."""
+    """Converts date and time stamps, in their order, to milliseconds."""
 
     def __init__(self):
         self.form = self.last = None
         self.days = 0
 
     def time_of(self, group):
-        """Returns the time of a group. A time of day twelve hours or more before the last one is of the next day."""
+        """Returns the time of a group. A time of day that is twelve hours or more earlier is on the next day."""
         stamp = group.stamp
         form = stamp["date"] is not None, stamp["zone"] is not None
         self.form = self.form or form
         if form != self.form:
-            raise group.line.invalid("another form of date and time than before")
+            raise group.line.invalid("another date and time format than before")
         try:
             day = datetime(*map(int, (stamp["date"] or "2000-01-01").split("-")))
             now = day - datetime(2000, 1, 1) + time_of_day(stamp)
@@ -225,7 +225,7 @@ def time_of_day(stamp):
 
 
 class Converter:
-    """Converts groups to the lines of a session log, in which a message in SML is still a `Message`."""
+    """Converts groups to the lines of a session log. A message in SML is a `Message` until it is encoded."""
 
     def __init__(self, options):
         self.options = options
@@ -233,7 +233,7 @@ class Converter:
         self.first = None
 
     def entries_of(self, group):
-        """Yields the lines that a group becomes."""
+        """Yields the lines of the session log for a group."""
         if group.line is None:
             yield from self.comments(group.rest)
             return
@@ -257,7 +257,7 @@ class Converter:
         yield from self.comments(rest)
 
     def words_of(self, line, form, parts):
-        """Returns an entry without its time, unless it is a data message."""
+        """Returns the part of an entry after its time. The entry is not a data message."""
         if form == "control":
             return f"{MARKS[parts['mark']]} {control(line, parts, self.system_of(line, parts))}"
         if form == "t3":
@@ -268,28 +268,28 @@ class Converter:
         return self.options.comment is not None and self.options.comment.search(line.text) is not None
 
     def comments(self, lines):
-        """Yields lines as comments. Checks that none is meant as an entry."""
+        """Yields lines as comments. Checks that none of them is an entry."""
         for line in lines:
             stamp = STAMP.fullmatch(line.text.rstrip())
             if not self.is_comment(line):
                 if not stamp and OTHER_STAMP.match(line.text):
-                    raise line.invalid("not one of the known forms of date and time")
+                    raise line.invalid("expected a date and time like 2024-03-01 10:00:00.000")
                 if MEANT.search(stamp["what"] if stamp else line.text):
-                    raise line.invalid("not one of the known forms" if stamp else "no date and time")
+                    raise line.invalid("unknown line format" if stamp else "no date and time")
             yield self.comment(line)
 
     def comment(self, line):
-        """Returns a comment, cut to the longest line that the log may have."""
+        """Returns a comment, truncated to the maximum length of a line."""
         return f"# {line.text}".encode()[:2 * self.options.max + 64].decode(errors="ignore")
 
     def begin_of(self, time, form, group):
-        """Returns the time of an entry since the first one, which has to be `up`."""
+        """Returns the time of an entry since the first entry, which must be `up`."""
         if self.first is None:
             if form != "up":
                 raise group.line.invalid("an entry before the connection is up")
             self.first = time
         if time < self.first:
-            raise group.line.invalid("a time before that of the first entry")
+            raise group.line.invalid("the time is earlier than the first entry's")
         return time - self.first
 
     def system_of(self, line, parts):
@@ -301,25 +301,26 @@ class Converter:
             return f"{int(digits):08x}"
         digits = digits[2:] if digits.startswith("0x") else digits
         if len(digits) != 8:
-            raise line.invalid("system bytes are not eight hexadecimal digits (see --decimal)")
+            raise line.invalid("expected system bytes of eight hexadecimal digits (or use --decimal)")
         return digits.lower()
 
     def messages_of(self, line, octets):
-        """Yields the messages that a line shows one after the other, each without its length bytes, in digits."""
+        """Yields the consecutive messages of a line, each in hexadecimal without its length bytes."""
         if not octets:
-            raise line.invalid("not bytes in hexadecimal")
+            raise line.invalid("expected hexadecimal bytes")
         while octets:
             size, begin = int.from_bytes(octets[:4], "big"), 4
             if self.options.no_length:
                 if size == len(octets) - 4:
-                    raise line.invalid("this begins with its length: leave out --no-length", shown(octets))
+                    raise line.invalid("this message has length bytes: remove --no-length", shown(octets))
                 size, begin = len(octets), 0
             end = begin + size
             if len(octets) < end:
-                reason = "fewer bytes than its length says (--no-length if there is none)"
+                reason = "message length does not match its length bytes (if it has none: --no-length)"
                 raise line.invalid(reason, shown(octets))
             if not 10 <= size <= self.options.max:
-                raise line.invalid(f"a message of {size} bytes, not 10 to {self.options.max} (--max)", shown(octets))
+                reason = f"message length {size} is out of range 10 to {self.options.max} (--max)"
+                raise line.invalid(reason, shown(octets))
             yield octets[begin:end].hex()
             octets = octets[end:]
 
@@ -330,65 +331,65 @@ def shown(octets):
 
 
 def octets_of(group, parts):
-    """Returns the bytes that a group shows, and its lines that follow them."""
+    """Returns the bytes of a group, and the lines of the group after them."""
     octets = bytes.fromhex(parts["octets"])
     for row, line in enumerate(group.rest):
         dump, plain = DUMP.match(line.text), PLAIN.fullmatch(line.text)
         if dump:
             offset = dump["offset"]
             if len(octets) not in (int(offset, 16), int(offset) if offset.isdigit() else -1):
-                raise line.invalid(f"an offset of {offset} after {len(octets)} bytes")
+                raise line.invalid(f"unexpected offset {offset} after {len(octets)} bytes")
         elif not plain:
             if line.text[0].isspace():
-                raise line.invalid("not bytes in hexadecimal")
+                raise line.invalid("expected hexadecimal bytes")
             return octets, group.rest[row:]
         octets += bytes.fromhex((dump or plain)["octets"])
     return octets, []
 
 
 def control(line, parts, system):
-    """Returns a control message, in digits."""
+    """Returns a control message in hexadecimal."""
     name, status = parts["type"].lower(), parts["status"]
     if name not in S_TYPES:
-        raise line.invalid("a control message that cannot be made from its name")
+        raise line.invalid("unknown control message", parts["type"])
     if name == "select.rsp" and status is None:
-        raise line.invalid("a Select.rsp without its status")
+        raise line.invalid("Select.rsp without a status")
     if int(status or 0) > 255:
-        raise line.invalid("a status above 255")
+        raise line.invalid("status above 255")
     return f"ffff00{int(status or 0):02x}00{S_TYPES[name]:02x}{system}"
 
 
 def items_of(lines):
     """Returns items in SML as the notation that `hsms encode` reads."""
     text = "\n".join(line.text for line in lines)
-    words, kind, is_first, place, row = [], "", False, 0, 0
-    while place < len(text):
-        found = TOKEN.match(text, place)
+    words, kind, is_first, offset, row = [], "", False, 0, 0
+    while offset < len(text):
+        found = TOKEN.match(text, offset)
         if not found:
-            raise lines[row].invalid("not SML", text[place:].split("\n")[0])
-        token, place, line = found[0], found.end(), lines[row]
+            raise lines[row].invalid("invalid SML", text[offset:].split("\n")[0])
+        token, offset, line = found[0], found.end(), lines[row]
         row += token.count("\n")
         if token.isspace() or token.startswith(("/*", "//")):
             continue
-        if token == "." and place < len(text.rstrip()):
-            raise line.invalid("not SML", text[place - 1:].split("\n")[0])
+        if token == "." and offset < len(text.rstrip()):
+            raise line.invalid("invalid SML", text[offset - 1:].split("\n")[0])
         if token == "<":
             is_first = True
         elif is_first:
             kind, is_first = token.upper(), False
             if kind not in TYPES:
-                raise line.invalid("not an item type", token)
+                raise line.invalid("unknown item type", token)
             token = kind
         elif token not in (">", ".") and not token.startswith("["):
             if not kind:
-                raise line.invalid("not SML", token)
+                raise line.invalid("invalid SML", token)
             token = value_of(kind, token, line)
         words.append(token)
     return " ".join(words[:-1] if words[-1:] == ["."] else words)
 
 
 def value_of(kind, token, line):
-    """Returns a value as notation has it."""
+    """Returns a value in notation."""
     is_hex = token.lower().startswith("0x")
     if token[0] in "\"'":
         if not all(" " <= letter <= "~" for letter in token):
@@ -406,7 +407,7 @@ def value_of(kind, token, line):
         if is_hex and kind in ("A", "B", "J", "C2"):
             return f"0x{int(token, 16):02X}"
     except (KeyError, ValueError, OverflowError, struct.error):
-        raise line.invalid(f"not a value of {kind}", token) from None
+        raise line.invalid(f"invalid {kind} value", token) from None
     return token
 
 
@@ -429,14 +430,14 @@ def encoded(messages, options):
 
 
 def encode(messages, options):
-    """Returns what `hsms encode` writes of messages, each in digits without its length, and its error or None."""
+    """Returns the messages that `hsms encode` writes, in hexadecimal without length bytes, and its error or None."""
     words = [options.hsms, "encode", "--hex", "--max", str(options.max), "--device", str(options.device)]
     given = "\n".join(message.notation for message in messages).encode()
     quiet = {**os.environ, "HSMS_VERBOSE": "0"}
     try:
         ran = subprocess.run(words, input=given, stdout=subprocess.PIPE, stderr=subprocess.PIPE, env=quiet, check=False)
     except OSError as error:
-        raise Invalid("", f"{options.hsms}, which --hsms names, cannot be run", error.strerror) from None
+        raise Invalid("", f"cannot run {options.hsms} (--hsms)", error.strerror) from None
     error = ran.stderr.decode(errors="replace").strip().split("hsms: ")[-1]
     return [line[8:] for line in ran.stdout.decode().split()], error if ran.returncode else None
 
@@ -446,19 +447,19 @@ def log_of(lines, options):
     converter = Converter(options)
     entries = [entry for group in groups_of(lines) for entry in converter.entries_of(group)]
     if converter.first is None:
-        raise Invalid("", "no line is a connection, message or timeout", "")
+        raise Invalid("", "no connection, message or timeout found", "")
     texts = iter(encoded([entry for entry in entries if isinstance(entry, Message)], options))
     timers = f"{options.t3} {options.t6} {options.t7} {options.t8}"
     settings = f"hsms-log 2 {options.role} {options.link} {options.device} {timers} {options.max} {options.depth}"
     return [settings, *(next(texts) if isinstance(entry, Message) else entry for entry in entries)]
 
 
-def number_in(least, greatest):
+def number_in(minimum, maximum):
     """Returns the type of an option whose value is a number in a range."""
 
     def number(text):
-        if not (text.isascii() and text.isdigit() and least <= int(text) <= greatest):
-            raise argparse.ArgumentTypeError(f"not a number from {least} to {greatest}: {text}")
+        if not (text.isascii() and text.isdigit() and minimum <= int(text) <= maximum):
+            raise argparse.ArgumentTypeError(f"not a number from {minimum} to {maximum}: {text}")
         return int(text)
 
     return number
@@ -477,18 +478,21 @@ def parsed(arguments):
     parser = argparse.ArgumentParser(description=__doc__, formatter_class=argparse.RawDescriptionHelpFormatter)
     add = parser.add_argument
     add("files", nargs="*", metavar="FILE", help="a text log, or - for standard input (default)")
-    add("--role", choices=["host", "equipment"], default="host", help="what wrote the log (default host)")
-    add("--link", choices=["active", "passive"], default="active", help="it connects or listens (default active)")
-    add("--device", type=number_in(0, 32767), default=0, metavar="N", help="the device ID (default 0)")
+    add("--role", choices=["host", "equipment"], default="host", help="role of the end with the log (default host)")
+    modes = ["active", "passive"]
+    add("--link", choices=modes, default="active", help="active connects, passive listens (default active)")
+    add("--device", type=number_in(0, 32767), default=0, metavar="N", help="device ID (default 0)")
     for timer, default in {"t3": 45000, "t6": 6000, "t7": 10000, "t8": 5000}.items():
-        add(f"--{timer}", type=number_in(1, 3600000), default=default, metavar="MS", help=f"(default {default})")
-    add("--max", type=number_in(256, 33554432), default=1048576, metavar="N", help="bytes of the longest message")
-    add("--depth", type=number_in(1, 100), default=32, metavar="N", help="of lists in a message (default 32)")
+        about = f"{timer.upper()} in ms (default {default})"
+        add(f"--{timer}", type=number_in(1, 3600000), default=default, metavar="MS", help=about)
+    about = "maximum length of header and text in bytes (default 1048576)"
+    add("--max", type=number_in(256, 33554432), default=1048576, metavar="N", help=about)
+    add("--depth", type=number_in(1, 100), default=32, metavar="N", help="maximum nesting of lists (default 32)")
     add("--no-length", action="store_true", help="messages have no length bytes")
     add("--decimal", action="store_true", help="system bytes are decimal numbers")
-    about = "make a comment of a line in which this is found, and of the lines up to the next date and time"
+    about = "write lines that match PATTERN as comments, with their following lines up to the next date and time"
     add("--comment", type=pattern, metavar="PATTERN", help=about)
-    add("--hsms", default="hsms", metavar="PROGRAM", help="the program that encodes SML (default: hsms on the path)")
+    add("--hsms", default="hsms", metavar="PROGRAM", help="the program that encodes SML (default: hsms on the PATH)")
     return parser.parse_args(arguments)
 
 

@@ -192,9 +192,9 @@ numbered packet subsequent = codes "# packet " ++ (decimal packet ++ subsequent)
 -- its line, without the end
 comment_of : LogComment → List ℕ
 comment_of (remark.Packet packet) = numbered packet []
-comment_of remark.Replaced = codes "# replaced"
-comment_of remark.Assumption = codes "# supposed"
-comment_of (remark.LeftOut packet) = numbered packet (codes " left out: what it answers isn't in the capture")
+comment_of remark.Replaced = codes "# assumed: replaced by a new connection"
+comment_of remark.Assumption = codes "# assumed: before the capture"
+comment_of (remark.LeftOut packet) = numbered packet (codes " skipped: its request is not in the capture")
 
 numbered_ends : (packet : ℕ) (subsequent : List ℕ) → codes "# packet " ++ (decimal packet ++ (subsequent ++ 10 ∷ [])) ≡ numbered packet subsequent ++ 10 ∷ []
 unfolding numbered
@@ -205,7 +205,7 @@ unfolding comment_of
 comment_ends (remark.Packet packet) = numbered_ends packet []
 comment_ends remark.Replaced = refl
 comment_ends remark.Assumption = refl
-comment_ends (remark.LeftOut packet) = numbered_ends packet (codes " left out: what it answers isn't in the capture")
+comment_ends (remark.LeftOut packet) = numbered_ends packet (codes " skipped: its request is not in the capture")
 
 numbered_is : (packet : ℕ) (subsequent : List ℕ) → packet < 2 ^ 64 → on_line subsequent ≡ true → length subsequent ≤ 100 → IsComment (numbered packet subsequent)
 unfolding numbered
@@ -228,9 +228,9 @@ number_in (remark.LeftOut packet) = packet
 comment_is : (remark : LogComment) → number_in remark < 2 ^ 64 → IsComment (comment_of remark)
 unfolding comment_of
 comment_is (remark.Packet packet) small = numbered_is packet [] small refl (omega arith)
-comment_is remark.Replaced small = comment_from (codes "# replaced") refl refl (omega arith)
-comment_is remark.Assumption small = comment_from (codes "# supposed") refl refl (omega arith)
-comment_is (remark.LeftOut packet) small = numbered_is packet (codes " left out: what it answers isn't in the capture") small refl (omega arith)
+comment_is remark.Replaced small = comment_from (codes "# assumed: replaced by a new connection") refl refl (omega arith)
+comment_is remark.Assumption small = comment_from (codes "# assumed: before the capture") refl refl (omega arith)
+comment_is (remark.LeftOut packet) small = numbered_is packet (codes " skipped: its request is not in the capture") small refl (omega arith)
 
 pub passed : {E : Type 0} (result : Result (Unit {0}) E) (old new : CurrentState) (remark : LogComment) → number_in remark < 2 ^ 64
     → OnOk result ((comment : List ℕ) → IsComment comment → ProcessesInput (comment ++ 10 ∷ []) old new) → OnOk result (ProcessesInput (remark_text remark) old new)

@@ -16,9 +16,9 @@ use Rattle.capture_log.specs.declared.audited_log.LogComment.TheVariants as rema
 -- the comment above an entry, or in the place of one
 abbrev pub remark_text : LogComment → List ℕ
 remark_text (remark.Packet packet) = codes "# packet " ++ (decimal packet ++ 10 ∷ [])
-remark_text remark.Replaced = codes "# replaced\n"
-remark_text remark.Assumption = codes "# supposed\n"
-remark_text (remark.LeftOut packet) = codes "# packet " ++ (decimal packet ++ codes " left out: what it answers isn't in the capture\n")
+remark_text remark.Replaced = codes "# assumed: replaced by a new connection\n"
+remark_text remark.Assumption = codes "# assumed: before the capture\n"
+remark_text (remark.LeftOut packet) = codes "# packet " ++ (decimal packet ++ codes " skipped: its request is not in the capture\n")
 
 -- an entry of a log, and the comment above it, or a comment alone
 pub record Note : Type 0 where

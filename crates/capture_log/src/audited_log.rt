@@ -346,8 +346,8 @@ pub fn append_remark(text: &mut Text, remark: LogComment) -> Result<(), AllocErr
 {
     match remark {
         LogComment::Packet(packet) => append_packet(text, packet),
-        LogComment::Replaced => text.append_chunk(b"# replaced\n"),
-        LogComment::Assumption => text.append_chunk(b"# supposed\n"),
+        LogComment::Replaced => text.append_chunk(b"# assumed: replaced by a new connection\n"),
+        LogComment::Assumption => text.append_chunk(b"# assumed: before the capture\n"),
         LogComment::LeftOut(packet) => append_skipped(text, packet),
     }
 }
@@ -381,7 +381,7 @@ fn append_skipped(text: &mut Text, packet: u64) -> Result<(), AllocError>
     ensures kept { OnErr result (Leads text.old.octets text.new.octets) }
 {
     append_number(text, packet)?;
-    text.append_chunk(b" left out: what it answers isn't in the capture\n")
+    text.append_chunk(b" skipped: its request is not in the capture\n")
 }
 
 // Lays the line of an entry behind a text.

@@ -1,4 +1,4 @@
--- Behind a VLAN tag, and behind an extension header.
+-- What follows a VLAN tag or an extension header.
 use Rattle.std.proofs.Common.{◌≡◌, ◌≢◌, ℕ, zero, suc, ◌+◌, ◌-◌, ◌*◌, ◌<◌, ◌≤◌, true, false, List, length, slice_index, refl, arith}
 use Rattle.std.proofs.lemmas.Bool.{lt-ltb, le-ltb}
 use Rattle.capture_pcap.specs.ByteOrder.{big_at}

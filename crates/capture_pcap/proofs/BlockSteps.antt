@@ -1,4 +1,4 @@
--- A file that is read in blocks: what a step tells is what was to be told.
+-- A file that is read in blocks: a step emits what was to be emitted.
 use Rattle.std.proofs.Common.{◌≡◌, inl, inr, min, ◌≤◌, ◌<◌, ◌+◌, ◌-◌, ◌++◌, ◌∙◌, ℕ, Bool, true, false, List, [], ◌∷◌, length, take, drop, Option, None, Some, Result, Ok, Err, refl, sym, ap, subst, arith}
 use Rattle.std.proofs.lemmas.List.{append_assoc, take-append-drop, append-nil, append_cancel_left, drop-append-le, drop-take, length-take-le, take-take}
 use Rattle.hsms_frame.specs.Io.{IfRecorded, IsAtEnd, Stays}
@@ -21,19 +21,19 @@ use Rattle.capture_pcap.proofs.UnchangedBlocks.{found_stays, fault_stays, packet
 
 -- ---- reading more
 
--- more octets were read behind those that were read before
+-- More bytes were read after those that were read before.
 pub more_on : (before mid now input : List ℕ) (left new : Option (List ℕ)) → ReadsMore before input mid left
     → IfRecorded left (λ rest. ReadsMore mid rest now new) → ReadsMore before input now new
 more_on before mid now input left new (rest, known_input, same) more =
     let m = more rest known_input in (m.0, m.1, same ∙ m.2)
 
--- nothing more was read
+-- Nothing more was read.
 pub more_stays : (before mid now input : List ℕ) (left new : Option (List ℕ)) → ReadsMore before input mid left → now ≡ mid → Stays left new
     → ReadsMore before input now new
 more_stays before mid now input left new (rest, known_input, same) is stays =
     (rest, stays rest known_input, same ∙ ap (λ (l : List ℕ). l ++ rest) (sym is))
 
--- the input ends
+-- The input ends.
 pub all_read : (before mid now input : List ℕ) (left new : Option (List ℕ)) → ReadsMore before input mid left → now ≡ mid → IsAtEnd left
     → IfRecorded left (λ rest. ReadsMore mid rest now new) → ReadsAll before input now new
 all_read before mid now input left new (rest, known_input, same) is ended more =
@@ -93,7 +93,7 @@ is_open (Ok (front.Described i size)) e = absurd cc
 is_open (Ok (front.Passed counts size)) e = absurd cc
 is_open (Err f) e = absurd cc
 
--- more octets are needed only where few are there
+-- More bytes are needed only if there are few.
 pub open_short : (s : State) (octets : List ℕ) (found : Result Front CaptureFault) (b : Bool) → found ≡ front_at s octets → b ≡ is_more found → b ≡ true
     → length octets < 16777232
 open_short s octets found b found_is b_is is =
@@ -162,7 +162,7 @@ step_reads s ahead rest f fs others ending is some reads =
       ),
     )
 
--- a record or block was passed
+-- A record or block was passed.
 pub passed_reported : (was now : Reading) (ahead input rest : List ℕ) (f : Front) (left : Option (List ℕ)) → was.ahead ++ input ≡ ahead ++ rest
     → left ≡ Some rest → front_at was.state ahead ≡ Ok f → 0 < size_of f → now.state ≡ after was.state f → now.ahead ≡ drop (size_of f) ahead
     → Emits (ReadsOn was input) (packets_in was.state ahead f) now left
@@ -180,7 +180,7 @@ passed_reported was now ahead input rest f left parts left_is is some state_is a
       ),
 )
 
--- nothing was passed
+-- Nothing was passed.
 pub nothing_reported : (was now : Reading) (input rest : List ℕ) (left : Option (List ℕ)) → was.ahead ++ input ≡ now.ahead ++ rest → left ≡ Some rest
     → now.state ≡ was.state → Emits (ReadsOn was input) [] now left
 nothing_reported was now input rest left parts left_is state_is = (
@@ -197,18 +197,18 @@ ends_here : (s : State) (octets : List ℕ) (e : Ending) → EndsAs s octets e �
 unfolding Reads
 ends_here s octets e ends = (refl, ends)
 
--- it ends, and these are all its octets
+-- The file ends, and these are all its bytes.
 pub ended_on : (was : Reading) (input ahead : List ℕ) (e : Ending) → was.ahead ++ input ≡ ahead → EndsAs was.state ahead e → ReadsOn was input [] e
 ended_on was input ahead e parts ends =
     ([], subst (λ (l : List ℕ). Reads [] was.state l [] e) (sym parts) (ends_here was.state ahead e ends))
 
--- a fault is there, whatever follows
+-- There is an error, whatever follows.
 pub fault_on : (was : Reading) (input ahead rest : List ℕ) (f : CaptureFault) (place : ℕ) → was.ahead ++ input ≡ ahead ++ rest
     → front_at was.state ahead ≡ Err f → place ≡ was.state.place → ReadsOn was input [] (faulty was.state.packets place f)
 fault_on was input ahead rest f place parts is place_is =
     ended_on was input (ahead ++ rest) (faulty was.state.packets place f) parts (fault_stays was.state ahead rest f is, place_is, refl)
 
--- a step that passes nothing
+-- A step that passes nothing.
 pub stopped_steps : (was now : Reading) (input ahead : List ℕ) (f : FileFault) (left : Option (List ℕ))
     → ReadsFor {T = Front} (Err f) was.ahead input ahead left → FindsFront was.state ahead (Err f) → now.state ≡ was.state → now.ahead ≡ ahead
     → StepsAs was input (Err f) now left
@@ -227,14 +227,14 @@ stopped_steps was now input ahead stop.Read left read found state_is ahead_is =
 stopped_steps was now input ahead stop.Memory left read found state_is ahead_is =
     nothing_reported was now input read.0 left (read.2 ∙ ap (λ (l : List ℕ). l ++ read.0) (sym ahead_is)) read.1 state_is
 
--- the last step
+-- The last step.
 pub ended_steps : (was now : Reading) (input ahead : List ℕ) (left : Option (List ℕ)) → ReadsAll was.ahead input ahead left → ahead ≡ []
     → now.state ≡ was.state → now.ahead ≡ ahead → StepsAs was input (Ok step.End) now left
 ended_steps was now input ahead left read none state_is ahead_is =
     let parts : was.ahead ++ input ≡ now.ahead ++ [] = read.1 ∙ sym ahead_is ∙ sym (append-nil now.ahead) in
     (nothing_reported was now input [] left parts read.0 state_is, ended_on was input ahead complete read.1 none, read.0)
 
--- a part of a front's octets is that of all octets
+-- A part of the bytes of a record or block is that part of all bytes.
 within_front : (body held size : ℕ) (xs : List ℕ) → body + held ≤ size → take held (drop body (take size xs)) ≡ take held (drop body xs)
 within_front body held size xs fits =
     let parts : size ≡ body + (size - body) = omega (arith, fits) in
@@ -250,7 +250,7 @@ packet_is s now ahead last r n now_is n_is last_is fits =
     ap (λ (l : List ℕ). take r.held (drop r.body l)) last_is ∙ within_front r.body r.held r.size ahead fits in
     rw (number, octets) refl
 
--- a step that passes a record or block
+-- A step that passes a record or block.
 pub passed_steps : (was now : Reading) (input ahead : List ℕ) (f : Front) (n : ℕ) (known_input : Step) (left : Option (List ℕ)) → ReadsMore was.ahead input ahead left
     → front_at was.state ahead ≡ Ok f → 0 < size_of f → now.state ≡ after was.state f → now.ahead ≡ drop (size_of f) ahead → now.last ≡ take (size_of f) ahead
     → n ≡ now.state.packets → known_input ≡ step_of n f → StepsAs was input (Ok known_input) now left
@@ -268,7 +268,7 @@ passed_steps was now input ahead f n known_input left read is some state_is ahea
     by_front (front.Described i size) is some state_is last_is emits = emits
     by_front (front.Passed counts size) is some state_is last_is emits = emits
 
--- ---- the first octets
+-- ---- the first bytes
 
 opening_stays : (ahead rest : List ℕ) (f : Format) (size : ℕ) → opening_at ahead ≡ Ok (opening.Opened f size) → opening_at (ahead ++ rest) ≡ Ok (opening.Opened f size)
 opening_stays ahead rest f size is = by_keeps (opening_keeps ahead rest)
@@ -314,7 +314,7 @@ not_opened input ahead stop.CutOff left read found =
 not_opened input ahead stop.Read left (rest, left_is, parts) found = (ahead, rest, parts, left_is)
 not_opened input ahead stop.Memory left (rest, left_is, parts) found = (ahead, rest, parts, left_is)
 
--- ---- a step, by what is known where it returns
+-- ---- a step, by what is known when it returns
 
 pub err_step : (was now : Reading) (s : State) (before ahead input : List ℕ) (f : FileFault) (left : Option (List ℕ)) → s ≡ was.state → before ≡ was.ahead
     → ReadsFor {T = Front} (Err f) before input ahead left → FindsFront s ahead (Err f) → now.state ≡ s → now.ahead ≡ ahead → StepsAs was input (Err f) now left
@@ -352,7 +352,7 @@ step_is_within s ahead f n size known_input found size_is reported_is =
     by_front (front.Described i size) is len = tt
     by_front (front.Passed counts size) is len = tt
 
--- how many packets were passed
+-- The number of packets that were passed.
 pub counts_on : (s now : State) (f : Front) (n : ℕ) (known_input : Step) → now ≡ after s f → n ≡ now.packets → known_input ≡ step_of n f → CountsOn known_input s.packets now.packets
 counts_on s now f n known_input now_is n_is reported_is =
     subst (λ (t : Step). CountsOn t s.packets now.packets) (sym reported_is) (by_front f (ap (λ (t : State). t.packets) now_is))

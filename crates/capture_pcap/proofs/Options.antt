@@ -10,13 +10,13 @@ pub positive : (n : ℕ) → 0 < 10 ^ n
 positive zero = omega arith
 positive (suc n) = omega (arith, positive n)
 
--- fewer than four octets
+-- Fewer than four bytes.
 pub too_few : (n : ℕ) (o : Order) (rest : List ℕ) (i : Interface) → length rest < 4 → options_at n o rest i ≡ i
 unfolding options_at
 too_few zero o rest i h = refl
 too_few (suc n) o rest i h = rw (lt-ltb (length rest) 4 h) refl
 
--- the last one
+-- The last option.
 pub at_end : (n : ℕ) (o : Order) (rest : List ℕ) (i : Interface) → number_in o 2 rest ≡ 0 → options_at n o rest i ≡ i
 unfolding options_at
 at_end zero o rest i h = refl
@@ -27,7 +27,7 @@ at_end (suc n) o rest i h = by_few (nat_lt (length rest) 4)
     by_few true = refl
     by_few false = rw (eq-eqb (number_in o 2 rest) 0 h) refl
 
--- a value that isn't there whole
+-- An incomplete value.
 pub unfinished : (n : ℕ) (o : Order) (rest : List ℕ) (i : Interface) → 4 ≤ length rest → number_in o 2 rest ≢ 0
     → length rest - 4 < (number_in o 2 (drop 2 rest) + 3) / 4 * 4 → options_at n o rest i ≡ i
 unfolding options_at
@@ -35,7 +35,7 @@ unfinished zero o rest i enough some short = refl
 unfinished (suc n) o rest i enough some short =
     rw (le-ltb (length rest) 4 enough, ne_eqb (number_in o 2 rest) 0 some, lt-ltb (length rest - 4) ((number_in o 2 (drop 2 rest) + 3) / 4 * 4) short) refl
 
--- the options behind the first
+-- The options after the first.
 pub can_continue : (n : ℕ) (o : Order) (rest : List ℕ) (i : Interface) → 4 ≤ length rest → number_in o 2 rest ≢ 0
     → (number_in o 2 (drop 2 rest) + 3) / 4 * 4 ≤ length rest - 4
     → options_at (suc n) o rest i ≡ options_at n o (drop (4 + (number_in o 2 (drop 2 rest) + 3) / 4 * 4) rest)
@@ -44,12 +44,12 @@ unfolding options_at
 can_continue n o rest i enough some there =
     rw (le-ltb (length rest) 4 enough, ne_eqb (number_in o 2 rest) 0 some, le-ltb (length rest - 4) ((number_in o 2 (drop 2 rest) + 3) / 4 * 4) there) refl
 
--- a packet's interface was found
+-- A packet's interface was found.
 pub found : (o : Order) (g : Option Interface) (i : Interface) (size : ℕ) (octets : List ℕ) → g ≡ Some i
     → packet_at o (Some i) (ticks_of i.resolution) size octets ≡ packet_at o g (ticks_at g) size octets
 found o g i size octets e = ap (λ (g : Option Interface). packet_at o g (ticks_at g) size octets) (sym e)
 
--- one turn of the loop over the options
+-- One iteration of the loop over the options.
 pub step : (total counter : ℕ) (o : Order) (rest : List ℕ) (i : Interface) (code size : ℕ) (value subsequent : List ℕ) (j goal : Interface)
     → counter < total → 4 ≤ length rest → code ≡ number_in o 2 rest → code ≢ 0 → size ≡ number_in o 2 (drop 2 rest)
     → (size + 3) / 4 * 4 ≤ length rest - 4 → value ≡ take size (drop 4 rest) → subsequent ≡ drop (4 + (size + 3) / 4 * 4) rest → j ≡ with_option o code value i

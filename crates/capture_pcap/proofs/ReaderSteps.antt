@@ -1,4 +1,4 @@
--- What is found at a file's front lies within the octets and isn't empty; so each file is read.
+-- The record or block that is found is within the bytes and not empty; so each file has a reading.
 use Rattle.std.proofs.Common.{◌≡◌, ◌≤◌, ◌<◌, ◌+◌, ◌-◌, ◌%◌, ◌==◌, ◌++◌, ℕ, zero, suc, Bool, true, false, not, cond, nat_lt, min, Option, None, Some, List, [], ◌∷◌, length, drop, slice_get, Result, Ok, Err, refl, subst, arith}
 use Rattle.std.proofs.lemmas.Bool.{ltb-true, ltb-false}
 use Rattle.std.proofs.lemmas.List.{length-drop}
@@ -17,7 +17,7 @@ use Rattle.capture_pcap.specs.NextBlock.{greatest, pcap_at, pcapng_at, packet_at
 use Rattle.capture_pcap.specs.BlockReader.{Reading, ReadsOn}
 use Rattle.capture_pcap.specs.File.{State, Packet, Ending, complete, cut, faulty, Reads, ReadsAfter, ReadsFile, front_at, front_by, size_of, after, packets_in, new_state, opening_at, pcap_opening_at}
 
--- it lies within so many octets, and isn't empty
+-- Holds if it is within the first n bytes, and is not empty.
 abbrev pub IsSound : ℕ → Front → Type 0
 IsSound n front.More = Unit {0}
 IsSound n (front.Packet r) = (r.body + r.held ≤ r.size) × (r.size ≤ n) × (0 < r.size)
@@ -32,7 +32,8 @@ size_is_within n (front.Begun o size) sound = sound.0
 size_is_within n (front.Described i size) sound = sound.0
 size_is_within n (front.Passed counts size) sound = sound.0
 
--- what holds of each answer: one of a front, where more octets are needed, fewer are there than any front has
+-- What holds of each result for a record or block: if more bytes are needed, there are fewer than in any record or
+-- block.
 abbrev pub IsFair : ℕ → Result Front CaptureFault → Type 0
 IsFair n (Ok front.More) = n < 16 + greatest
 IsFair n (Ok (front.Packet r)) = IsSound n (front.Packet r)
@@ -59,7 +60,7 @@ pcap_fair o parts link xs =
     let some = ltb-false (length xs) 16 there in
     (omega arith, omega (arith, le, some), omega arith))))
 
--- a block's length, where it is there whole
+-- A block's length, if the block is complete.
 abbrev pub IsSize : ℕ → Result (Option ℕ) CaptureFault → Type 0
 IsSize n (Ok None) = n < 16 + greatest
 IsSize n (Ok (Some size)) = (12 ≤ size) × (size ≤ n)
@@ -163,9 +164,9 @@ front_is_sound s xs f e = fair_sound (length xs) f (subst (λ r. IsFair (length 
 pub open_is_short : (s : State) (xs : List ℕ) → front_at s xs ≡ Ok front.More → length xs < 16 + greatest
 open_is_short s xs e = subst (λ r. IsFair (length xs) r) e (front_fair s.format s.interfaces xs)
 
--- ---- the first octets
+-- ---- the first bytes
 
--- the header is there whole
+-- Holds if the header is complete.
 abbrev pub IsThere : ℕ → Result Opening CaptureFault → Type 0
 IsThere n (Ok opening.More) = n < 24
 IsThere n (Ok (opening.Opened f size)) = size ≤ n
@@ -199,7 +200,7 @@ opening_is_there xs f size e = subst (λ r. IsThere (length xs) r) e (opening_th
 pub opening_is_short : (xs : List ℕ) → opening_at xs ≡ Ok opening.More → length xs < 24
 opening_is_short xs e = subst (λ r. IsThere (length xs) r) e (opening_there xs)
 
--- ---- each file is read
+-- ---- each file has a reading
 
 abbrev pub IsRead : State → List ℕ → Type 0
 IsRead s octets = (fs : List Front) × (packets : List Packet) × (ending : Ending) × Reads fs s octets packets ending

@@ -1,4 +1,4 @@
--- What was told of a file's front stays where more octets come.
+-- What was read from a prefix of a file stays valid if more bytes follow.
 use Rattle.std.proofs.Common.{◌≡◌, ◌⊎◌, inl, inr, ◌≤◌, ◌<◌, ◌+◌, ◌-◌, ◌%◌, ◌==◌, ◌++◌, ◌∙◌, ℕ, zero, suc, Bool, true, false, not, cond, nat_lt, Option, None, Some, List, [], ◌∷◌, length, take, drop, slice_get, slice_index, Result, Ok, Err, refl, sym, ap, subst, arith}
 use Rattle.std.proofs.lemmas.Bool.{le-ltb, ltb-false}
 use Rattle.std.proofs.lemmas.List.{append_assoc, drop-append-le, get_or_append_left, length-append, length-drop, take-append-le}
@@ -46,13 +46,13 @@ number_stays o n k xs ys within =
     let subsequent : n ≤ length (drop k xs) = omega (arith, within, length-drop k xs) in
     ap (λ (l : List ℕ). number_in o n l) (drop-append-le k xs ys there) ∙ first_stays o n (drop k xs) ys subsequent
 
--- ---- what is open, and what stays
+-- ---- open results, and what stays
 
--- more octets change an answer only where it is open
+-- Holds if more bytes change a result only if it is open.
 abbrev pub Keeps : {T : Type 0} → T → Result T CaptureFault → Result T CaptureFault → Type 0
 Keeps hole short long = (short ≡ Ok hole) ⊎ (long ≡ short)
 
--- an answer that is open where octets are too few
+-- A result that is open if there are too few bytes.
 few_keeps : {T : Type 0} (hole : T) (few still : Bool) (x y long : Result T CaptureFault) → x ≡ Ok hole → (few ≡ false → still ≡ false)
     → (few ≡ false → Keeps hole y long) → Keeps hole (cond few x y) (cond still x long)
 few_keeps hole true still x y long is can_continue keeps = inl is
@@ -205,7 +205,7 @@ pub front_keeps : (f : Format) (interfaces : List Interface) (xs ys : List ℕ) 
 front_keeps (format.Pcap o parts link) interfaces xs ys = pcap_keeps o parts link xs ys
 front_keeps (format.Pcapng o) interfaces xs ys = pcapng_keeps o interfaces xs ys
 
--- ---- the first octets
+-- ---- the first bytes
 
 opening_of_keeps : (o : Order) (parts : ℕ) (xs ys : List ℕ) → Keeps opening.More (Ok (pcap_opening_at o parts xs)) (Ok (pcap_opening_at o parts (xs ++ ys)))
 opening_of_keeps o parts xs ys = by_size (nat_lt (length xs) 24) refl
@@ -229,7 +229,7 @@ opening_keeps xs ys =
 
 -- ---- the packets of a file
 
--- what was found at the front, or a fault, stays
+-- What was found at the start, or an error, stays.
 pub found_stays : (s : State) (xs ys : List ℕ) (f : Front) → front_at s xs ≡ Ok f → 0 < size_of f → front_at s (xs ++ ys) ≡ Ok f
 found_stays s xs ys f is some = by_keeps (front_keeps s.format s.interfaces xs ys)
   where
@@ -262,7 +262,7 @@ stays_after first packets others complete other (rest, is) = (rest, ap (λ (l : 
 stays_after first packets others (cut count) other (rest, is) = (rest, ap (λ (l : List Packet). first ++ l) is ∙ sym (append_assoc first packets rest))
 stays_after first packets others (faulty count place f) other (is, same) = (ap (λ (l : List Packet). first ++ l) is, same)
 
--- nothing was told yet
+-- Nothing was emitted yet.
 ends_stays : (gs : List Front) (s : State) (xs ys : List ℕ) (others : List Packet) (e other : Ending) → EndsAs s xs e → Reads gs s (xs ++ ys) others other
     → StaysReported [] e others other
 unfolding Reads

@@ -1,4 +1,4 @@
--- A file has one reading.
+-- A file has exactly one reading.
 use Rattle.std.proofs.Common.{◌≡◌, ◌<◌, ◌++◌, ◌∙◌, ℕ, List, [], ◌∷◌, length, drop, Result, Ok, Err, refl, sym, ap, subst, arith}
 use Rattle.capture_pcap.specs.declared.next_block.Front.{Front}
 use Rattle.capture_pcap.specs.declared.next_block.Front.TheVariants as front
@@ -11,7 +11,7 @@ use Rattle.capture_pcap.specs.declared.block_reader.Opening.TheVariants as openi
 use Rattle.capture_pcap.specs.NextBlock.{pcap_at, pcapng_at}
 use Rattle.capture_pcap.specs.File.{State, Packet, Ending, complete, cut, faulty, EndsAs, Reads, ReadsAfter, ReadsFile, front_at, front_by, size_of, after, packets_in, new_state, opening_at}
 
--- of no octets nothing is told
+-- No bytes give no record or block.
 nothing_by : (f : Format) (is : List Interface) → front_by f is [] ≡ Ok front.More
 unfolding pcap_at pcapng_at
 nothing_by (format.Pcap o parts link) is = refl
@@ -20,7 +20,7 @@ nothing_by (format.Pcapng o) is = refl
 nothing_there : (s : State) (octets : List ℕ) → octets ≡ [] → front_at s octets ≡ Ok front.More
 nothing_there s octets e = ap (λ (l : List ℕ). front_at s l) e ∙ nothing_by s.format s.interfaces
 
--- where more octets are needed there is no record or block
+-- If more bytes are needed, there is no record or block.
 has_no_size : (f : Front) → front.More ≡ f → 0 < size_of f → ⊥
 has_no_size f e p = let q : 0 < 0 = subst (λ (x : Front). 0 < size_of x) (sym e) p in omega (arith, q)
 

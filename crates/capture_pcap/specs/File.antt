@@ -14,23 +14,23 @@ use Rattle.capture_pcap.specs.declared.block_reader.Opening.TheVariants as openi
 use Rattle.capture_pcap.specs.ByteOrder.{number_in}
 use Rattle.capture_pcap.specs.NextBlock.{pcap_at, pcapng_at}
 
--- ---- the first octets
+-- ---- the first bytes
 
--- the header of a pcap file: magic, version, four octets each of zone and accuracy, the greatest length, the link type,
--- of which the lowest 16 bits count
+-- The header of a pcap file: magic, version, four bytes each of zone and accuracy, the snapshot length, and the link
+-- type, of which only the lowest 16 bits count.
 abbrev pub pcap_opening_at : Order → ℕ → List ℕ → Opening
 pcap_opening_at o parts octets =
     if nat_lt (length octets) 24 then opening.More else
     opening.Opened (format.Pcap o parts (number_in o 4 (drop 20 octets) % 65536)) 24
 
--- a file that is no capture is refused by what it is, where its first four octets tell that
+-- The error for a file that is not a capture, by its kind if its first four bytes show it.
 abbrev pub no_capture : ℕ → CaptureFault
 no_capture magic =
     if magic == 0x28b52ffd then fault.Zstd else
     (if magic / 65536 == 0x1f8b then fault.Gzip else fault.Unknown)
 
--- A file of pcap begins with its magic number, in the order of all its numbers, with micro- or nanoseconds; one of pcapng
--- with a section's header, which tells the order.
+-- A pcap file starts with its magic number, in the byte order of all its numbers, with micro- or nanoseconds. A pcapng
+-- file starts with a section's header, which gives the order.
 unfoldable pub opening_at : List ℕ → Result Opening CaptureFault
 opening_at octets =
     if nat_lt (length octets) 4 then Ok opening.More else
@@ -41,9 +41,9 @@ opening_at octets =
     (if number_in order.Big 4 octets == 0x0a0d0d0a then Ok (opening.Opened (format.Pcapng order.Little) 0) else
     Err (no_capture (number_in order.Big 4 octets)))))))
 
--- ---- what comes behind
+-- ---- what follows
 
--- what is known in the midst of a file; the counts stay at their greatest value
+-- The state of reading a file. The counts saturate.
 pub record State : Type 0 where
   pub format : Format
   pub interfaces : List Interface
@@ -70,7 +70,7 @@ size_of (front.Begun o size) = size
 size_of (front.Described i size) = size
 size_of (front.Passed counts size) = size
 
--- what is known behind it, but for the place
+-- The state after a record or block, except for the offset.
 abbrev pub derived_from : State → Front → State
 derived_from s front.More = s
 derived_from s (front.Packet r) = record s { packets = min (s.packets + 1) greatest_count }
@@ -81,7 +81,7 @@ derived_from s (front.Passed counts size) = if counts then record s { packets = 
 abbrev pub after : State → Front → State
 after s f = record (derived_from s f) { place = min (s.place + size_of f) greatest_count }
 
--- a packet with its number, counted from 1; the numbers stay at their greatest value
+-- A packet with its number, counted from 1. The numbers saturate.
 pub record Packet : Type 0 where
   pub number : ℕ
   pub time : Option ℕ
@@ -97,8 +97,8 @@ packets_in s octets (front.Begun o size) = []
 packets_in s octets (front.Described i size) = []
 packets_in s octets (front.Passed counts size) = []
 
--- how a file ends: with a whole record or block; within one, behind so many packets; or where one has a fault, behind so
--- many packets, at this place
+-- How a file ends: after a complete record or block; within one, after this number of packets; or with an invalid one,
+-- after this number of packets, at this offset.
 pub data Ending : Type 0 where
   complete : Ending
   cut : ℕ → Ending
@@ -109,27 +109,27 @@ EndsAs s octets complete = octets ≡ []
 EndsAs s octets (cut count) = (0 < length octets) × (front_at s octets ≡ Ok front.More) × (count ≡ s.packets)
 EndsAs s octets (faulty count place f) = (front_at s octets ≡ Err f) × (place ≡ s.place) × (count ≡ s.packets)
 
--- octets are these records or blocks, in order, and then end; they have these packets
+-- Holds if the bytes are these records or blocks, in order, with this ending, and these are their packets.
 unfoldable pub Reads : List Front → State → List ℕ → List Packet → Ending → Type 0
 Reads [] s octets packets ending = (packets ≡ []) × EndsAs s octets ending
 Reads (f ∷ fs) s octets packets ending =
     (0 < size_of f) × (front_at s octets ≡ Ok f)
     × ((rest : List Packet) × (packets ≡ packets_in s octets f ++ rest) × Reads fs (after s f) (drop (size_of f) octets) rest ending)
 
--- a file that begins so has these packets, and ends so
+-- Holds if a file with this start has these packets and this ending.
 abbrev pub ReadsAfter : Result Opening CaptureFault → List ℕ → List Packet → Ending → Type 0
 ReadsAfter (Ok opening.More) octets packets ending = (packets ≡ []) × (ending ≡ cut 0)
 ReadsAfter (Ok (opening.Opened f size)) octets packets ending =
     (fs : List Front) × Reads fs (new_state f size) (drop size octets) packets ending
 ReadsAfter (Err f) octets packets ending = (packets ≡ []) × (ending ≡ faulty 0 0 f)
 
--- the packets of a file, and how it ends
+-- Holds if these are the file's packets and its ending.
 abbrev pub ReadsFile : List ℕ → List Packet → Ending → Type 0
 ReadsFile octets packets ending = ReadsAfter (opening_at octets) octets packets ending
 
--- ---- what a reader promises besides
+-- ---- what a reader also promises
 
--- what was found is there whole
+-- Holds if the record or block that was found is complete.
 abbrev pub IsWithin : ℕ → Front → Type 0
 IsWithin n front.More = Unit {0}
 IsWithin n (front.Packet r) = (r.body + r.held ≤ r.size) × (r.size ≤ n)
@@ -137,12 +137,12 @@ IsWithin n (front.Begun o size) = size ≤ n
 IsWithin n (front.Described i size) = size ≤ n
 IsWithin n (front.Passed counts size) = size ≤ n
 
--- a millisecond has some parts
+-- Holds if a millisecond has at least one part.
 abbrev pub HasParts : Format → Type 0
 HasParts (format.Pcap o parts link) = 0 < parts
 HasParts (format.Pcapng o) = Unit {0}
 
--- the header is there whole
+-- Holds if the header is complete.
 abbrev pub HasOpened : ℕ → Opening → Type 0
 HasOpened n opening.More = Unit {0}
 HasOpened n (opening.Opened f size) = HasParts f × (size ≤ n)

@@ -1,4 +1,4 @@
--- What stands at the front of a capture file: pcap (a record) and pcapng (a block).
+-- The next record (pcap) or block (pcapng) of a capture file.
 use Rattle.std.specs.Prelude.{ℕ, zero, suc, ◌+◌, ◌-◌, ◌*◌, ◌/◌, ◌%◌, ◌^◌, ◌==◌, ◌||◌, ◌&&◌, min, slice_get, Bool, nat_lt, not, if◌then◌else◌, List, length, take, drop, slice_index, Option, Some, None, Result, Ok, Err}
 use Rattle.capture_pcap.specs.declared.byte_order.Order.{Order}
 use Rattle.capture_pcap.specs.declared.byte_order.Order.TheVariants as order
@@ -9,14 +9,14 @@ use Rattle.capture_pcap.specs.declared.fault.CaptureFault.{CaptureFault}
 use Rattle.capture_pcap.specs.declared.fault.CaptureFault.TheVariants as fault
 use Rattle.capture_pcap.specs.ByteOrder.{number_in}
 
--- no record or block of a file that is read is longer
+-- The maximum length of a record or block that is read.
 abbrev pub greatest : ℕ
 greatest = 0x1000000
 
 -- ---- pcap
 
--- The record at the front: seconds, a part of a second of which `parts` are a millisecond, how many octets are held, how
--- many the packet had, the octets. More octets are needed where it isn't there whole.
+-- The record at the start: seconds, a fraction of a second of which `parts` are a millisecond, the captured length, the
+-- packet's length, and the bytes. If the record is incomplete, more bytes are needed.
 unfoldable pub pcap_at : Order → ℕ → ℕ → List ℕ → Result Front CaptureFault
 pcap_at o parts link octets =
     if nat_lt (length octets) 16 then Ok front.More else
@@ -33,27 +33,27 @@ pcap_at o parts link octets =
 
 -- ---- pcapng
 
--- how many ticks a second has: a power of ten, or of two where the highest bit is set
+-- The number of ticks in a second: a power of two if the highest bit is set, otherwise a power of ten.
 abbrev pub ticks_of : ℕ → Option ℕ
 ticks_of resolution =
     if nat_lt resolution 20 then Some (10 ^ resolution) else
     (if nat_lt resolution 128 then None else
     (if nat_lt resolution 192 then Some (2 ^ (resolution - 128)) else None))
 
--- milliseconds since 1970, not below 0; the offset is in seconds, in two's complement of 64 bits
+-- Milliseconds since 1970, not below 0. The offset is in seconds, in two's complement of 64 bits.
 abbrev pub milliseconds_of : ℕ → ℕ → ℕ → ℕ
 milliseconds_of per_second offset ticks =
     if nat_lt offset (2 ^ 63) then ticks * 1000 / per_second + offset * 1000 else ticks * 1000 / per_second - (2 ^ 64 - offset) * 1000
 
 -- ---- options of an interface
 
--- an option changes what is known of the interface
+-- The interface after an option.
 abbrev pub with_option : Order → ℕ → List ℕ → Interface → Interface
 with_option o code value i =
     if (code == 9) && (length value == 1) then record i { resolution = slice_index value 0 } else
     (if (code == 14) && (length value == 8) then record i { offset = number_in o 8 value } else i)
 
--- each option: a code, a length, a value filled up to whole words; 0 ends them
+-- Each option has a code, a length, and a value that is padded to whole words. Code 0 ends the options.
 unfoldable pub options_at : ℕ → Order → List ℕ → Interface → Interface
 options_at zero o octets i = i
 options_at (suc n) o octets i =
@@ -63,9 +63,9 @@ options_at (suc n) o octets i =
     options_at n o (drop (4 + (number_in o 2 (drop 2 octets) + 3) / 4 * 4) octets)
     (with_option o (number_in o 2 octets) (take (number_in o 2 (drop 2 octets)) (drop 4 octets)) i)))
 
--- ---- blocks, which are there whole; `size` is their length
+-- ---- complete blocks; `size` is their length
 
--- the packet of an enhanced (6) or old (2) block
+-- The packet of an enhanced (6) or old (2) block.
 abbrev pub packet_at : Order → Option Interface → Option ℕ → ℕ → List ℕ → Result Front CaptureFault
 packet_at o None ticks size octets = Err fault.Interface
 packet_at o (Some i) None size octets = Err fault.Resolution
@@ -89,7 +89,8 @@ timed_at o interfaces which size octets =
     if nat_lt size 32 then Err fault.Length else
     packet_at o (slice_get interfaces which) (ticks_at (slice_get interfaces which)) size octets
 
--- how many octets a simple block (3) holds: what the packet had, up to the snapshot length where it isn't 0, and what is there
+-- The number of captured bytes in a simple block (3): the packet's length, limited by the snapshot length if that is
+-- not 0, and by the bytes in the block.
 abbrev pub held_of : ℕ → ℕ → ℕ → ℕ
 held_of had snap there = if snap == 0 then min had there else min (min had snap) there
 
@@ -112,7 +113,7 @@ interface_at o size octets =
     Ok (front.Described (options_at (size - 20) o (take (size - 20) (drop 16 octets))
     (record { link = number_in o 2 (drop 8 octets); snap = number_in o 4 (drop 12 octets); resolution = 6; offset = 0 })) size)
 
--- a custom block counts as a packet, as Wireshark counts
+-- True if the block is a custom block. It counts as a packet, as in Wireshark.
 abbrev pub is_custom : ℕ → Bool
 is_custom kind = (kind == 0xbad) || (kind == 0x40000bad)
 
@@ -124,7 +125,7 @@ block_of o interfaces kind size octets =
     (if kind == 3 then untimed_at o (slice_get interfaces 0) size octets else
     Ok (front.Passed (is_custom kind) size))))
 
--- the length of the block at the front: None where it isn't there whole
+-- The length of the block at the start. `None` if the block is incomplete.
 abbrev pub size_at : Order → List ℕ → Result (Option ℕ) CaptureFault
 size_at o octets =
     if nat_lt (length octets) 12 then Ok None else
@@ -140,7 +141,7 @@ in_block o interfaces octets (Ok None) = Ok front.More
 in_block o interfaces octets (Ok (Some size)) = block_of o interfaces (number_in o 4 octets) size octets
 in_block o interfaces octets (Err f) = Err f
 
--- the order of the section whose header's block is at the front
+-- The byte order of the section whose header block is at the start.
 abbrev pub order_of : ℕ → Option Order
 order_of number =
     if number == 0x1a2b3c4d then Some order.Big else
@@ -155,7 +156,8 @@ abbrev pub section_at : Option Order → List ℕ → Result Front CaptureFault
 section_at None octets = Err fault.Order
 section_at (Some o) octets = in_section o (size_at o octets)
 
--- What stands at the front, in a section of this order and these interfaces. A section's header tells its own order.
+-- The block at the start, in a section with this byte order and these interfaces. A section's header gives its own byte
+-- order.
 unfoldable pub pcapng_at : Order → List Interface → List ℕ → Result Front CaptureFault
 pcapng_at o interfaces octets =
     if nat_lt (length octets) 12 then Ok front.More else

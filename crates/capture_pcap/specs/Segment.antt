@@ -1,4 +1,4 @@
--- The TCP segment that a packet carries, by its link layer, or why none is read.
+-- The TCP segment in a packet, by its link layer, or why no segment is read.
 use Rattle.std.specs.Prelude.{ℕ, zero, suc, ◌+◌, ◌-◌, ◌*◌, ◌/◌, ◌%◌, ◌==◌, ◌||◌, Bool, nat_lt, not, if◌then◌else◌, List, length, slice_index, Some, None}
 use Rattle.capture_pcap.specs.ByteOrder.{big_at}
 use Rattle.capture_pcap.specs.declared.segment.Shown.{Shown}
@@ -9,7 +9,7 @@ use Rattle.capture_pcap.specs.declared.segment.Address.TheVariants as address
 
 -- ---- TCP
 
--- the segment in the octets from one place up to another
+-- The segment in the bytes from one offset up to another.
 abbrev pub tcp_at : Address → Address → List ℕ → ℕ → ℕ → Shown
 tcp_at source target octets from end =
     if nat_lt (length octets) end then shown.LeftOut reason.Cut else
@@ -30,7 +30,7 @@ tcp_at source target octets from end =
 
 -- ---- IPv4
 
--- where the packet ends; 0 says that it goes on to the end of what is there (segmentation offload)
+-- Where the packet ends. Length 0 means that it extends to the end of the bytes (segmentation offload).
 abbrev pub v4_end : List ℕ → ℕ → ℕ
 v4_end octets at = if big_at 2 (at + 2) octets == 0 then length octets else at + big_at 2 (at + 2) octets
 
@@ -44,7 +44,7 @@ v4_at octets at =
 
 -- ---- IPv6
 
--- hop-by-hop, routing and destination options
+-- True for hop-by-hop, routing and destination options.
 abbrev pub is_extension : ℕ → Bool
 is_extension next = (next == 0) || (next == 43) || (next == 60)
 
@@ -53,7 +53,7 @@ inside_at source target next octets from end =
     if next == 44 then shown.LeftOut reason.Fragment else
     (if not (next == 6) then shown.Other else tcp_at source target octets from end)
 
--- behind at most so many extension headers
+-- What follows at most n extension headers.
 unfoldable pub extended_at : ℕ → Address → Address → ℕ → List ℕ → ℕ → ℕ → Shown
 extended_at zero source target next octets from end = if is_extension next then shown.LeftOut reason.Header else inside_at source target next octets from end
 extended_at (suc n) source target next octets from end =
@@ -80,7 +80,7 @@ untagged_at protocol octets at =
     if protocol == 0x0800 then v4_at octets at else
     (if protocol == 0x86dd then v6_at octets at else shown.Other)
 
--- behind at most so many VLAN tags
+-- What follows at most n VLAN tags.
 unfoldable pub tagged_at : ℕ → ℕ → List ℕ → ℕ → Shown
 tagged_at zero protocol octets at = if is_tag protocol then shown.LeftOut reason.Header else untagged_at protocol octets at
 tagged_at (suc n) protocol octets at =
@@ -88,12 +88,12 @@ tagged_at (suc n) protocol octets at =
     (if nat_lt (length octets - at) 4 then shown.LeftOut reason.Short else tagged_at n (big_at 2 (at + 2) octets) octets (at + 4))
     else untagged_at protocol octets at
 
--- a link whose header has so many octets, and the protocol at a place
+-- A link layer whose header has this number of bytes, and the protocol at an offset.
 abbrev pub framed_at : ℕ → ℕ → List ℕ → Shown
 framed_at size place octets =
     if nat_lt (length octets) size then shown.LeftOut reason.Short else tagged_at 16 (big_at 2 place octets) octets size
 
--- a link without a protocol: the version tells it
+-- A link layer without a protocol field: the IP version gives the protocol.
 abbrev pub raw_at : ℕ → List ℕ → Shown
 raw_at at octets =
     if nat_lt (length octets) (at + 1) then shown.LeftOut reason.Short else
@@ -106,7 +106,7 @@ is_raw link = (link == 12) || (link == 14) || (link == 101) || (link == 228) || 
 abbrev pub is_null : ℕ → Bool
 is_null link = (link == 0) || (link == 108)
 
--- Ethernet 1, Linux cooked 113 and 276, raw, null and loop
+-- Ethernet 1, Linux cooked 113 and 276, raw, null and loop.
 unfoldable pub segment_at : ℕ → List ℕ → Shown
 segment_at link octets =
     if link == 1 then framed_at 14 12 octets else

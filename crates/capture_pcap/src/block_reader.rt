@@ -1,4 +1,4 @@
-//! A capture file, a record or block at a time.
+//! A reader of a capture file in memory, one record or block at a time.
 
 ghost use Rattle.std.specs.Prelude.{◌≡◌, ◌≤◌, ◌<◌, ◌+◌, IfOk, length, take, drop, OnErr};
 ghost use Rattle.capture_pcap.specs.File.{HasOpened, no_capture, opening_at, pcap_opening_at, State, HasParts, IsWithin, after, front_at, new_state, size_of};
@@ -9,26 +9,26 @@ use crate::next_block::{Front, Interface, Record, pcap_front, pcapng_front};
 use std::alloc::Global;
 use std::marker::Model;
 
-/// A file's format, and the order of its numbers.
+/// A file's format, and the byte order of its numbers.
 #[derive(Clone, Copy, Debug)]
 pub enum Format {
-    /// How many parts of its time make a millisecond, and the link type of all packets.
+    /// pcap: `parts` of the time stamp's fraction make a millisecond, and all packets have the link type `link`.
     Pcap { order: Order, parts: u32, link: u32 },
-    /// The section's order.
+    /// pcapng: the byte order of the section.
     Pcapng { order: Order },
 }
 
-/// What the first octets of a file say.
+/// What the first bytes of a file show.
 #[derive(Clone, Copy, Debug)]
 pub enum Opening {
-    /// Too few octets are there.
+    /// More bytes are needed.
     More,
-    /// It is a file of this format, whose header has so many octets.
+    /// A file of this format. Its header has this number of bytes.
     Opened(Format, usize),
 }
 
-/// What is known in the midst of a capture file: its format, the interfaces of the section, and how many packets and
-/// octets were passed. Both counts stay at their greatest value.
+/// The state of reading a capture file: the format, the interfaces of the section, and the number of packets and bytes
+/// that were passed. Both counts saturate.
 #[derive(Drop)]
 pub struct Reader {
     format: Format,
@@ -51,7 +51,7 @@ impl Model for Reader {
 }
 
 impl Reader {
-    /// A reader at the place behind the header of a file. Takes no memory.
+    /// Creates a reader that starts after the file's header. Does not allocate.
     pub fn new(alloc: Global, format: Format, size: usize) -> Reader
         requires { HasParts format }
         ensures { result ≡ new_state format size }
@@ -64,21 +64,21 @@ impl Reader {
         }
     }
 
-    /// How many packets were passed.
+    /// Returns the number of packets that were passed.
     pub fn packets(&self) -> u64
         ensures { result ≡ self.now.packets }
     {
         self.packets
     }
 
-    /// How many octets of the file were passed: the place of what comes next.
+    /// Returns the number of bytes that were passed: the offset of the next record or block.
     pub fn place(&self) -> u64
         ensures { result ≡ self.now.place }
     {
         self.place
     }
 
-    /// What stands at the front of the octets behind what was passed. Takes no memory.
+    /// Returns the record or block at the start of the bytes that follow what was passed. Does not allocate.
     pub fn front(&self, octets: &[u8]) -> Result<Front, CaptureFault>
         ensures front { result ≡ front_at self.now octets.now }
         ensures within { IfOk result (IsWithin (length octets.now)) }
@@ -89,8 +89,8 @@ impl Reader {
         }
     }
 
-    /// Passes what was found at the front, and says how many octets it has. There is no fault but `Memory`, and it
-    /// changes nothing.
+    /// Passes the record or block that was found, and returns its size in bytes. The only error is `Memory`, after
+    /// which the reader is unchanged.
     pub fn pass(&mut self, front: Front) -> Result<usize, CaptureFault>
         ensures size { IfOk result (λ n. n ≡ size_of front) }
         ensures ok { IfOk result (λ n. self.new ≡ after self.old front) }
@@ -123,7 +123,8 @@ impl Reader {
     }
 }
 
-/// What the first octets of a file say: pcap of either order, with micro- or nanoseconds, or pcapng. Takes no memory.
+/// Returns the format that the first bytes show: pcap in either byte order, with micro- or nanoseconds, or pcapng. Does
+/// not allocate.
 #[tactic(auto, unfolding(crate::specs::File::opening_at))]
 pub fn format_of(octets: &[u8]) -> Result<Opening, CaptureFault>
     ensures format { result ≡ opening_at octets.now }
@@ -147,7 +148,7 @@ pub fn format_of(octets: &[u8]) -> Result<Opening, CaptureFault>
     }
 }
 
-// How a file that is no capture is refused, by its first four octets.
+// Returns the error for a file that is not a capture, from its first four bytes.
 fn no_capture(magic: u32) -> CaptureFault
     ensures { result ≡ no_capture magic }
 {
@@ -160,7 +161,7 @@ fn no_capture(magic: u32) -> CaptureFault
     CaptureFault::Unknown
 }
 
-// The header of a pcap file, of whose link type the lowest 16 bits count.
+// Reads the header of a pcap file. Only the lowest 16 bits of its link type count.
 fn pcap_opening(order: Order, parts: u32, octets: &[u8]) -> Opening
     requires { 0 < parts }
     ensures format { result ≡ pcap_opening_at order parts octets.now }
@@ -173,7 +174,7 @@ fn pcap_opening(order: Order, parts: u32, octets: &[u8]) -> Opening
     Opening::Opened(Format::Pcap { order, parts, link }, 24)
 }
 
-/// The octets of a packet, where they were read.
+/// Returns the bytes of a packet, where they were read.
 #[inline(always)]
 pub fn octets_of<'a>(packet: &Record, octets: &'a [u8]) -> &'a [u8]
     requires { packet.now.body + packet.now.held ≤ length octets.now }

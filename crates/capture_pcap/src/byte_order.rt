@@ -1,20 +1,20 @@
-//! Numbers in either order.
+//! Numbers in either byte order.
 
 ghost use Rattle.std.specs.Prelude.{◌≡◌, ◌≤◌, ◌+◌, length, drop};
 ghost use Rattle.capture_pcap.specs.ByteOrder.{number_in};
 
 use byteorder::{BigEndian, ByteOrder, LittleEndian};
 
-/// The order of a number's octets.
+/// The byte order of a number.
 #[derive(Clone, Copy, Debug, PartialEq, Eq)]
 pub enum Order {
-    /// The highest first.
+    /// Big endian: the highest byte first.
     Big,
-    /// The lowest first.
+    /// Little endian: the lowest byte first.
     Little,
 }
 
-/// The number in two octets.
+/// Returns the number in the two bytes at `at`.
 #[inline(always)]
 pub fn short_at(order: Order, octets: &[u8], at: usize) -> u16
     requires { at + 2 ≤ length octets.now }
@@ -27,7 +27,7 @@ pub fn short_at(order: Order, octets: &[u8], at: usize) -> u16
     }
 }
 
-/// The number in four octets.
+/// Returns the number in the four bytes at `at`.
 #[inline(always)]
 pub fn word_at(order: Order, octets: &[u8], at: usize) -> u32
     requires { at + 4 ≤ length octets.now }
@@ -40,7 +40,7 @@ pub fn word_at(order: Order, octets: &[u8], at: usize) -> u32
     }
 }
 
-/// The number in eight octets.
+/// Returns the number in the first eight bytes.
 #[inline(always)]
 pub fn long_of(order: Order, octets: &[u8]) -> u64
     requires { 8 ≤ length octets.now }

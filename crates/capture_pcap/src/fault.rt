@@ -1,4 +1,4 @@
-//! Why octets are no capture.
+//! Errors of reading a capture.
 
 ghost use Rattle.std.specs.Prelude.{◌≡◌};
 ghost use Rattle.capture_pcap.specs.declared.fault.CaptureFault.TheVariants.{Memory};
@@ -9,26 +9,26 @@ use hsms_frame::AheadFault;
 use std::alloc::{AllocError, AllocFailed};
 use thiserror::Error;
 
-/// Why octets are no capture that is read.
+/// Why bytes cannot be read as a capture.
 #[derive(Clone, Copy, Debug, PartialEq, Eq, Error)]
 pub enum CaptureFault {
-    /// The first octets are those of no format that is read.
+    /// The first bytes belong to no supported format.
     #[error("Unknown")]
     Unknown,
-    /// The first octets are those of a file that gzip packed.
+    /// The first bytes are those of a gzip file.
     #[error("Gzip")]
     Gzip,
-    /// The first octets are those of a file that zstd packed.
+    /// The first bytes are those of a zstd file.
     #[error("Zstd")]
     Zstd,
-    /// A record or block claims more octets than any has, or fewer than its own fields, or a block claims no whole
-    /// number of words.
+    /// A record or block claims more bytes than the maximum, or fewer than its own fields need. Or a block's length is
+    /// not a multiple of the word size.
     #[error("Length")]
     Length,
-    /// A block's second length isn't its first.
+    /// A block's second length differs from its first.
     #[error("Trailer")]
     Trailer,
-    /// A section's byte order is neither.
+    /// A section's byte order is neither of the two.
     #[error("Order")]
     Order,
     /// A packet names an interface that no block of its section describes.
@@ -37,7 +37,7 @@ pub enum CaptureFault {
     /// An interface's resolution is finer than 2^-63 or 10^-19 seconds.
     #[error("Resolution")]
     Resolution,
-    /// There is no memory.
+    /// An allocation failed.
     #[error("Memory")]
     Memory,
 }
@@ -50,19 +50,19 @@ impl<T: Drop> From<AllocFailed<T>> for CaptureFault {
     }
 }
 
-/// Why a capture file isn't read on.
+/// Why reading a capture file stopped.
 #[derive(Clone, Copy, Debug, PartialEq, Eq, Error)]
 pub enum FileFault {
-    /// What stands at this place of the file is no record or block, or the file is no capture.
+    /// At this offset the file has no valid record or block, or the file is not a capture.
     #[error("{fault} octet={place}")]
     Capture { place: u64, fault: CaptureFault },
     /// The file ends within a record or block, or within its header.
     #[error("CutOff")]
     CutOff,
-    /// The device failed.
+    /// The read failed.
     #[error("Read")]
     Read,
-    /// There is no memory.
+    /// An allocation failed.
     #[error("Memory")]
     Memory,
 }

@@ -1,16 +1,16 @@
-//! Packets of a network capture, and the TCP segments that they carry.
+//! Packets of a network capture, and the TCP segments in them.
 //!
-//! A file is read from a source in blocks, a record (pcap) or block (pcapng) at a time: [`Packets`] tells one after another,
-//! and holds no more of the file than one of them and a block of the source. Where the octets are at hand,
-//! [`format_of`] tells the format by the first of them, and a [`Reader`] then says what stands at the front of those
-//! that come, and goes on behind it. What a packet carries is told by [`segment_of`], whatever its link layer. The octets
-//! stay where they were read.
+//! [`Packets`] reads a file from a source in blocks, and returns one record (pcap) or block (pcapng) at a time. It
+//! holds at most one of them and one block of the source. If the bytes are in memory already, [`format_of`] returns the
+//! format from the first bytes. A [`Reader`] then finds the record or block at the start of the bytes that follow, and
+//! continues after it. [`segment_of`] returns the content of a packet, for each link layer. The bytes stay where they
+//! were read.
 //!
 //! ```
 //! let mut packets = Packets::open(alloc, &mut source)?;
 //! match packets.next(&mut source)? {
 //!     Step::Packet(number, record) => segment_of(record.link, octets_of(&record, packets.octets())),
-//!     Step::Passed => .., // what is no packet
+//!     Step::Passed => .., // not a packet
 //!     Step::End => ..,
 //! }
 //! ```

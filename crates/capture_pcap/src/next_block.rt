@@ -1,4 +1,4 @@
-//! What stands at the front of a capture file: a record of pcap, or a block of pcapng.
+//! The next record (pcap) or block (pcapng) of a capture file.
 
 ghost use Rattle.std.specs.Prelude.{◌≡◌, ◌≤◌, ◌<◌, ◌+◌, ◌-◌, ◌%◌, ◌^◌, ℕ, Option, None, Some, Result, Ok, length, take, drop, IfOk, IfSome, slice_get};
 ghost use Rattle.capture_pcap.specs.File.{IsWithin};
@@ -8,23 +8,23 @@ ghost use Rattle.capture_pcap.specs.NextBlock.{pcap_at, pcapng_at, options_at, w
 use crate::byte_order::{Order, long_of, short_at, word_at};
 use crate::fault::CaptureFault;
 
-// The greatest size of a record or block. A longer one is a fault.
+// The maximum size of a record or block in bytes. A longer one is an error.
 const GREATEST: usize = 0x1000000;
 
-/// A packet's place in the octets that were read, and what is told of it.
+/// The position of a packet in the bytes that were read, and its attributes.
 #[derive(Clone, Copy, Debug)]
 pub struct Record {
-    /// Milliseconds since 1970, rounded down; None where the block has no time.
+    /// Milliseconds since 1970, rounded down. `None` if the block has no time.
     pub time: Option<u128>,
     /// The link type.
     pub link: u32,
-    /// The place of the packet's first octet.
+    /// The offset of the packet's first byte.
     pub body: usize,
-    /// How many octets of it are held.
+    /// The number of captured bytes of the packet.
     pub held: usize,
-    /// Whether it is held whole.
+    /// True if the packet was captured in full.
     pub whole: bool,
-    /// How many octets the record or block has.
+    /// The size of the record or block in bytes.
     pub size: usize,
 }
 
@@ -33,30 +33,30 @@ pub struct Record {
 pub struct Interface {
     /// The link type.
     pub link: u32,
-    /// The greatest count of octets held of a packet; 0 for any.
+    /// The snapshot length in bytes; 0 for no limit.
     pub snap: u32,
-    /// The resolution, as `if_tsresol` has it.
+    /// The resolution, as in `if_tsresol`.
     pub resolution: u8,
     /// Seconds to add to each time, in two's complement.
     pub offset: u64,
 }
 
-/// What stands at the front.
+/// The record or block at the start of the bytes.
 #[derive(Clone, Copy, Debug)]
 pub enum Front {
-    /// It isn't there whole.
+    /// It is incomplete.
     More,
     /// A packet.
     Packet(Record),
-    /// A section begins.
+    /// The start of a section.
     Begun(Order, usize),
-    /// An interface is described.
+    /// The description of an interface.
     Described(Interface, usize),
-    /// A block that is passed over; whether it counts as a packet.
+    /// A skipped block, with whether it counts as a packet.
     Passed(bool, usize),
 }
 
-/// The record at the front of a pcap file's octets, behind the header of the file. `parts` of its time make a
+/// Reads the record at the start of a pcap file's bytes, after the file's header. `parts` of the time's fraction make a
 /// millisecond.
 #[tactic(auto, unfolding(crate::specs::NextBlock::pcap_at))]
 pub fn pcap_front(order: Order, parts: u32, link: u32, octets: &[u8]) -> Result<Front, CaptureFault>
@@ -87,7 +87,7 @@ pub fn pcap_front(order: Order, parts: u32, link: u32, octets: &[u8]) -> Result<
     }))
 }
 
-/// What stands at the front of a pcapng file's octets, in a section of this order and these interfaces.
+/// Reads the block at the start of a pcapng file's bytes, in a section with this byte order and these interfaces.
 #[tactic(auto, unfolding(crate::specs::NextBlock::pcapng_at))]
 pub fn pcapng_front(
     order: Order,
@@ -109,7 +109,7 @@ pub fn pcapng_front(
     }
 }
 
-// A section's header.
+// Reads a section's header.
 fn section_front(octets: &[u8]) -> Result<Front, CaptureFault>
     requires { 12 ≤ length octets.now }
     ensures front { result ≡ section_at (order_of (number_in Order.Big 4 (drop 8 octets.now))) octets.now }
@@ -126,7 +126,7 @@ fn section_front(octets: &[u8]) -> Result<Front, CaptureFault>
     }
 }
 
-// The length of the block at the front, if it is there whole.
+// Returns the length of the block at the start. Returns `None` if the block is incomplete.
 #[inline(always)]
 fn block_size(order: Order, octets: &[u8]) -> Result<Option<usize>, CaptureFault>
     ensures size { result ≡ size_at order octets.now }
@@ -150,7 +150,7 @@ fn block_size(order: Order, octets: &[u8]) -> Result<Option<usize>, CaptureFault
     }
 }
 
-// A block that is there whole.
+// Reads a complete block.
 fn block_front(
     order: Order,
     interfaces: &[Interface],
@@ -177,7 +177,7 @@ fn block_front(
     }
 }
 
-// An enhanced or old packet block.
+// Reads an enhanced or old packet block.
 fn timed_front(
     order: Order,
     interfaces: &[Interface],
@@ -198,14 +198,14 @@ fn timed_front(
     packet_front(order, interface, size, octets)
 }
 
-// The interface with this number.
+// Returns the interface with this number.
 fn interface_of(interfaces: &[Interface], which: usize) -> Option<Interface>
     ensures { result ≡ slice_get interfaces.now which }
 {
     interfaces.get(which).copied()
 }
 
-// A packet of this interface.
+// Returns a packet of this interface.
 fn packet_front(
     order: Order,
     interface: Interface,
@@ -237,7 +237,7 @@ fn packet_front(
     }))
 }
 
-// A simple packet block.
+// Reads a simple packet block.
 fn untimed_front(
     order: Order,
     interfaces: &[Interface],
@@ -266,7 +266,7 @@ fn untimed_front(
     }))
 }
 
-// How many octets a simple packet block holds.
+// Returns the number of captured bytes in a simple packet block.
 fn held_in(had: usize, snap: usize, there: usize) -> usize
     ensures held { result ≡ held_of had snap there }
     ensures least { result ≤ there }
@@ -277,7 +277,7 @@ fn held_in(had: usize, snap: usize, there: usize) -> usize
     had.min(snap).min(there)
 }
 
-// How many ticks a second has.
+// Returns the number of ticks in a second.
 #[tactic(auto, using(crate::proofs::Options::positive))]
 fn ticks(resolution: u8) -> Option<u64>
     ensures ticks { result ≡ ticks_of resolution }
@@ -295,7 +295,7 @@ fn ticks(resolution: u8) -> Option<u64>
     None
 }
 
-// Milliseconds since 1970, rounded down.
+// Returns milliseconds since 1970, rounded down.
 fn milliseconds(per_second: u64, offset: u64, count: u64) -> u128
     requires { 0 < per_second }
     ensures { result ≡ milliseconds_of per_second offset count }
@@ -307,7 +307,7 @@ fn milliseconds(per_second: u64, offset: u64, count: u64) -> u128
     since.saturating_sub((18446744073709551616 - u128::from(offset)) * 1000)
 }
 
-// An interface's block.
+// Reads an interface's block.
 fn interface_front(order: Order, size: usize, octets: &[u8]) -> Result<Front, CaptureFault>
     requires { size ≤ length octets.now }
     ensures front { result ≡ interface_at order size octets.now }
@@ -327,7 +327,7 @@ fn interface_front(order: Order, size: usize, octets: &[u8]) -> Result<Front, Ca
     Ok(Front::Described(with_options(order, options, bare), size))
 }
 
-// The interface as its options describe it.
+// Returns the interface as its options describe it.
 fn with_options(order: Order, options: &[u8], bare: Interface) -> Interface
     ensures { result ≡ options_at (length options.now) order options.now bare }
 {
@@ -355,7 +355,7 @@ fn with_options(order: Order, options: &[u8], bare: Interface) -> Interface
     interface
 }
 
-// The interface as one option describes it.
+// Returns the interface as one option changes it.
 fn changed(order: Order, code: u16, value: &[u8], bare: Interface) -> Interface
     ensures { result ≡ with_option order code value.now bare }
 {

@@ -1,4 +1,4 @@
-//! A capture file that is read in blocks, a packet at a time.
+//! A reader of a capture file from a source, one packet at a time.
 
 ghost use Rattle.std.specs.Prelude.{◌≡◌, ◌≤◌, ◌<◌, Ok, true, false, length, IfErr, IfOk, OnErr, drop, take, ◌+◌};
 ghost use Rattle.hsms_frame.specs.ReadAhead.{ReadsMore, ends_after_more};
@@ -16,22 +16,22 @@ use std::marker::Model;
 /// What one step in a file finds.
 #[derive(Clone, Copy, Debug)]
 pub enum Step {
-    /// A packet, with its number, counted from 1. Its record lies in [`Packets::octets`].
+    /// A packet, with its number, counted from 1. Its record's bytes are in [`Packets::octets`].
     Packet(u64, Record),
-    /// What is no packet.
+    /// A record or block that is not a packet.
     Passed,
     /// The end of the file.
     End,
 }
 
-/// A capture file that is read in blocks. Contracts see what is known behind what was passed, the octets of the record or
-/// block that was passed last, and those that were read ahead behind it. These are at most the octets of one record or
-/// block, and 65,536 more, so the memory that is held doesn't grow with the file.
+/// A capture file that is read in blocks. Contracts see the reader's state, the bytes of the record or block that was
+/// passed last, and the bytes that were read ahead after it. These are at most the bytes of one record or block, and
+/// 65,536 more, so the memory in use does not grow with the file.
 #[derive(Drop)]
 pub struct Packets {
     reader: Reader,
     ahead: Ahead,
-    // The octets of what was passed last stand before those that are ahead until the next step.
+    // The bytes of what was passed last stay before those that were read ahead, until the next step.
     last: usize,
 }
 
@@ -44,7 +44,7 @@ impl Model for Packets {
 }
 
 impl Packets {
-    /// Opens a file: reads until its format and its header are there. Where that stops, the octets that were read are
+    /// Opens a file: reads until its format and its header are complete. If that fails, the bytes that were read are
     /// lost.
     pub fn open<R: Source>(alloc: Global, source: &mut R) -> Result<Packets, FileFault>
         ensures opened { IfRecorded (R.state source.old).left (λ input. OpensAs input result (R.state source.new).left) }
@@ -64,14 +64,14 @@ impl Packets {
         })
     }
 
-    /// How many packets and octets of the file were passed.
+    /// Returns the reader, which counts the packets and bytes of the file that were passed.
     pub fn reader(&self) -> &Reader
         ensures { result.now ≡ self.now.state }
     {
         &self.reader
     }
 
-    /// The octets of the record or block that was passed last, where the last step answered it.
+    /// Returns the bytes of the record or block that was passed last, if the last step returned it.
     pub fn octets(&self) -> &[u8]
         ensures { result.now ≡ self.now.last }
     {
@@ -79,11 +79,11 @@ impl Packets {
         last
     }
 
-    /// Passes the next record or block of the file, and tells it. More is read only where it isn't there whole.
+    /// Passes the next record or block of the file, and returns it. Reads more only if it is incomplete.
     ///
-    /// What the steps tell of a file, one after another, up to its end, a cut or a fault, is what `ReadsFile` says of all
-    /// octets that the source gives: each packet once, in order, with its number, and a fault at its place in the file.
-    /// After a fault the same one is told again; after a failed read, and where memory was refused, nothing is lost.
+    /// Successive steps, up to the end of the file, a cut or an error, return what `ReadsFile` states of all bytes of
+    /// the source: each packet once, in order, with its number, and an error at its offset in the file. After an error,
+    /// the next call returns the same error. After a failed read or a failed allocation nothing is lost.
     pub fn next<R: Source>(&mut self, source: &mut R) -> Result<Step, FileFault>
         ensures step { IfRecorded (R.state source.old).left (λ input. StepsAs self.old input result self.new (R.state source.new).left) }
         ensures there { IfOk result (StepIsWithin (length self.new.last)) }
@@ -109,7 +109,7 @@ impl Packets {
     }
 }
 
-// The front that is there whole at the front of what is ahead. There is none at the end of the input.
+// Returns the next complete record or block of the bytes that were read ahead. Returns `None` at the end of the input.
 fn next_front<R: Source>(
     reader: &Reader,
     ahead: &mut Ahead,
@@ -133,7 +133,7 @@ fn next_front<R: Source>(
     reported_front(reader.place(), found)
 }
 
-// Whether neither a front nor a fault is there.
+// Returns true if neither a record or block nor an error was found.
 #[inline(always)]
 fn is_to_be_read(found: &Result<Front, CaptureFault>) -> bool
     ensures { result ≡ is_more found.now }
@@ -141,7 +141,7 @@ fn is_to_be_read(found: &Result<Front, CaptureFault>) -> bool
     matches!(found, Ok(Front::More))
 }
 
-// The answer where the input ends.
+// Returns the result at the end of the input.
 fn at_end(octets: &[u8]) -> Result<Option<Front>, FileFault>
     ensures { EndsWith octets.now result }
 {
@@ -174,7 +174,7 @@ fn reported_step(number: u64, front: Front) -> Step
     }
 }
 
-// The format of a file, and how many octets its header has, once it is ahead.
+// Reads the format of a file and the size of its header in bytes, once the header was read ahead.
 fn opening<R: Source>(ahead: &mut Ahead, source: &mut R) -> Result<(Format, usize), FileFault>
     requires { length ahead.old ≤ greatest_ahead }
     ensures read { IfRecorded (R.state source.old).left
@@ -195,7 +195,7 @@ fn opening<R: Source>(ahead: &mut Ahead, source: &mut R) -> Result<(Format, usiz
     reported_opening(found)
 }
 
-// Reads more octets behind the others, and says whether there were any: none only at the end of the input.
+// Reads and appends more bytes. Returns false only at the end of the input.
 fn read_more<R: Source>(ahead: &mut Ahead, source: &mut R) -> Result<bool, FileFault>
     requires { length ahead.old < 16777232 }
     ensures ok { IfOk result (λ is_more. IfRecorded (R.state source.old).left
@@ -212,7 +212,7 @@ fn read_more<R: Source>(ahead: &mut Ahead, source: &mut R) -> Result<bool, FileF
     Ok(ahead.read_more(source)?)
 }
 
-// Whether neither a format nor a fault is there.
+// Returns true if neither a format nor an error was found.
 fn is_to_be_opened(found: &Result<Opening, CaptureFault>) -> bool
     ensures { result ≡ is_unopened found.now }
 {

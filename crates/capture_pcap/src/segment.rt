@@ -1,4 +1,4 @@
-//! The TCP segment that a packet carries.
+//! The TCP segment in a packet.
 
 ghost use Rattle.std.specs.Prelude.{◌≡◌, ◌≤◌, ◌+◌, ◌/◌, ℕ, IfSome, length, slice_index, Option};
 ghost use Rattle.capture_pcap.specs.ByteOrder.{big_at};
@@ -7,14 +7,14 @@ ghost use Rattle.capture_pcap.specs.Segment.{segment_at, raw_at, framed_at, tagg
 use crate::byte_order::{Order, short_at, word_at};
 use byteorder::{BigEndian, ByteOrder};
 
-/// An address of IPv4 or IPv6.
+/// An IPv4 or IPv6 address.
 #[derive(Clone, Copy, Debug, PartialEq, Eq)]
 pub enum Address {
     V4(u32),
     V6(u128),
 }
 
-/// Why a packet is left out, though it may carry a segment.
+/// Why a packet is skipped, though it may carry a segment.
 #[derive(Clone, Copy, Debug, PartialEq, Eq)]
 pub enum Reason {
     /// Another link layer.
@@ -23,13 +23,13 @@ pub enum Reason {
     Short,
     /// A fragment.
     Fragment,
-    /// It isn't whole in the capture.
+    /// The capture does not have the packet in full.
     Cut,
-    /// A header says what can't be.
+    /// A header has an impossible value.
     Header,
 }
 
-/// A TCP segment, whose octets lie in the packet from `body` to `end`.
+/// A TCP segment. Its payload is in the packet from `body` to `end`.
 #[derive(Clone, Copy, Debug)]
 pub struct Segment {
     pub source: Address,
@@ -53,7 +53,7 @@ pub enum Shown {
     LeftOut(Reason),
 }
 
-/// The segment in a packet of this link type.
+/// Returns the segment in a packet of this link type.
 #[tactic(auto, unfolding(crate::specs::Segment::segment_at))]
 pub fn segment_of(link: u32, packet: &[u8]) -> Shown
     ensures { result ≡ segment_at link packet.now }
@@ -92,7 +92,7 @@ fn marks_extension(next: u8) -> bool
     next == 0 || next == 43 || next == 60
 }
 
-// A link whose header tells the protocol.
+// Reads a link layer whose header gives the protocol.
 fn framed(size: usize, place: usize, packet: &[u8]) -> Shown
     requires room { place + 2 ≤ size }
     ensures { result ≡ framed_at size place packet.now }
@@ -103,7 +103,7 @@ fn framed(size: usize, place: usize, packet: &[u8]) -> Shown
     tagged(16, short_at(Order::Big, packet, place), packet, size)
 }
 
-// A link without a protocol.
+// Reads a link layer without a protocol field.
 fn raw(at: usize, packet: &[u8]) -> Shown
     requires small { at ≤ 4 }
     ensures { result ≡ raw_at at packet.now }
@@ -118,7 +118,7 @@ fn raw(at: usize, packet: &[u8]) -> Shown
     }
 }
 
-// Behind VLAN tags.
+// Reads what follows VLAN tags.
 #[tactic(auto, using(crate::proofs::AfterPackets::untagged_is, crate::proofs::AfterPackets::tagged_last, crate::proofs::AfterPackets::tagged_short, crate::proofs::AfterPackets::tagged_more))]
 fn tagged(left: u8, protocol: u16, packet: &[u8], at: usize) -> Shown
     requires within { at ≤ length packet.now }
@@ -152,7 +152,7 @@ fn untagged(protocol: u16, packet: &[u8], at: usize) -> Shown
     }
 }
 
-// IPv4.
+// Reads an IPv4 packet.
 fn v4(packet: &[u8], at: usize) -> Shown
     requires within { at ≤ length packet.now }
     ensures { result ≡ v4_at packet.now at }
@@ -193,7 +193,7 @@ fn end_of_v4(packet: &[u8], at: usize) -> usize
     at + usize::from(size)
 }
 
-// IPv6.
+// Reads an IPv6 packet.
 fn v6(packet: &[u8], at: usize) -> Shown
     requires within { at ≤ length packet.now }
     ensures { result ≡ v6_at packet.now at }
@@ -233,7 +233,7 @@ fn end_of_v6(packet: &[u8], at: usize) -> usize
     at + 40 + usize::from(size)
 }
 
-// Behind extension headers.
+// Reads what follows extension headers.
 #[tactic(auto, using(crate::proofs::AfterPackets::inside_is, crate::proofs::AfterPackets::extended_last, crate::proofs::AfterPackets::extended_short, crate::proofs::AfterPackets::extended_more))]
 fn extended(
     left: u8,
@@ -286,7 +286,7 @@ fn inside(
     }
 }
 
-// TCP.
+// Reads a TCP segment.
 fn tcp(source: Address, target: Address, packet: &[u8], from: usize, end: usize) -> Shown
     requires near { from ≤ length packet.now + 4096 }
     ensures { result ≡ tcp_at source target packet.now from end }

@@ -1,4 +1,4 @@
--- Spans in the order of their places, and the end of what they cover.
+-- Spans in the order of their offsets, and the end of what they cover.
 use Rattle.std.proofs.Common.{◌≡◌, ◌<◌, ◌≤◌, ◌⊎◌, ℕ, max, List, [], ◌∷◌, refl, sym, subst, arith, inl, inr}
 use Rattle.std.proofs.lemmas.Bool.{le-leb, lt-leb, cases_lt}
 use Rattle.capture_tcp.specs.Laws.{Span, Covers, IsOrdered, absorb, IsEnd}

@@ -1,11 +1,11 @@
--- Where a packet belongs among those that wait.
+-- The index of a packet among those that wait.
 use Rattle.std.proofs.Common.{◌≡◌, ◌<◌, ◌≤◌, ◌+◌, ℕ, zero, suc, List, [], ◌∷◌, length, refl, ap, subst, arith}
 use Rattle.std.proofs.lemmas.Bool.{lt-ltb, le-ltb}
 use Rattle.std.specs.List.{insert, slice_index_or}
 use Rattle.capture_tcp.specs.declared.packet.Packet.{Packet}
 use Rattle.capture_tcp.specs.OutOfOrder.{put_after}
 
--- the first packets, so many of them, don't stand behind this one
+-- Holds if the first n packets do not come after this one.
 abbrev pub AreBefore : Packet → ℕ → List Packet → Type 0
 AreBefore p zero qs = Unit {0}
 AreBefore p (suc i) [] = ⊥

@@ -1,4 +1,4 @@
--- What a reader knows behind one packet more.
+-- The reader's state after one more packet.
 use Rattle.std.proofs.Common.{◌≡◌, ◌<◌, ◌≤◌, ◌+◌, ◌++◌, ◌∷◌, ◌^◌, inl, inr, ℕ, Bool, true, false, cond, List, [], length, map, Option, Some, None, Result, Ok, Err, IfOk, refl, sym, ap, subst, ◌∙◌, arith}
 use Rattle.std.proofs.lemmas.List.{append-nil, append_assoc, map-append}
 use Rattle.capture_tcp.specs.declared.packet.Packet.{Packet}
@@ -36,7 +36,7 @@ queue_next at from queue next goal p rest more e h n =
 pub queue_all : (at : Packet) (from : Side) (queue goal : List Due) (rest : List Packet) → rest ≡ [] → queue ++ map (due_as at from) rest ≡ goal → queue ≡ goal
 queue_all at from queue goal rest e h = sym (append-nil queue) ∙ ap (λ (z : List Packet). queue ++ map (due_as at from) z) (sym e) ∙ h
 
--- ---- what is held
+-- ---- what is buffered
 
 no_cells : (cells : List Cell) → length cells ≡ 0 → cells ≡ []
 no_cells [] e = refl
@@ -73,7 +73,7 @@ none_else : (x : Option Cell) → or_else x None ≡ x
 none_else None = refl
 none_else (Some c) = refl
 
--- the other direction holds the same
+-- The other direction's buffer is unchanged.
 other_cells : (ps : List Placed) (p : Placed) (d : End) (n : ℕ) → same_end p.from d ≡ false → cell_at (ps ++ p ∷ []) d n ≡ cell_at ps d n
 unfolding cell_at
 other_cells ps p d n e =
@@ -142,7 +142,7 @@ passive_brings old a octets r differs from brings ps p at by cells acked streams
       refl,
     )
 
--- ---- the first copy that differs
+-- ---- the first conflicting copy
 
 abbrev differs_by : List Placed → Placed → Bool
 differs_by before p = contradicts before p.from (received before p.from) p.place p.cells
@@ -163,7 +163,7 @@ difference_on before (x ∷ xs) p =
     by_test true e = refl
     by_test false e = e
 
--- ---- what is still to be told
+-- ---- what is still to be emitted
 
 due_is : (t : Turn) (p : Placed) → t.at ≡ p → t.own.from ≡ p.from → due_as (packet_of p) (side_of p.from) (packet_of t.own) ≡ due_of t
 due_is t p e f = ap (λ (q : Placed). due_as (packet_of q) (side_of p.from) (packet_of t.own)) (sym e) ∙ ap (λ (d : End). due_as (packet_of t.at) (side_of d) (packet_of t.own)) (sym f)
@@ -234,7 +234,7 @@ arrived a octets freed old new differs brings emitter_state opened losses first 
       λ emitted w. waits_on old.emitter new.emitter old.due.items new.due.items ps p emitted emitter_state opened got.2 got.3 (queue ∙ ap (λ (ds : List Due). old.due.items ++ ds) dues) w,
     )
 
--- ---- what holds of an answer
+-- ---- what holds of a result
 
 pub ok_weaker : {T E : Type 0} {P Q : T → Type 0} (r : Result T E) → ((x : T) → P x → Q x) → IfOk r P → IfOk r Q
 ok_weaker (Ok x) f h = f x h

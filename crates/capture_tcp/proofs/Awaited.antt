@@ -1,4 +1,4 @@
--- What is told, and what is still to be told, whatever follows.
+-- What is emitted, and what is still to be emitted, whatever follows.
 use Rattle.std.proofs.Common.{◌≡◌, ◌≤◌, ◌++◌, ◌∷◌, ◌||◌, ℕ, Bool, true, false, cond, List, [], length, drop, map, Option, Some, None, refl, sym, ap, subst, ◌∙◌, arith, length-drop}
 use Rattle.std.proofs.lemmas.List.{append-nil, append_assoc, drop-append-le, map-append}
 use Rattle.capture_tcp.specs.declared.packet.Side.{Side}
@@ -25,7 +25,7 @@ use Rattle.capture_tcp.proofs.LaterEvents.{drains_after, left_append}
 use Rattle.capture_tcp.proofs.DeliveredPackets.{Within, each_within, turns_each}
 use Rattle.capture_tcp.proofs.CompleteStreams.{piece_is}
 
--- ---- turns, and what is kept of them
+-- ---- deliveries, and what is kept of them
 
 split : (rest : List Turn) (taken left : List Due) → map due_of rest ≡ taken ++ left
     → (a : List Turn) × (b : List Turn) × (rest ≡ a ++ b) × (map due_of a ≡ taken) × (map due_of b ≡ left)
@@ -75,7 +75,7 @@ both_each : (P Q R : Turn → Type 0) (ts : List Turn) → ((t : Turn) → P t �
 both_each P Q R [] f g h = tt
 both_each P Q R (t ∷ ts) f g h = (f t g.0 h.0, both_each P Q R ts f g.1 h.1)
 
--- what follows has greater numbers than each turn
+-- What follows has greater numbers than each delivery.
 pub follows_turns : (more : Bool) (ps later : List Placed) → MayFollow more ps later → Each (λ (t : Turn). AreRising t.at.packet later) (turns [] ps)
 follows_turns true ps later h = turns_each (λ (p : Placed). AreRising p.packet later) [] ps (before_later 0 ps later h)
 follows_turns false ps later h = turns_each (λ (p : Placed). AreRising p.packet later) [] ps (none ps)
@@ -84,7 +84,7 @@ follows_turns false ps later h = turns_each (λ (p : Placed). AreRising p.packet
     none [] = tt
     none (q ∷ qs) = (subst (AreRising q.packet) (sym h) tt, none qs)
 
--- ---- what is held of the streams
+-- ---- what is buffered of the streams
 
 abbrev pub ends_by : List Placed → Side → ℕ
 ends_by ps d = end_of ps (end_at d)
@@ -137,7 +137,7 @@ moved_stream : (s r : Stream) (ps : List Placed) (d : End) → IsStreamOf s ps d
 moved_stream s r ps d h e span =
     (subst (λ (z : Store). IsStoreOf z ps d) (sym e) h.0, span.0, span.1, subst (λ (z : Store). z.place ≤ received ps d) (sym e) h.3)
 
--- ---- what is delivered is there
+-- ---- what is delivered is present
 
 fits_by : (ps : List Placed) (at own : Placed) (e : End) (a : Option ℕ)
     → Each (Within ps) (deliveries (record { at = at; own = record own { from = e; acknowledged = a } })) → Fits (ends_by ps) (due_of (record { at = at; own = record own { from = e; acknowledged = a } }))
@@ -159,9 +159,9 @@ queue_fits more limit ps gone rest rises none sound whole =
     (each_back (λ (t : Turn). is_before (breaks_off ps) t ≡ true → Each (Within ps) (deliveries t)) gone rest
     (subst (Each (λ (t : Turn). is_before (breaks_off ps) t ≡ true → Each (Within ps) (deliveries t))) whole (each_within 0 ps rises))))
 
--- ---- what is told before a limit
+-- ---- what is emitted before a limit
 
--- how things stand then
+-- The state then.
 abbrev Comes : Bool → Emitter → List Due → List Placed → List TimedEvent → Bool → Type 0
 Comes more new left ps later closed =
     AreStreamsOf new.streams ps
@@ -229,7 +229,7 @@ comes limit queue left old new emitted later closed drains more ps rises none st
       ),
     )
 
--- ---- behind the end nothing is told
+-- ---- nothing is emitted after the end
 
 over_process : (n : ℕ) (t : ConnectionEvent) → process_input emitter_state.Over (entry n t) ≡ record { state = emitter_state.Over; emitted = [] }
 over_process n up = refl

@@ -1,4 +1,4 @@
--- What is told at a turn.
+-- What a delivered packet emits.
 use Rattle.std.proofs.Common.{◌≡◌, ◌≤◌, ◌++◌, ◌∷◌, ℕ, Bool, true, false, cond, List, [], Option, Some, None, refl, sym, ap, subst, ◌∙◌, arith}
 use Rattle.std.specs.Option.{unwrap_or}
 use Rattle.capture_tcp.specs.declared.packet.Side.{Side}
@@ -82,7 +82,7 @@ some_moves t s r n e m = (
   subst (λ (d : Side). stream_at r d ≡ stream_at s d) (twice t.from) m.1,
 )
 
--- ---- all of a turn
+-- ---- all of a delivery
 
 processes_two : (t u v : EmitterState) (xs ys : List Entry) (a b c : List TimedEvent) → ProcessesInput (processes_input t xs) a u b → ProcessesInput (processes_input u ys) b v c → ProcessesInput (processes_input t (xs ++ ys)) a v c
 processes_two t u v xs ys a b c x y =

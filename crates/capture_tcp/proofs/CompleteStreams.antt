@@ -1,4 +1,4 @@
--- Messages in what is held in one piece.
+-- Messages in what is buffered without a gap.
 use Rattle.std.proofs.Common.{◌≡◌, ◌<◌, ◌≤◌, ◌+◌, ◌-◌, ◌*◌, ◌∷◌, ℕ, zero, suc, List, [], length, drop, get_or, Option, Some, None, is_some, true, refl, sym, ap, subst, ◌∙◌, ◌^◌, ◌++◌, arith, inl, inr, length-drop}
 use Rattle.std.proofs.lemmas.Bool.{lt-ltb, le-ltb, cases_lt}
 use Rattle.std.proofs.lemmas.Grind.{pow_more}
@@ -34,7 +34,7 @@ more_further : (i : ℕ) (o : Option ℕ) → further i (one_more o) ≡ further
 more_further i None = refl
 more_further i (Some n) = ap (λ (z : ℕ). Some z) (omega arith)
 
--- ---- behind the length
+-- ---- after the length
 
 to_none : (k : ℕ) (cs : List Cell) → 0 < k → cs ≡ [] → cells_to k cs ≡ None
 unfolding cells_to
@@ -81,7 +81,7 @@ unfolding cells_to
 rest_done zero index ss w e h = ap (λ (z : ℕ). Some z) (omega arith) ∙ h
 rest_done (suc left) index ss w e h = absurd (omega (arith, e))
 
--- ---- octets in one piece
+-- ---- contiguous bytes
 
 pub octets_counted : (k : ℕ) (ns : List ℕ) (os : List (Option HeldCell)) → k ≤ length ns → cells_to k (in_piece (some_octets ns ++ os)) ≡ Some k
 unfolding cells_to
@@ -232,7 +232,7 @@ front_is s ps d h le =
     ∙ sym (skips s.place (bound ps) k 0 ps d (omega (arith, within)) (λ i lt. let at : i ≡ 0 + i = omega arith in subst (IsHeld ps d) at ((end_is ps d).0 i (omega (arith, lt, le))))
     ∙ ap (cells_up_to k ps d) (omega arith))
 
--- what is held from a place on is what is there of the stream
+-- What is buffered from an offset on is what the stream has there.
 pub piece_is : (s : Store) (place : ℕ) (ps : List Placed) (d : End) → IsStoreOf s ps d → s.place ≤ place → place ≤ end_of ps d → piece_from s place ≡ drop place (stream_of ps d)
 piece_is s place ps d h low high =
     front_is (record { place = place; cells = drop (place - s.place) s.cells }) ps d
@@ -267,7 +267,7 @@ front_exists s place upto count p low ps d h high =
 pub size_some : (count : ℕ) (cs : List Cell) → Some count ≡ message_size cs → 0 < count
 size_some count cs e = (is_size.there cs count (sym e)).0
 
--- ---- a cell behind an index
+-- ---- a cell after an index
 
 pub cell_there : (cells : List (Option HeldCell)) (first index place : ℕ) (c : Option HeldCell) → place ≡ first + index → c ≡ get_or cells place None
     → c ≡ get_or (drop first cells) index None
@@ -276,7 +276,7 @@ cell_there cells first index place c e f = f ∙ ap (λ (i : ℕ). get_or cells 
 pub cell_far : (cells : List (Option HeldCell)) (first index : ℕ) → length cells ≤ first + index → None ≡ get_or (drop first cells) index None
 cell_far cells first index le = sym (get_or-drop first cells index None ∙ get_or-eq_default cells None le)
 
--- three octets have a small value
+-- Three bytes have a small value.
 pub small : (i v : ℕ) → i < 4 → v < 256 ^ i → v < 2 ^ 24
 small zero v lt h = omega (arith, h)
 small (suc zero) v lt h = omega (arith, h)

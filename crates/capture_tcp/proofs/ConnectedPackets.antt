@@ -1,4 +1,4 @@
--- Octets in one piece at the front, and cells behind them.
+-- Contiguous bytes at the front, and cells after them.
 use Rattle.std.proofs.Common.{◌≡◌, ◌<◌, ◌≤◌, ◌+◌, ◌-◌, ◌++◌, ◌∷◌, ℕ, zero, suc, Bool, true, false, cond, List, [], length, max, min, drop, get_or, slice_get, slice_set, Option, Some, None, refl, sym, ap, ◌∙◌, arith, inl, inr, length-append, length-drop}
 use Rattle.std.proofs.lemmas.Bool.{cases_lt, le-leb}
 use Rattle.std.proofs.Math.ListN.{get_or-eq_default}
@@ -14,7 +14,7 @@ pub length_some : (ns : List ℕ) → length (some_octets ns) ≡ length ns
 length_some [] = refl
 length_some (n ∷ ns) = ap (λ (k : ℕ). suc k) (length_some ns)
 
--- ---- what is let go
+-- ---- what is dropped
 
 pub drop_all : (k : ℕ) (ns : List ℕ) (os : List (Option HeldCell)) → drop k (some_octets ns ++ os) ≡ some_octets (drop k ns) ++ drop (k - length ns) os
 drop_all zero ns os = let none : 0 ≡ 0 - length ns = omega arith in ap (λ (j : ℕ). some_octets ns ++ drop j os) none
@@ -49,7 +49,7 @@ lets_go k items left os gone count subsequent le is e f g =
     ∙ ap (λ (z : List (Option HeldCell)). some_octets (drop count k.octets) ++ z) (g ∙ ap (λ (j : ℕ). drop j k.others) (e ∙ ap (λ (z : List ℕ). count - length z) (sym is)))
     ∙ sym (drop_all count k.octets k.others)
 
--- ---- what is laid
+-- ---- what is stored
 
 stores_front : (ns : List ℕ) (os : List (Option HeldCell)) (i : ℕ) (c : HeldCell) → i < length ns
     → some_octets ns ++ os ≡ slice_set (some_octets ns ++ os) i (or_else (get_or (some_octets ns ++ os) i None) (Some c))
@@ -70,7 +70,7 @@ pub stores_after : (k : Kept) (new : List (Option HeldCell)) (i j : ℕ) (c : He
     → all_of (record { octets = k.octets; others = new }) ≡ slice_set (all_of k) i (or_else (get_or (all_of k) i None) (Some c))
 stores_after k new i j c e f = ap (λ (z : List (Option HeldCell)). some_octets k.octets ++ z) f ∙ after_front k.octets k.others j i c e
 
--- ---- what is put together
+-- ---- what is joined
 
 pub some_append : (ms ns : List ℕ) (os : List (Option HeldCell)) → some_octets (ms ++ ns) ++ os ≡ some_octets ms ++ (some_octets ns ++ os)
 some_append [] ns os = refl
@@ -95,7 +95,7 @@ joined k items new left gone le is j =
     ∙ some_append (drop gone items) j.0 left ∙ ap (λ (z : List (Option HeldCell)). some_octets (drop gone items) ++ z) (sym j.2)
     ∙ ap (λ (z : List ℕ). some_octets z ++ k.others) (sym is)
 
--- ---- octets that follow
+-- ---- bytes that follow
 
 some_get : (ns : List ℕ) (i : ℕ) → get_or (some_octets ns) i None ≡ slice_get (octets_of ns) i
 some_get [] zero = refl
@@ -120,13 +120,13 @@ some_drop zero ns = refl
 some_drop (suc k) [] = refl
 some_drop (suc k) (n ∷ ns) = some_drop k ns
 
--- the octet in a place is one of those behind
+-- The byte at an offset is one of those that follow.
 later : (ns : List ℕ) (k i j : ℕ) → i + k ≡ j → get_or (some_octets (drop k ns)) i None ≡ slice_get (octets_of ns) j
 later ns k i j e =
     ap (λ (z : List (Option HeldCell)). get_or z i None) (some_drop k ns) ∙ get_or-drop k (some_octets ns) i None
     ∙ (let same : k + i ≡ j = omega (arith, e) in ap (λ (m : ℕ). get_or (some_octets ns) m None) same) ∙ some_get ns j
 
--- there is none
+-- There is no byte at the offset.
 too_late : (ns : List ℕ) (k i j : ℕ) → length ns ≤ k → length ns ≤ j → get_or (some_octets (drop k ns)) i None ≡ slice_get (octets_of ns) j
 too_late ns k i j le past =
     let many = length_some ns in
@@ -166,7 +166,7 @@ plain_held false false octets e f = append-nil (octets_of octets)
 plain_held true fins octets e f = absurd cc
 plain_held false true octets e f = absurd cc
 
--- where a packet brings octets alone
+-- A packet that carries bytes alone.
 pub stored_plain : (base place : ℕ) (syns fins : Bool) (octets : List ℕ) (first old new : List (Option HeldCell)) → syns ≡ false → fins ≡ false → old ≡ first
     → IsStored base place (octets_of octets) old new → IsStored base place (held_of syns octets fins) first new
 stored_plain base place syns fins octets first old new e f same h i =

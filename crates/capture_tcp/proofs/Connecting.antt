@@ -1,4 +1,4 @@
--- One segment more, and the end: what was told is what the definition tells.
+-- One more segment, and the end: what was emitted is what the definition gives.
 use Rattle.std.proofs.Common.{◌≡◌, ◌⊎◌, ◌++◌, ◌||◌, ◌∷◌, inl, inr, ℕ, Bool, true, false, cond, List, [], map, Option, Some, None, is_some, refl, sym, ap, subst, ◌∙◌, arith}
 use Rattle.std.proofs.lemmas.List.{append-nil, append_assoc}
 use Rattle.std.specs.Option.{option_to_list}
@@ -35,7 +35,7 @@ use Rattle.capture_tcp.proofs.WatchedBytes.{watched_more}
 use Rattle.capture_tcp.proofs.SettledEvents.{known_more, log_now, nothing_follows, unknown_yet}
 use Rattle.capture_tcp.proofs.EmittedEvents.{emits_all}
 
--- ---- a segment by its place
+-- ---- a segment by its offset
 
 pub side_back : (s : Side) → s ≡ side_of (end_at s)
 side_back side.Active = refl
@@ -120,9 +120,9 @@ followed_some old new r next segment octets emitted later freed packet acked bef
     invariant_by end new next ends (away ++ later) base (before ++ s ∷ []) g.0 (ends_are ∙ ap ends_by knows ∙ ap ends_of (sym now)) (all_rise base (before ++ s ∷ []) numbered)
     (subst (λ (z : List Placed). Outcome next z (away ++ later) end) (sym now) (reacts away ps p arrival rises consistent.1))
 
--- ---- one that has ended stays so
+-- ---- a connection that has ended stays so
 
--- however its end is told
+-- In whatever way its end is reported.
 ends_more : (emitted_end : List Placed → Ending) (ps qs : List Placed) (emitted : List TimedEvent) (e : Ending)
     → ((later : List Placed) → AreRising 0 (ps ++ later) → (map entry_as emitted ≡ (log_of (ps ++ later)).emitted) × (e ≡ emitted_end (ps ++ later)))
     → (later : List Placed) → AreRising 0 ((ps ++ qs) ++ later) → (map entry_as emitted ≡ (log_of ((ps ++ qs) ++ later)).emitted) × (e ≡ emitted_end ((ps ++ qs) ++ later))
@@ -197,7 +197,7 @@ ends_now c first ends emitted later e is emits finishes ends_are base seen away 
           ∙ shown_at_end c.reading.losses ps e rises (all.1 ∙ ap ended_at (append-nil ps)) (watched_more c.reading.losses ps r.0),
     )
 
--- ---- the beginning
+-- ---- the start
 
 pub begins : (turns : Known) (r : Reading) (a p : Store) (base : End → ℕ) → turns ≡ known base [] → Watches r.losses [] → a.place ≡ 0 → ((d : End) → IsStoreOf a [] d)
     → p.place ≡ 0 → ((d : End) → IsStoreOf p [] d) → r.due.items ≡ [] → r.differs ≡ None
@@ -220,7 +220,7 @@ begins turns r a p base e w az ah pz ph none differs is = (
   ),
 )
 
--- ---- what was told is sure
+-- ---- what was emitted is final
 
 abbrev Front : List TimedEvent → List Placed → Type 0
 Front emitted all = (rest : List Entry) × (emits all ≡ map entry_as emitted ++ rest)
@@ -245,7 +245,7 @@ emitted_settled c emitted base seen later consistent numbered =
     let rises = subst (AreRising 0) whole (all_rise base (seen ++ later) numbered) in
     subst (Front emitted) (sym whole) (front_by c.ending c.turns c.reading emitted base seen split.0 consistent rises)
 
--- ---- nothing is held back
+-- ---- nothing is delayed
 
 emitted_by_now : (end : Option Ending) (turns_known : Known) (r : Reading) (emitted : List TimedEvent) (base : End → ℕ) (seen : List Seen) → StateInvariantAs end turns_known r emitted base seen
     → AreRising 0 (places base [] seen) → (map entry_as emitted ≡ (log_of (places base [] seen)).emitted) × (is_some end ≡ is_known (places base [] seen))

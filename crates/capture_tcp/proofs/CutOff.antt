@@ -1,4 +1,4 @@
--- Messages that are cut off a longer stream, up to a place that is there: they are the same.
+-- Messages that are cut off a longer stream, up to an offset that it has: they are the same.
 use Rattle.std.proofs.Common.{◌≡◌, ◌<◌, ◌≤◌, inl, inr, ℕ, zero, suc, ◌+◌, Bool, true, false, cond, nat_lt, List, [], ◌∷◌, ◌++◌, length, take, drop, map, Option, Some, None, refl, sym, ap, subst, ◌∙◌, arith, length-append, length-drop}
 use Rattle.std.proofs.lemmas.Bool.{lt-ltb, cases_lt}
 use Rattle.std.proofs.lemmas.List.{append_assoc, take-append-le, drop-append-le}
@@ -145,7 +145,7 @@ show_step size more o at b c d ds es same h =
           ∙ sym (append_assoc (map (shown o at) c.messages) (show size (with_left b o c.left) ds) h.0),
     )
 
--- what is delivered within the streams shows the same of longer ones
+-- What is delivered within the streams shows the same of longer ones.
 pub show_more : (size : List Cell → Option ℕ) → IsSize size → (more : End → List Cell) (last : End → ℕ) (b : Both) (ds es : List Delivery)
     → ((d : End) → end_left (left_of b d) ≡ last d) → Each (λ (x : Delivery). x.upto ≤ last x.of) ds
     → Begins Shown (show size b ds) (show size (both_longer more b) (ds ++ es))

@@ -1,4 +1,4 @@
--- The turns of more packets begin with those of fewer.
+-- The deliveries of more packets start with those of fewer.
 use Rattle.std.proofs.Common.{◌≡◌, ◌<◌, ◌≤◌, ℕ, ◌+◌, ◌&&◌, ◌||◌, Bool, true, false, cond, nat_lt, nat_le, List, [], ◌∷◌, ◌++◌, length, map, filter, flat_map, Option, Some, None, refl, sym, ap, subst, ◌∙◌, arith}
 use Rattle.std.proofs.lemmas.Bool.{leb-true, ltb-false, le-ltb}
 use Rattle.std.proofs.lemmas.List.{append_assoc, append-nil}
@@ -75,7 +75,7 @@ turns_ordered m before (p ∷ ps) h =
     (turns_each (λ (q : Placed). p.packet < q.packet) (before ++ (p ∷ [])) ps (later_packets p.packet ps h.1)))
     (turns_ordered p.packet (before ++ (p ∷ [])) ps h.1)
 
--- ---- what is told
+-- ---- what is emitted
 
 pub before_is : (o : Option ℕ) (t : Turn) → is_before o t ≡ passes o t.at.packet
 before_is None t = refl
@@ -124,7 +124,7 @@ emitted_more m xs ys h =
     let front = kept_more m xs ys h in
     subst (λ (ts : List Turn). Begins Turn (emitted_turns xs) (up_to_reset false ts)) (sym front.1) (reset_more false (filter (is_before (breaks_off xs)) (turns [] xs)) front.0)
 
--- ---- what is told lies within what is held
+-- ---- what is emitted is within what is buffered
 
 abbrev Fair : (Placed → Type 0) → List Placed → Turn → Type 0
 Fair Q all t = Q t.own × (t.own.place ≤ end_of all t.own.from) × (t.own.packet ≤ t.at.packet)
@@ -217,7 +217,7 @@ emitted_within m ps h =
     (weaken (λ (t : Turn). Fair (Sound ps) ps t × (is_before (breaks_off ps) t ≡ true)) (λ (t : Turn). Each (Within ps) (deliveries t)) kept
     (λ t f. sound_within ps t f.0 f.1) (each_filter (Fair (Sound ps) ps) (is_before (breaks_off ps)) (turns [] ps) fair)))
 
--- what is delivered at a turn before the end of the log is there
+-- What is delivered before the end of the log is present.
 pub each_within : (m : ℕ) (ps : List Placed) → Rising m ps → Each (λ (t : Turn). is_before (breaks_off ps) t ≡ true → Each (Within ps) (deliveries t)) (turns [] ps)
 each_within m ps h =
     let sound = both_hold (Holds ps) (λ (p : Placed). passes (loss [] ps) p.packet ≡ true → is_past ps p ≡ false) ps (each_holds ps) (loss_settled m [] ps h) in

@@ -1,4 +1,4 @@
--- Copies that differ from what is held.
+-- Copies that differ from what is buffered.
 use Rattle.std.proofs.Common.{◌≡◌, ◌<◌, ◌≤◌, ◌+◌, ◌^◌, ◌++◌, ◌∷◌, ◌&&◌, ◌||◌, ℕ, Bool, true, false, nat_le, List, [], length, map, min, take, drop, get_or, Option, Some, None, ◌-◌, ◌==◌, nat_eq, not, zero, suc, refl, sym, ap, ◌∙◌, arith, inl, inr, ◌⊎◌, length-drop, length-take}
 use Rattle.std.proofs.lemmas.Bool.{le-leb, lt-leb, cases_lt}
 use Rattle.std.proofs.Math.ListN.{get_or-eq_default}
@@ -56,7 +56,7 @@ unfolding differs
 octets_end base acknowledged place [] ss w e h = h
 octets_end base acknowledged place (n ∷ ns) ss w e h = absurd (omega (arith, e))
 
--- nothing is held in the places of these
+-- Nothing is buffered at the offsets of these.
 pub past_differs : (base acknowledged place : ℕ) (cs : List HeldCell) (ss : List (Option HeldCell)) → length ss ≤ place - base → false ≡ differs base acknowledged place cs ss
 unfolding differs
 past_differs base acknowledged place [] ss le = refl
@@ -72,7 +72,7 @@ past_differs base acknowledged place (c ∷ cs) ss le =
     by_none None e later = later ∙ ap (λ (b : Bool). b || differs base acknowledged (place + 1) cs ss) (sym (and_false (nat_le acknowledged place)))
     by_none (Some d) e later = absurd cc
 
--- ---- copies of several octets
+-- ---- copies of several bytes
 
 pub known_passed : (base acknowledged place k : ℕ) (ns : List ℕ) (ss : List (Option HeldCell)) → k ≤ acknowledged - place → k ≤ length ns
     → differs base acknowledged (place + k) (octets_of (drop k ns)) ss ≡ differs base acknowledged place (octets_of ns) ss
@@ -84,7 +84,7 @@ known_passed base acknowledged place (suc k) (n ∷ ns) ss le few =
     ap (λ (m : ℕ). differs base acknowledged m (octets_of (drop k ns)) ss) at ∙ known_passed base acknowledged (place + 1) k ns ss (omega (arith, le)) (omega (arith, few))
     ∙ ap (λ (b : Bool). b || differs base acknowledged (place + 1) (octets_of ns) ss) (is_acknowledged acknowledged place (is_another (held.Octet n) (get_or ss (place - base) None)) (omega (arith, le)))
 
--- these octets are held in one piece from a place on
+-- Holds if these bytes are buffered without a gap from an offset on.
 abbrev HoldsAt : ℕ → List ℕ → List (Option HeldCell) → Type 0
 HoldsAt i hs ss = (more : List (Option HeldCell)) × (drop i ss ≡ some_octets hs ++ more)
 
@@ -121,7 +121,7 @@ copied base acknowledged place next (c ∷ copy) (h ∷ hs) ns ss e low free the
     (holds_next (place - base) (place + 1 - base) h hs ss (omega (arith, low)) there) (omega (arith, at)))
     ∙ first_compared c h (pointwise nat_eq copy hs) (differs base acknowledged next (octets_of ns) ss)
 
--- what is compared: so many octets of those in one piece, from a place on
+-- What is compared: the given number of the contiguous bytes, from an offset on.
 held_at : (k : Kept) (i count : ℕ) (kept : List ℕ) → kept ≡ take count (drop (min i (length k.octets)) k.octets) → count ≤ length (drop (min i (length k.octets)) k.octets)
     → (i ≤ length k.octets) ⊎ (count ≡ 0) → HoldsAt i kept (all_of k)
 held_at k i count kept e le (inl near) =

@@ -1,4 +1,4 @@
--- What an end takes from a queue as it goes on, a packet after the other.
+-- What an advancing end removes from a queue, one packet after another.
 use Rattle.std.proofs.Common.{◌≡◌, ◌≤◌, ◌++◌, ℕ, max, List, [], ◌∷◌, refl, ap, ◌∙◌, sym}
 use Rattle.std.proofs.lemmas.Bool.{le-leb, lt-leb}
 use Rattle.std.proofs.lemmas.List.{append_assoc, append-nil}
@@ -15,7 +15,7 @@ unfolding drained
 stops end [] h = refl
 stops end (q ∷ qs) h = rw (lt-leb q.from end h) refl
 
--- what a loop keeps, where it began with these and has these now
+-- What a loop preserves, if it started with the first of these and has the second now.
 pub record Keeps (end acknowledged : ℕ) (queue emitted : List Packet) (end' acknowledged' : ℕ) (queue' emitted' : List Packet) : Type 0 where
   pub comes : (drained end' queue').end ≡ (drained end queue).end
   pub rest : (drained end' queue').left ≡ (drained end queue).left

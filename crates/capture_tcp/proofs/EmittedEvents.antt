@@ -1,4 +1,4 @@
--- A log tells what is told turn by turn.
+-- A log is what is emitted delivery by delivery.
 use Rattle.std.proofs.Common.{◌≡◌, ◌<◌, ◌≤◌, ◌==◌, ◌++◌, ◌∷◌, ◌&&◌, ◌||◌, ◌+◌, ℕ, Bool, true, false, cond, nat_le, min, List, [], length, map, filter, flat_map, Option, Some, None, refl, sym, ap, subst, ◌∙◌, arith, inl, inr}
 use Rattle.std.proofs.lemmas.Bool.{le-leb, lt-leb, cases_lt, eqb-false, eqb-true}
 use Rattle.std.proofs.lemmas.List.{append-nil, append_assoc}
@@ -21,7 +21,7 @@ use Rattle.capture_tcp.proofs.LaterEvents.{submit_first, emitted_then}
 use Rattle.capture_tcp.proofs.Slicing.{processes_append}
 use Rattle.capture_tcp.proofs.DeliveredPackets.{Ordered, turns_ordered}
 
--- ---- all that is heard, one after another: that the connection comes up, entries, and a reset
+-- ---- all that is processed in sequence: that the connection is established, entries, and a reset
 
 unfoldable pub signs : Bool → Both → List Turn → List Entry
 signs o b [] = []
@@ -61,7 +61,7 @@ emitted_signs s o b (t ∷ ts) =
         ∙ ap (λ (z : List Entry). (processes_input s (a ++ d)).emitted ++ z) (later (processes_input s (a ++ d)).state)
         ∙ sym (processed_emitted s (a ++ d) (signs more both ts)) ∙ ap (λ (z : List Entry). (processes_input s z).emitted) (append_assoc a d (signs more both ts))
 
--- ---- those that aren't the coming up
+-- ---- those that do not say that it is established
 
 no_ups : List Entry → List Entry
 no_ups [] = []
@@ -105,7 +105,7 @@ plain_turn t b =
     each_append (λ (e : Entry). is_up e.emitted ≡ false) (by_ack t t.packet.acknowledged b).entries (brought t c).entries (plain_ack t t.packet.acknowledged b)
     (plain_cut (end_at t.from) t.at (cut_to t.packet.to (left_of c (end_at t.from))).messages)
 
--- ---- what is shown at a turn
+-- ---- what is shown at a delivery
 
 shown_map : (d : End) (at : Placed) (ms : List (List Cell)) (ss : List Shown)
     → shown_entries (map (λ m. record { of = d; cells = m; at = at }) ms ++ ss) ≡ flat_map (λ m. entry_of d at.packet [] m) ms ++ shown_entries ss
@@ -260,7 +260,7 @@ no_message o (t ∷ ts) = by_reset (t.own.reset && (o || is_open t)) (no_message
     by_reset true later = refl
     by_reset false later = later
 
--- ---- their packets rise
+-- ---- their packets increase
 
 abbrev pub Rise : ℕ → List Entry → Type 0
 Rise m [] = Unit {0}
@@ -317,7 +317,7 @@ signs_rise m o b (t ∷ ts) h e =
     by_reset true later = (omega arith, tt)
     by_reset false later = later
 
--- ---- once it is up
+-- ---- once it is established
 
 side_same : (d : End) → end_at (side_of d) ≡ d
 side_same active = refl
@@ -348,7 +348,7 @@ running (e ∷ es) s = by_emitted e.packet e.emitted (λ u. running es u)
     by_emitted n (message d octets) later = by_message n d octets (is_left_out (option_map end_at s) d) refl later
     by_emitted n down later = ap (λ (h : Processed). entry n down ∷ h.emitted) (over_processes es)
 
--- ---- before it is up
+-- ---- before it is established
 
 later_up : (n : ℕ) (es : List Entry) (j : ℕ) → Rise n es → first_up es ≡ Some j → n ≤ j
 unfolding first_up
@@ -412,7 +412,7 @@ abbrev IsEarly : Option ℕ → ℕ → Type 0
 IsEarly None n = Unit {0}
 IsEarly (Some m) n = m ≤ n
 
--- an end before another one at the same packet, or before, is as that
+-- An end at or before the packet of another end is treated as that one.
 early_skipped : (early : Option ℕ) (n : ℕ) (k : Option ℕ) (es : List Entry) → IsEarly early n → ((j : ℕ) → k ≡ Some j → n ≤ j)
     → after_up k (entry n down ∷ es) ≡ after_up k (early_list early ++ (entry n down ∷ es))
 early_skipped None n k es h low = refl
@@ -426,7 +426,7 @@ early_skipped (Some m) n (Some j) es h low =
           rw (same, le-leb j n (omega (arith, ge, h))) refl
     ]
 
--- what comes up by a message or an ACK: then all goes on as once it is up
+-- What establishes the connection by a message or an ACK. Everything then continues as once it is established.
 comes : (early : Option ℕ) (n : ℕ) (es : List Entry) (proceeds : EmitterState → List Entry) → IsEarly early n → proceeds emitter_state.Over ≡ [] → proceeds (emitter_state.Running None) ≡ up_to_down (from n es) None
     → (comes_up (emitter_state.Waiting early) n).emitted ++ proceeds (comes_up (emitter_state.Waiting early) n).state ≡ entry n up ∷ up_to_down (from n (early_list early ++ es)) None
 comes None n es proceeds h over runs = ap (λ (z : List Entry). entry n up ∷ z) runs
@@ -519,7 +519,7 @@ emits_all ps h =
     ∙ ap (λ (z : List Entry). after_up (earlier (answered_at ts) (first_message z)) z) rest
     ∙ ap (λ (o : Option ℕ). after_up (earlier (answered_at ts) o) (es ++ reset_entries false ts)) (append_message es (reset_entries false ts) (no_message false ts))
 
--- ---- and its packets rise
+-- ---- and its packets increase
 
 rise_no_ups : (m : ℕ) (es : List Entry) → Rise m es → Rise m (no_ups es)
 unfolding no_ups

@@ -1,4 +1,4 @@
--- The messages of an end that are told are the first ones that the wire shows, and nothing is told behind a loss.
+-- The emitted messages of an end are the first ones that the packets show, and nothing is emitted after a loss.
 use Rattle.std.proofs.Common.{◌≡◌, ◌≤◌, ◌<◌, ◌++◌, ◌∷◌, ◌&&◌, ◌||◌, ℕ, Bool, true, false, cond, min, nat_le, List, [], Option, Some, None, refl, sym, ap, ◌∙◌, arith}
 use Rattle.std.proofs.lemmas.Bool.{le-leb}
 use Rattle.capture_tcp.specs.TcpStreams.{End, active, passive, other, same_end, Turn, earlier, is_open, shows_of, emitted_turns}
@@ -9,13 +9,13 @@ use Rattle.capture_tcp.proofs.KeptCells.{turns_before}
 use Rattle.capture_tcp.proofs.LastingFacts.{each_entry, emitted_all_at}
 use Rattle.capture_tcp.proofs.EmittedEvents.{Rise, append_message, entries_rise, from, no_message}
 
--- these are the first ones of those
+-- Holds if these are the first ones of those.
 abbrev AreFirst : End → List Entry → List Entry → Type 0
 AreFirst d xs ys = (rest : List (List ℕ)) × (messages_emitted d ys ≡ messages_emitted d xs ++ rest)
 
 -- ---- what crosses a Separate
 
--- of an end whose messages are left out nothing is told
+-- Nothing is emitted of an end whose messages are skipped.
 left_as : (s d c : End) → same_end d (other s) ≡ true → same_end c (other s) ≡ false → same_end c d ≡ false
 left_as active active c h k = absurd cc
 left_as active passive active h k = refl
@@ -40,7 +40,7 @@ none_left d (e ∷ es) s h = by_emitted e.emitted refl (none_left d es s h)
     by_emitted (message c octets) at later = by_end c octets (same_end c (other s)) at refl later
     by_emitted down at later = ap (λ (t : ConnectionEvent). and_message d t []) at
 
--- one that is left out is none of an end whose messages aren't
+-- A skipped message does not come from an end whose messages are not skipped.
 apart : (o : Option End) (d c : End) → is_left_out o d ≡ false → is_left_out o c ≡ true → same_end c d ≡ false
 apart None d c h k = absurd cc
 apart (Some active) active active h k = absurd cc
@@ -92,7 +92,7 @@ first_down d (e ∷ es) o = by_left (is_left_out o d) refl (first_down d es)
         (messages_emitted d (e ∷ es), ap (λ (ms : List (List ℕ)). ms ++ messages_emitted d (e ∷ es)) (sym (left_out_is d (e ∷ es) o h)))
     by_left false h first = by_emitted e.emitted refl h first
 
--- ---- what stands before it came up
+-- ---- what comes before it was established
 
 keep_all : (k n : ℕ) (es : List Entry) → k ≤ n → Rise n es → from k es ≡ es
 keep_all k n [] le rise = refl

@@ -1,4 +1,4 @@
--- A capture that is cut anywhere tells a front of what the whole one tells.
+-- A capture that is cut anywhere emits a prefix of what the complete one emits.
 use Rattle.std.proofs.Common.{◌≡◌, ◌≤◌, ◌++◌, ◌∷◌, ◌+◌, ◌||◌, ℕ, Bool, true, false, cond, List, [], length, filter, flat_map, Option, Some, None, refl, sym, ap, subst, ◌∙◌, arith}
 use Rattle.std.proofs.lemmas.List.{append-nil, append_assoc}
 use Rattle.capture_tcp.specs.declared.events.EmitterState.{EmitterState}
@@ -21,7 +21,7 @@ use Rattle.capture_tcp.proofs.Sizes.{is_size}
 use Rattle.capture_tcp.proofs.EmittedEvents.{processed_emitted, signs, emits_all, emitted_signs, turn_by}
 use Rattle.capture_tcp.proofs.DeliveredPackets.{Within, each_within, kept_more}
 
--- both streams end there
+-- Holds if both streams end there.
 abbrev EndAt : (End → ℕ) → Both → Type 0
 EndAt last b = (d : End) → end_left (left_of b d) ≡ last d
 
@@ -32,7 +32,7 @@ after_ends : (last : End → ℕ) (b : Both) (d : End) (n : ℕ) → EndAt last 
 after_ends last b d n ends =
     with_ends last b d (cut_to n (left_of b d)).left (cut_end message_size is_size (length (left_of b d).cells) n (left_of b d) ∙ ends d) ends
 
--- what is delivered up to a place that is there is the same of longer streams
+-- What is delivered up to an offset that exists is the same in longer streams.
 one_longer : (more : End → List Cell) (last : End → ℕ) (b : Both) (d : End) (n at : ℕ) → EndAt last b → n ≤ last d
     → (cut_entries d at (cut_to n (left_of (both_longer more b) d)) ≡ cut_entries d at (cut_to n (left_of b d))) × (subsequent (both_longer more b) d n ≡ both_longer more (subsequent b d n))
 one_longer more last b active n at ends le =
@@ -46,7 +46,7 @@ one_longer more last b passive n at ends le =
     let same = cut_more message_size is_size (length l.cells) (length (l.cells ++ more passive)) n l (more passive) (omega arith) (omega arith) (omega (arith, here, le)) in
     (ap (λ (ms : List (List Cell)). flat_map (λ m. entry_of passive at [] m) ms) same.0, ap (λ (z : Left). with_left (both_longer more b) passive z) same.1)
 
--- the same of a turn, which keeps where both streams end
+-- A delivery is the same in longer streams, and preserves where both streams end.
 record IsLonger (more : End → List Cell) (last : End → ℕ) (b : Both) (t : Turn) : Type 0 where
   same : (delivers (due_of t) (both_longer more b)).entries ≡ (delivers (due_of t) b).entries
   left : (delivers (due_of t) (both_longer more b)).both ≡ both_longer more (delivers (due_of t) b).both
@@ -90,7 +90,7 @@ turn_longer more last b at own passive (Some m) ends h =
     let two = two_longer more last b active passive m n at.packet ends h.0 h.1.0 in
     record { same = two.0; left = two.1; ends = after_ends last (subsequent b active m) passive n (after_ends last b active m ends) }
 
--- turn by turn
+-- Delivery by delivery.
 signs_more : (more : End → List Cell) (last : End → ℕ) (o : Bool) (b : Both) (ts us : List Turn) → EndAt last b → Each (UpTo last) ts
     → Begins Entry (signs o b ts) (signs o (both_longer more b) (ts ++ us))
 unfolding signs

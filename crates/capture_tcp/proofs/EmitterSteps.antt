@@ -1,4 +1,4 @@
--- One segment more: what is known behind it, and whose turn it is.
+-- One more segment: the state after it, and what is delivered.
 use Rattle.std.proofs.Common.{◌≡◌, ◌<◌, ◌≤◌, ◌++◌, ◌&&◌, inl, inr, ℕ, max, Bool, true, false, cond, nat_le, nat_lt, List, [], ◌∷◌, map, Option, Some, None, refl, sym, ap, subst, ◌∙◌, arith}
 use Rattle.std.proofs.lemmas.Bool.{le-leb, lt-ltb, ltb-true, cases_lt}
 use Rattle.std.proofs.lemmas.List.{append-nil}
@@ -104,7 +104,7 @@ drains before p =
               ∙ ap (λ (qs : List Placed). map packet_of qs) first.1 ∙ sym (ap (λ (qs : List Placed). map packet_of qs) went.1),
         )
 
--- ---- what is acknowledged by turns
+-- ---- what is acknowledged by in-order packets
 
 greatest_more : (d : End) (ts us : List Turn) → greatest_acknowledged d (ts ++ us) ≡ max (greatest_acknowledged d ts) (greatest_acknowledged d us)
 greatest_more d [] us = omega arith
@@ -269,7 +269,7 @@ pub known_is : (a b c d : Flow) (m n : ℕ) → a ≡ b → c ≡ d → m ≡ n
     → ◌≡◌ {A = Known} (record { active = a; passive = c; latest = m }) (record { active = b; passive = d; latest = n })
 known_is a b c d m n e f g = rw (e, f, g) refl
 
--- ---- the greatest time
+-- ---- the latest time
 
 latest_more : (xs ys : List Placed) → latest (xs ++ ys) ≡ max (latest xs) (latest ys)
 latest_more [] ys = omega arith
@@ -295,7 +295,7 @@ latest_is base before s placed e =
     latest_by ps (confirmed ps s.from) s (place_of (end_of ps s.from) (base s.from) s.number) (ack_place ps base (other s.from) s.acknowledged) placed e
     ∙ sym (ap latest (one_more base before s))
 
--- with the greatest time so far
+-- With the latest time so far.
 abbrev pub raised : Known → Seen → Seen
 raised k s = record s { time = max k.latest s.time }
 
@@ -335,7 +335,7 @@ passive_continues old emitted s t own peer clock later placed is from f g h k l 
       places_it,
     )
 
--- nothing is known before the first segment
+-- Nothing is known before the first segment.
 
 pub begins : (base : End → ℕ) (d : End) → ◌≡◌ {A = Flow} (record { base = base d; end = 0; acknowledged = 0; confirmed = 0; waiting = [] }) (flow_of base [] d)
 unfolding bound run turns

@@ -1,4 +1,4 @@
--- The end of what is there without a gap.
+-- The end of what has no gap.
 use Rattle.std.proofs.Common.{◌≡◌, ◌<◌, ◌≤◌, ◌⊎◌, ◌-◌, ℕ, zero, suc, ◌+◌, ◌&&◌, max, cond, Bool, true, false, nat_le, List, [], ◌∷◌, ◌++◌, length, slice_get, Option, Some, None, is_some, refl, subst, arith, inl, inr}
 use Rattle.std.proofs.lemmas.Bool.{le-leb, leb-true, cases_lt}
 use Rattle.std.proofs.lemmas.Option.{slice_get_cases}

@@ -1,4 +1,4 @@
--- The packet that shows a loss, found by what a reader keeps.
+-- The packet that shows a loss, found in the reader's state.
 use Rattle.std.proofs.Common.{◌≡◌, ◌<◌, ◌≤◌, ◌++◌, ◌∷◌, ◌∙◌, ℕ, suc, Bool, true, false, cond, nat_le, nat_lt, List, [], length, take, map, Option, Some, None, refl, sym, ap, subst, arith, append_assoc}
 use Rattle.std.proofs.lemmas.Bool.{leb-true}
 use Rattle.std.proofs.lemmas.List.{append-nil, take_all, take_at}
@@ -24,7 +24,7 @@ past_same all (q ∷ qs) =
     let later = past_same all qs in
     rw (here, later) refl
 
--- no packet before it is a loss
+-- No packet before it is a loss.
 passes_by : (k : ℕ) (before settled tail : List Placed) → Each (λ (s : Placed). s.packet < k) settled → loss before (settled ++ tail) ≡ Some k
     → loss_shown before (settled ++ tail) ≡ loss_shown (before ++ settled) tail
 unfolding loss loss_shown
@@ -58,7 +58,7 @@ shown_from settled q next later rises subsequent window same =
     ∙ ap (λ (z : List Placed). or_else (first_past (settled ++ (q ∷ z)) (q ∷ z)) (Some q.packet)) window
     ∙ ap (λ (o : Option ℕ). or_else o (Some q.packet)) (sym (past_same all (q ∷ next)))
 
--- the packet is found, by those that are kept, whatever follows the next 4,096
+-- The kept packets determine the packet, whatever follows the next 4,096.
 shown_by_rest : (settled rest ps later : List Placed) (needs : List Need) (k : ℕ) → ps ≡ settled ++ rest → needs ≡ map need_at rest
     → ((more : List Placed) → loss [] (ps ++ more) ≡ loss settled (rest ++ more)) → HeadIncomplete ps rest → loss [] ps ≡ Some k → AreRising 0 (ps ++ later)
     → ((next : List Placed) → (q : Placed) → rest ≡ q ∷ next → take 4096 (next ++ later) ≡ next) → loss_shown [] (ps ++ later) ≡ shown_of (ends_of ps) needs
@@ -72,7 +72,7 @@ shown_by_rest settled (q ∷ next) ps later needs k whole same more lacks is ris
     ∙ shown_from settled q next later (subst (AreRising 0) all rises) subsequent (window next q refl) (ap (loss []) (sym all) ∙ more later)
     ∙ ap (λ (z : List Placed). shown_of (ends_of z) (map need_at (q ∷ next))) (sym whole) ∙ ap (shown_of (ends_of ps)) (sym same)
 
--- where none follows
+-- If none follows.
 pub shown_now : (needs : List Need) (ps : List Placed) (k : ℕ) → IsWatched 4097 needs ps → loss [] ps ≡ Some k → AreRising 0 ps → loss_shown [] ps ≡ shown_of (ends_of ps) needs
 shown_now needs ps k w is rises =
     ap (loss_shown []) (sym (append-nil ps))
@@ -80,7 +80,7 @@ shown_now needs ps k w is rises =
     (λ next q one. let most = w.6 in let long : length w.1 ≡ suc (length next) = ap length one in
     ap (take 4096) (append-nil next) ∙ take_all 4096 next (omega (arith, long, most)))
 
--- where 4,096 follow, whatever comes behind these
+-- If 4,096 follow, whatever comes after these.
 many_next : (settled rest ps : List Placed) (k : ℕ) → ps ≡ settled ++ rest → ((more : List Placed) → loss [] (ps ++ more) ≡ loss settled (rest ++ more)) → HeadIncomplete ps rest
     → length rest ≤ 4097 → loss [] ps ≡ Some k → AreRising 0 ps → 4096 ≤ packets_after k ps → (next : List Placed) (q : Placed) → rest ≡ q ∷ next → length next ≡ 4096
 unfolding loss
@@ -106,7 +106,7 @@ shown_sure needs ps later k w is many rises more_rise =
     shown_by_rest w.0 w.1 ps later needs k w.2 w.3 w.4 w.5 is more_rise
     (λ next q one. let long = many_next w.0 w.1 ps k w.2 w.4 w.5 w.6 is rises many next q one in take_at next later 4096 long)
 
--- ---- how it ends, by the packet that shows a loss
+-- ---- the ending, by the packet that shows a loss
 
 pub shown_same : (x y : Option ℕ) (e : Ending) → ((k : ℕ) → e ≡ ending.Lost k → x ≡ y) → shown_by x e ≡ shown_by y e
 shown_same x y ending.Closed same = refl
@@ -114,7 +114,7 @@ shown_same x y ending.Complete same = refl
 shown_same x y (ending.Lost k) same = ap (λ (o : Option ℕ). shown_by o (ending.Lost k)) (same k refl)
 shown_same x y (ending.Differs k) same = refl
 
--- an ending that is no loss is told as it is
+-- An ending that is not a loss is reported unchanged.
 pub reported_as_it_is : (o : Option ℕ) (e x : Ending) → shown_by o e ≡ x → ((k : ℕ) → x ≡ ending.Lost k → ⊥) → e ≡ x
 reported_as_it_is o ending.Closed x is none = is
 reported_as_it_is o ending.Complete x is none = is
@@ -139,7 +139,7 @@ lost_by_closed false ps k e = broken_lost (loss [] ps) (difference [] ps) k e
 pub lost_at : (ps : List Placed) (k : ℕ) → ended_at ps ≡ ending.Lost k → loss [] ps ≡ Some k
 lost_at ps k e = lost_by_closed (log_of ps).closed ps k e
 
--- it ended, and so it is told, whatever follows
+-- It ended, and this is reported, whatever follows.
 pub shown_ended : (needs : List Need) (ps : List Placed) (emitted : List TimedEvent) (e : Ending) → AreRising 0 ps → IsEnded true ps emitted e → is_known ps ≡ true → IsWatched 4097 needs ps
     → IsShownEnded true ps emitted (shown_by (shown_of (ends_of ps) needs) e)
 shown_ended needs ps emitted e rises ends known w later more =
@@ -152,7 +152,7 @@ shown_ended needs ps emitted e rises ends known w later more =
     sym (shown_sure needs ps later k w (lost_at ps k here) (leb-true 4096 (packets_after k ps) good) rises more)) in
     (then.0, same ∙ ap (shown_by (loss_shown [] (ps ++ later))) then.1)
 
--- the same where none follows
+-- It ended, and this is reported, if nothing follows.
 pub shown_at_end : (needs : List Need) (ps : List Placed) (e : Ending) → AreRising 0 ps → e ≡ ended_at ps → IsWatched 4097 needs ps
     → shown_by (shown_of (ends_of ps) needs) e ≡ ended ps
 shown_at_end needs ps e rises now w =

@@ -1,4 +1,4 @@
--- What is told up to where a log breaks off is all of it.
+-- What is emitted up to where a log stops is all of it.
 use Rattle.std.proofs.Common.{◌≡◌, ◌≤◌, ◌++◌, ◌∷◌, ℕ, Bool, true, false, List, [], map, Option, Some, None, refl, sym, ap, subst, ◌∙◌, arith}
 use Rattle.std.proofs.lemmas.Bool.{ltb-false, le-ltb}
 use Rattle.std.proofs.lemmas.List.{append-nil}
@@ -17,7 +17,7 @@ use Rattle.capture_tcp.specs.EndOfStream.{BreaksAt, EachAfter, Finishes, broken,
 use Rattle.capture_tcp.proofs.Lists.{Each}
 use Rattle.capture_tcp.proofs.DeliveredPackets.{Ordered, turns_ordered}
 
--- ---- what isn't told
+-- ---- what is not emitted
 
 not_before : (o : Option ℕ) (t : Turn) → is_sure o t.at.packet ≡ false → is_before o t ≡ false
 not_before None t e = absurd cc
@@ -47,7 +47,7 @@ pub ordered_back : (xs ys : List Turn) → Ordered (xs ++ ys) → Ordered ys
 ordered_back [] ys h = h
 ordered_back (x ∷ xs) ys h = ordered_back xs ys h.1
 
--- ---- where it breaks off
+-- ---- where it stops
 
 limit_is : (more : Bool) (limit : Option ℕ) (e : Ending) (ps : List Placed) → BreaksAt more limit e ps → IsLimit more limit ps
 limit_is more limit e ps breaks later h n rises sure = subst (λ (o : Option ℕ). is_sure o n ≡ true) (sym (breaks later h).0) sure

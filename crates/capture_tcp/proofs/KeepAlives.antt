@@ -1,4 +1,4 @@
--- When a segment asks only.
+-- When a segment is a keep-alive.
 use Rattle.std.proofs.Common.{◌≡◌, ◌≢◌, ℕ, Bool, true, false, nat_lt, List, [], ◌∷◌, length, refl, arith}
 use Rattle.capture_tcp.specs.TcpStreams.{asks_only}
 use Rattle.capture_tcp.specs.Message.{cells_of}

@@ -1,4 +1,4 @@
--- What is shown of a direction is a front of its stream, and nothing of it stands behind a loss.
+-- What is shown of a direction is a prefix of its stream, and nothing of it comes after a loss.
 use Rattle.std.proofs.Common.{◌≡◌, ◌<◌, ◌≤◌, ◌⊎◌, inl, inr, min, arith, ℕ, zero, suc, ◌+◌, Bool, true, false, nat_lt, cond, List, [], ◌∷◌, ◌++◌, length, take, drop, map, filter, flat_map, Option, Some, None, refl, sym, ap, subst, ◌∙◌}
 use Rattle.std.proofs.lemmas.Bool.{ltb-true}
 use Rattle.std.proofs.lemmas.List.{append_assoc, take-append-drop}
@@ -77,7 +77,7 @@ unfolding show
 show_keeps size [] d b = ((left_of b d).cells, refl)
 show_keeps size (x ∷ ds) d b = step size b x.of x.upto x.at ds d (show_keeps size ds d)
 
--- ---- nothing behind a loss
+-- ---- nothing after a loss
 
 each_message : (P : Placed → Type 0) (o : End) (at : Placed) (ms : List (List Cell)) (ss : List Shown) → P at → EachShown P ss
     → EachShown P (map (λ m. record { of = o; cells = m; at = at }) ms ++ ss)
@@ -96,7 +96,7 @@ of_turn : (P : Placed → Type 0) (at own : Placed) (a : Option ℕ) → P at
 of_turn P at own None p = (p, tt)
 of_turn P at own (Some n) p = (p, (p, tt))
 
--- what is shown is shown at the packets of the turns
+-- What is shown is shown at the packets of the deliveries.
 pub shows_each : (P : Placed → Type 0) (size : List Cell → Option ℕ) (ps : List Placed) → Each (λ (t : Turn). P t.at) (emitted_turns ps) → EachShown P (shows_of size ps)
 shows_each P size ps h =
     show_each P size (flat_map deliveries (emitted_turns ps)) (both_streams ps)
@@ -104,7 +104,7 @@ shows_each P size ps h =
     (weaken (λ (t : Turn). P t.at) (λ (t : Turn). Each (λ (d : Delivery). P d.at) (deliveries t)) (emitted_turns ps)
     (λ t at. of_turn P t.at t.own t.own.acknowledged at) h))
 
--- where it breaks off is at the first of both, or before
+-- The log stops at the earlier of the two, or before.
 breaks_by : (a b : Option ℕ) (k : ℕ) → (a ≡ Some k) ⊎ (b ≡ Some k) → (j : ℕ) × (earlier a b ≡ Some j) × (j ≤ k)
 breaks_by None b k (inl e) = absurd cc
 breaks_by None b k (inr e) = (k, e, omega arith)

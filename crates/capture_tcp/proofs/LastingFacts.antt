@@ -1,4 +1,5 @@
--- What was told of a connection that is over is all of it, whatever follows, and each entry is told at a packet of it.
+-- What was emitted of a connection that has ended is all of it, whatever follows, and each entry is emitted at one of
+-- its packets.
 use Rattle.std.proofs.Common.{◌≡◌, ◌++◌, ◌∷◌, ◌&&◌, ◌||◌, inl, inr, ℕ, Bool, true, false, cond, min, nat_eq, nat_le, List, [], filter, Option, Some, None, refl, sym, ap, subst, ◌∙◌, arith}
 use Rattle.std.proofs.lemmas.Bool.{cases_lt, eq-eqb}
 use Rattle.std.proofs.lemmas.List.{append-nil}
@@ -154,7 +155,7 @@ emitted_at_packets base seen =
     let ps = places base [] seen in
     each_entry P (emits ps) (emitted_at P ps (places_each P base [] seen tt (seen_each seen)))
 
--- ---- one that ended stays so
+-- ---- a connection that ended stays so
 
 never_complete : (ps : List Placed) (emitted : List TimedEvent) (e : Ending) → AreRising 0 ps → IsShownEnded true ps emitted e → is_known ps ≡ true → e ≡ ending.Complete → ⊥
 never_complete ps emitted e rises ends known is =

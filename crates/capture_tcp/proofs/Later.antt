@@ -1,4 +1,4 @@
--- Times that never go back.
+-- Times that never decrease.
 use Rattle.std.proofs.Common.{◌≡◌, ◌≤◌, ◌++◌, ◌∷◌, ℕ, Bool, true, false, cond, max, nat_le, List, [], map, Option, Some, None, refl, arith, inl, inr}
 use Rattle.std.proofs.lemmas.Bool.{le-leb, lt-leb, leb-true, cases_lt}
 use Rattle.capture_tcp.specs.TcpStreams.{End, Placed, earlier, emitted_turns, shows_of}
@@ -7,7 +7,7 @@ use Rattle.capture_tcp.specs.ConnectionEvents.{ConnectionEvent, up, message, dow
 use Rattle.capture_tcp.specs.Timestamps.{AreInOrder, TimesNeverGoBack, time_at}
 use Rattle.capture_tcp.proofs.EmittedEvents.{Rise, entries_rise, from, rise_lower}
 
--- ---- the packets of what is told rise
+-- ---- the packets of what is emitted increase
 
 rise_front : (m k : ℕ) (es : List Entry) → Rise m es → Rise m (from k es)
 rise_front m k [] h = tt

@@ -1,4 +1,4 @@
--- Turns that are told one after another.
+-- Deliveries that are emitted one after another.
 use Rattle.std.proofs.Common.{◌≡◌, ◌≤◌, ◌+◌, ◌-◌, ◌++◌, ◌∷◌, ◌||◌, ℕ, zero, suc, Bool, true, false, cond, nat_lt, List, [], length, take, drop, map, Option, Some, None, refl, sym, ap, subst, ◌∙◌, arith, length-drop}
 use Rattle.std.proofs.lemmas.List.{append_assoc, drop-drop, map-append}
 use Rattle.std.specs.Option.{unwrap_or}
@@ -19,7 +19,7 @@ use Rattle.capture_tcp.specs.DeliverySteps.{Log, MovesTo, TakesTurn, ReachesAll,
 use Rattle.capture_tcp.specs.Emitted.{AreTails, Drains, EachDue, Fits, HasEmitted, SameStores, Spans, SpansTo, is_sure, log_by}
 use Rattle.capture_tcp.proofs.Slicing.{piece_after}
 
--- ---- what is left after a turn is the end of the streams
+-- ---- what is left after a delivery is the end of the streams
 
 abbrev IsTail : List Cell → Left → Type 0
 IsTail cs l = l.cells ≡ drop l.place cs
@@ -54,7 +54,7 @@ turn_tails : (t : Due) (b : Both) (x y : List Cell) → AreTails x y b → AreTa
 turn_tails t b x y h =
     given_tails t.from t.packet.to t.at t.time (by_ack t t.packet.acknowledged b).both x y (ack_tails t t.packet.acknowledged b x y h)
 
--- ---- the streams span to the same places
+-- ---- the streams span to the same offsets
 
 moves_span : (s r : Stream) (upto end : ℕ) → SpansTo s end → upto ≤ end → MovesTo s upto r → SpansTo r end
 moves_span s r upto end span le move =
@@ -93,12 +93,12 @@ reaches_all s ends t span fits =
     let b = (span t.from).2 in
     (omega (arith, fits.0, a), omega (arith, fits.1, b))
 
--- ---- a log behind others
+-- ---- a log after others
 
 and_twice : (a b : List Entry) (l : Log) → and_log a (and_log b l) ≡ and_log (a ++ b) l
 and_twice a b l = ap (λ (es : List Entry). record { emitted = es; closed = l.closed }) (sym (append_assoc a b l.emitted))
 
--- one turn
+-- One delivery.
 abbrev pub emitted_then : Bool → List Entry → Log → Log
 emitted_then true es l = record { emitted = es; closed = true }
 emitted_then false es l = and_log es l
@@ -150,7 +150,7 @@ one_emitted t old new emitted later ends closed turn opened reset span fits =
           ),
     )
 
--- ---- turn after turn
+-- ---- delivery after delivery
 
 each_at : (P : Due → Type 0) (xs : List Due) (t : Due) (ys : List Due) → EachDue P (xs ++ t ∷ ys) → P t
 each_at P [] t ys h = h.0
@@ -183,7 +183,7 @@ has_emitted_both xs ys a b c u v w closed f g both left =
       second.4 ∙ ap (λ (c : Both). remains_after c ys) first.4 ∙ sym (left_append xs ys both),
     )
 
--- ---- what was told before, and taken away, stands before it
+-- ---- what was emitted before, and removed, precedes it
 
 released_after : (away emitted : List TimedEvent) (l : Log) → and_log (map entry_as (away ++ emitted)) l ≡ and_log (map entry_as away) (and_log (map entry_as emitted) l)
 released_after away emitted l =
@@ -213,7 +213,7 @@ drains_after away limit queue left old new emitted later closed drains ends span
     let r = drains ends span each in
     (r.0, r.1, r.2, r.3, r.4, has_emitted_after away r.0 old new emitted later closed r.5)
 
--- ---- as far as a queue is told
+-- ---- up to where a queue is emitted
 
 pub drained_none : (limit : Option ℕ) (queue : List Due) (old : Emitter) (emitted : List TimedEvent) → Drains limit queue old emitted queue old emitted false
 drained_none limit queue old emitted ends span each = ([], refl, tt, span, (refl, refl), has_emitted_none old emitted)

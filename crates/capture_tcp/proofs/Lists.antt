@@ -1,4 +1,4 @@
--- Lists whose elements all pass, and lists that begin with others.
+-- Lists whose elements all pass, and lists that start with others.
 use Rattle.std.proofs.Common.{◌≡◌, Bool, true, false, cond, List, [], ◌∷◌, ◌++◌, map, filter, refl, sym, ap, ◌∙◌}
 use Rattle.std.proofs.lemmas.List.{append_assoc}
 

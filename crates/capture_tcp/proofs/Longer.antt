@@ -1,4 +1,4 @@
--- What more packets leave as it was: what is held, and the streams.
+-- What more packets leave unchanged: what is buffered, and the streams.
 use Rattle.std.proofs.Common.{◌≡◌, ◌≤◌, inl, inr, ◌+◌, ℕ, zero, suc, true, List, [], ◌∷◌, ◌++◌, length, Option, Some, None, is_some, refl, sym, ap, ◌∙◌, arith}
 use Rattle.std.proofs.lemmas.Bool.{cases_lt}
 use Rattle.capture_tcp.specs.TcpStreams.{End, Cell, Placed, or_else, cell_in, cell_at, run, bound, end_of, cells_up_to, stream_of}
@@ -6,7 +6,7 @@ use Rattle.capture_tcp.specs.Laws.{IsHeld}
 use Rattle.capture_tcp.proofs.Ends.{end_is, from_first, from_second, in_span, same}
 use Rattle.capture_tcp.proofs.Lists.{Each, weaken, Begins, begins_cons}
 
--- ---- held cells and streams
+-- ---- buffered cells and streams
 
 or_assoc : (x y z : Option Cell) → or_else (or_else x y) z ≡ or_else x (or_else y z)
 or_assoc None y z = refl
@@ -68,7 +68,7 @@ cells_length (suc k) ps d n = by_cell (cell_at ps d n) refl (cells_length k ps d
 pub stream_length : (ps : List Placed) (d : End) → length (stream_of ps d) ≡ end_of ps d
 stream_length ps d = let e = cells_length (bound ps) ps d 0 in omega (arith, e)
 
--- ---- what a packet brings is held
+-- ---- what a packet carries is buffered
 
 abbrev pub Holds : List Placed → Placed → Type 0
 Holds ps p = (n : ℕ) → is_some (cell_in p p.from n) ≡ true → IsHeld ps p.from n
@@ -81,7 +81,7 @@ each_holds (p ∷ ps) = (
   weaken (Holds ps) (Holds (p ∷ ps)) ps (λ q h n e. from_second (cell_in p q.from n) (cell_at ps q.from n) (h n e)) (each_holds ps),
 )
 
--- all that a packet brings lies before the end, where it isn't behind a gap
+-- All that an in-order packet carries is before the end.
 pub within_own : (ps : List Placed) (p : Placed) → Holds ps p → p.place ≤ end_of ps p.from → p.place + length p.cells ≤ end_of ps p.from
 within_own ps p h le =
     elim (cases_lt (end_of ps p.from) (p.place + length p.cells)) [

@@ -1,4 +1,4 @@
--- When what is told happened, whatever follows.
+-- The times of events, whatever follows.
 use Rattle.std.proofs.Common.{◌≡◌, ◌<◌, ◌≤◌, ◌++◌, ◌∷◌, ℕ, false, max, List, [], Option, Some, None, is_some, refl, sym, ap, subst, ◌∙◌, arith}
 use Rattle.std.proofs.lemmas.Bool.{le-leb, lt-leb}
 use Rattle.std.proofs.lemmas.List.{append-nil, append_assoc}
@@ -69,7 +69,7 @@ in_time_next r next away emitted later ps p low h reacts more rises =
     let now = reacts time (time_is 0 ps p more all low) g.0 (timed_back time away emitted g.1) in
     subst (TimedBy next (away ++ later)) (sym whole) (now.0, timed_both time away later (timed_front time away emitted g.1) now.1)
 
--- what was told has the time of its packet, whichever segments follow
+-- What was emitted has the time of its packet, whichever segments follow.
 pub timed_later : (c : Connection) (emitted : List TimedEvent) (base : End → ℕ) (seen later : List Seen) → AreNumbered 0 (seen ++ later) → IsInTime c emitted base seen
     → AreTimed (time_at (places base [] (seen ++ later))) emitted
 timed_later c emitted base seen later numbered timed =
@@ -78,7 +78,7 @@ timed_later c emitted base seen later numbered timed =
     let whole : places base [] (seen ++ later) ≡ ps ++ split.0 = places_more base [] seen later ∙ split.1 in
     subst (λ (z : List Placed). AreTimed (time_at z) emitted) (sym whole) (timed split.0 (subst (AreRising 0) whole (all_rise base (seen ++ later) numbered))).1
 
--- ---- a segment more
+-- ---- one more segment
 
 stays_by : (r : Reading) (emitted : List TimedEvent) (base : End → ℕ) (before : List Seen) (s : Seen) → IsInTimeOf r emitted (places base [] before)
     → IsInTimeOf r emitted (places base [] (before ++ s ∷ []))
@@ -113,7 +113,7 @@ pub continues_in_time : (c next : Connection) (segment : Segment) (octets : List
 continues_in_time c next segment octets emitted later e followed base before away consistent h =
     followed base before away (subst (λ (o : Option Ending). StateInvariantAs o c.turns c.reading (away ++ emitted) base before) (not_ended c.ending e) consistent) h
 
--- ---- the beginning and the end
+-- ---- the start and the end
 
 pub begins_in_time : (r : Reading) (base : End → ℕ) → r.due.items ≡ [] → IsInTimeOf r [] (places base [] [])
 unfolding places

@@ -1,10 +1,10 @@
--- The place with a number that is nearest to a place.
+-- The offset with a number that is nearest to an offset.
 use Rattle.std.proofs.Common.{◌≡◌, ◌<◌, ◌≤◌, ℕ, ◌+◌, ◌-◌, ◌%◌, ◌^◌, Bool, true, false, cond, nat_le, min, Some, None, refl, ap, subst, arith}
 use Rattle.std.proofs.lemmas.Bool.{le-leb, lt-leb, leb-true, leb-false}
 use Rattle.capture_tcp.specs.TcpStreams.{nearest}
 use Rattle.capture_tcp.specs.Laws.{SameNumber}
 
--- how far ahead of a place the next one with a number is
+-- The distance from an offset to the next one with a number.
 abbrev ahead_of : ℕ → ℕ → ℕ
 ahead_of known number = (number + 2 ^ 32 - known % 2 ^ 32) % 2 ^ 32
 

@@ -1,4 +1,4 @@
--- Packets whose numbers rise: where a log breaks off, more packets break it off no earlier.
+-- Packets with increasing numbers: more packets do not make the log stop earlier.
 use Rattle.std.proofs.Common.{◌≡◌, ◌<◌, ◌≤◌, ℕ, zero, suc, min, ◌||◌, Bool, true, false, cond, nat_lt, List, [], ◌∷◌, ◌++◌, length, take, drop, Option, Some, None, refl, sym, subst, arith}
 use Rattle.std.proofs.lemmas.Bool.{lt-ltb, le-ltb, ltb-true, ltb-false}
 use Rattle.std.proofs.lemmas.List.{append_assoc, take-append-drop, take_at}
@@ -24,12 +24,12 @@ pub rising_front : (m : ℕ) (xs ys : List Placed) → Rising m (xs ++ ys) → R
 rising_front m [] ys h = tt
 rising_front m (x ∷ xs) ys h = (h.0, rising_front x.packet xs ys h.1)
 
--- what comes later is past each of these
+-- What comes later has a greater number than each of these.
 pub before_later : (m : ℕ) (xs ys : List Placed) → Rising m (xs ++ ys) → Each (λ (p : Placed). Rising p.packet ys) xs
 before_later m [] ys h = tt
 before_later m (x ∷ xs) ys h = (rising_after x.packet xs ys h.1, before_later x.packet xs ys h.1)
 
--- ---- what is before the packet where a log breaks off
+-- ---- what is before the packet where a log stops
 
 abbrev pub passes : Option ℕ → ℕ → Bool
 passes None n = true
@@ -88,7 +88,7 @@ take_begins zero xs ys = ([], refl)
 take_begins (suc n) [] ys = (take (suc n) ys, refl)
 take_begins (suc n) (x ∷ xs) ys = begins_cons x (take n xs) (take n (xs ++ ys)) (take_begins n xs ys)
 
--- `n` is before all of these
+-- `n` is before all of these.
 pub loss_past : (n : ℕ) (before ps : List Placed) → Rising n ps → passes (loss before ps) n ≡ true
 unfolding loss
 loss_past n before [] h = refl
@@ -122,7 +122,7 @@ loss_more n m before (p ∷ ps) ys h later e =
         let same = complete_more (before ++ (p ∷ take 4096 ps)) (before ++ (p ∷ take 4096 (ps ++ ys))) p longer short in absurd cc
     by_tests false false short long now more = more now
 
--- before the loss each packet acknowledges what is held
+-- Before the loss each packet acknowledges what is buffered.
 pub loss_settled : (m : ℕ) (before ps : List Placed) → Rising m ps
     → Each (λ (p : Placed). passes (loss before ps) p.packet ≡ true → is_past (before ++ ps) p ≡ false) ps
 unfolding loss
@@ -150,7 +150,7 @@ loss_settled m before (p ∷ ps) h =
               (λ q g now. subst (λ (z : List Placed). is_past z q ≡ false) (append_assoc before (p ∷ []) ps) (g now)) later,
         )
 
--- ---- a loss is sure by the next 4,096 packets
+-- ---- a loss is final by the next 4,096 packets
 
 within_take : {A : Type 0} (n : ℕ) (xs ys : List A) → length xs ≤ n → Begins A xs (take n (xs ++ ys))
 within_take n [] ys le = (take n ys, refl)
@@ -181,7 +181,7 @@ loss_sure before p next later len e =
     where_true (is_beyond (before ++ (p ∷ take 4096 (next ++ later))) p) (Some p.packet) (loss (before ++ (p ∷ [])) (next ++ later))
     (subst (λ (z : List Placed). is_beyond (before ++ (p ∷ z)) p ≡ true) (sym (take_at next later 4096 len)) e)
 
--- ---- copies that differ
+-- ---- conflicting copies
 
 difference_past : (n : ℕ) (before ps : List Placed) → Rising n ps → passes (difference before ps) n ≡ true
 unfolding difference

@@ -1,4 +1,4 @@
--- Octets that stand without a SYN or a FIN among them.
+-- Bytes without a SYN or a FIN among them.
 use Rattle.std.proofs.Common.{◌≡◌, ◌<◌, ◌≤◌, ◌+◌, ◌-◌, ◌∷◌, ℕ, zero, suc, Bool, true, false, cond, nat_le, List, [], length, max, min, drop, get_or, slice_get, Option, Some, None, refl, sym, ap, subst, ◌∙◌, arith}
 use Rattle.std.proofs.lemmas.Bool.{le-leb, lt-ltb}
 use Rattle.std.proofs.lemmas.List.{append-nil, get_or-drop}
@@ -13,7 +13,7 @@ use Rattle.capture_tcp.specs.DataOnly.{AreOctetsFrom, HeadSays, IsLonger, flags_
 use Rattle.capture_tcp.proofs.StoredCells.{gone}
 use Rattle.capture_tcp.proofs.Lists.{Each}
 
--- ---- what is laid
+-- ---- what is stored
 
 octets_only : (os : List ℕ) (j : ℕ) (c : HeldCell) → slice_get (octets_of os) j ≡ Some c → is_octet c ≡ true
 octets_only [] j c e = absurd cc
@@ -69,7 +69,7 @@ octets_left from base place next count old new e f g h i c le is =
     h ((place - base) + i) c (omega (arith, e, le))
     (sym (ap (λ (z : List (Option HeldCell)). get_or z i None) (g ∙ ap (λ (k : ℕ). drop k old) f) ∙ gone old (place - base) i) ∙ is)
 
--- ---- the size of a message of octets
+-- ---- the size of a message of bytes
 
 plain : Cell → Bool
 plain syn = false
@@ -115,7 +115,7 @@ longer room ss (head.Length value) says past h n e = by_rest (cells_to value (in
         let same : 4 + m ≡ n = cc in
         omega (arith, all, same, past)
 
--- a message that is longer isn't there up to a place
+-- A message that is longer is incomplete up to an offset.
 pub front_longer : (s : Store) (from place upto first room : ℕ) (said : Head) → s.place ≤ place → first ≡ place - s.place → room ≡ upto - place → from ≤ place → AreOctetsFrom from s.place s.cells
     → HeadSays (drop first s.cells) said → IsLonger room said → IsPiece s place upto None
 front_longer s from place upto first room said low f r plain_from h says past le =

@@ -1,4 +1,4 @@
--- What waits behind a gap, as a queue in the order of places.
+-- Out-of-order packets, as a queue in the order of offsets.
 use Rattle.std.proofs.Common.{◌≡◌, ◌<◌, ◌≤◌, inl, inr, ℕ, ◌&&◌, Bool, true, false, cond, nat_lt, nat_le, List, [], ◌∷◌, ◌++◌, map, filter, is_some, refl, sym, ap, ◌∙◌, arith}
 use Rattle.std.proofs.lemmas.Bool.{le-leb, lt-leb, lt-ltb, le-ltb, leb-true, leb-false, cases_lt}
 use Rattle.std.proofs.lemmas.List.{append-nil}
@@ -9,7 +9,7 @@ use Rattle.capture_tcp.proofs.Ends.{end_is, held_after, of_span}
 use Rattle.capture_tcp.proofs.Longer.{end_more}
 use Rattle.capture_tcp.proofs.Lists.{Each, weaken, each_filter}
 
--- ---- one more is put behind those of its place
+-- ---- a packet is inserted after those with its offset
 
 first_by : (r q : Placed) (qs : List Placed) → r.place ≤ q.place → insert_by_place r (q ∷ qs) ≡ r ∷ q ∷ qs
 first_by r q qs le = rw (le-leb r.place q.place le) refl
@@ -125,7 +125,7 @@ filter_order f (p ∷ ps) = by_test (f p) refl (filter_order f ps)
     by_test true e later = ap (insert_by_place p) later ∙ sym (kept_insert f p (in_order ps) (order_sorted ps) e)
     by_test false e later = later ∙ sym (dropped_insert f p (in_order ps) e)
 
--- ---- what the end has reached, and what it hasn't
+-- ---- what the end has reached, and what it has not
 
 abbrev reaches : ℕ → Placed → Bool
 reaches end q = nat_le q.place end
@@ -193,7 +193,7 @@ turns_by_queue before p le =
     ap in_order (filter_both (waits before p.from) (reaches end) before) ∙ filter_order (reaches end) waiting ∙ (split_queue end (in_order waiting) (order_sorted waiting)).0 in
     rw (le-ltb (end_of before p.from) p.place le) (ap (λ (qs : List Placed). record { at = p; own = p } ∷ map (λ q. record { at = p; own = q }) qs) freed)
 
--- ---- the queue behind a packet
+-- ---- the queue after a packet
 
 pub end_stays : (before : List Placed) (p : Placed) (d : End) → (is_some (cell_in p d (end_of before d)) ≡ true → ⊥) → end_of (before ++ (p ∷ [])) d ≡ end_of before d
 end_stays before p d never =
@@ -225,7 +225,7 @@ waits_later true e f x le =
     second false b g = refl
     second true b g = g
 
--- a packet whose turn it is leaves what its end hasn't reached
+-- A delivered packet leaves what its end has not reached.
 queue_left : (before : List Placed) (p : Placed) → p.place ≤ end_of before p.from
     → waiting_in (before ++ (p ∷ [])) p.from ≡ left_waiting (end_of (before ++ (p ∷ [])) p.from) (waiting_in before p.from)
 queue_left before p le =
@@ -248,7 +248,7 @@ queue_left before p le =
     alone true e = absurd cc
     alone false e = refl
 
--- one that stands behind a gap waits behind those of its place
+-- An out-of-order packet waits after those with its offset.
 queue_takes : (before : List Placed) (p : Placed) → end_of before p.from < p.place
     → (end_of (before ++ (p ∷ [])) p.from ≡ end_of before p.from) × (waiting_in (before ++ (p ∷ [])) p.from ≡ insert_after p (waiting_in before p.from))
 queue_takes before p lt =
@@ -273,7 +273,7 @@ queue_takes before p lt =
     alone true e = refl
     alone false e = absurd cc
 
--- the other direction is as it was
+-- The other direction is unchanged.
 pub stays : (before : List Placed) (p : Placed)
     → (end_of (before ++ (p ∷ [])) (other p.from) ≡ end_of before (other p.from)) × (waiting_in (before ++ (p ∷ [])) (other p.from) ≡ waiting_in before (other p.from))
 stays before p =

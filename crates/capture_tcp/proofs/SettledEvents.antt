@@ -1,4 +1,4 @@
--- What is sure behind a packet, and told.
+-- What is final after a packet, and emitted.
 use Rattle.std.proofs.Common.{◌≡◌, ◌<◌, ◌≤◌, ◌++◌, ◌∷◌, ℕ, suc, Bool, true, false, cond, nat_lt, List, [], length, filter, map, min, take, Option, Some, None, Result, Ok, refl, sym, ap, subst, ◌∙◌, arith, inl, inr}
 use Rattle.std.proofs.lemmas.Bool.{ltb-true, lt-ltb, le-ltb, leb-true, leb-false, le-leb, lt-leb, cases_lt}
 use Rattle.std.proofs.lemmas.List.{append-nil, append_assoc}
@@ -30,7 +30,7 @@ use Rattle.capture_tcp.proofs.Awaited.{due_each, sure_kept}
 use Rattle.capture_tcp.proofs.Finishing.{after_each, held_back, none_kept, ordered_back}
 use Rattle.capture_tcp.proofs.WatchedBytes.{returns_loss, watched_more}
 
--- ---- what stands before the first packet that lacks something
+-- ---- what comes before the first packet with missing data
 
 sure_passes : (o : Option ℕ) (n : ℕ) → is_sure o n ≡ true → passes o n ≡ true
 sure_passes None n e = e
@@ -57,7 +57,7 @@ sure_limit needs ps d w e later h n r sure =
     let differs = difference_more n [] ps later r (subst (λ (o : Option ℕ). passes o n ≡ true) (sym e) both.1) in
     passes_sure (breaks_off (ps ++ later)) n (passes_earlier (loss [] (ps ++ later)) (difference [] (ps ++ later)) n lost differs)
 
--- ---- what is let go
+-- ---- what is dropped
 
 passed : (s r : Stream) (acked : ℕ) (ps : List Placed) (d : End) → acked ≡ received ps d → IsStreamOf s ps d → PassesTo s acked r → IsStreamOf r ps d
 passed s r acked ps d e h p =
@@ -83,14 +83,14 @@ waits_same more t u queue ps emitted emitter_state opened a b w =
 pub nothing_follows : (ps : List Placed) → AreRising 0 ps → AreRising 0 (ps ++ [])
 nothing_follows ps h = subst (AreRising 0) (sym (append-nil ps)) h
 
--- what is held back isn't told of these packets alone
+-- What waits is not emitted for these packets alone.
 pub none_waits : (limit : Option ℕ) (queue : List Due) (gone rest : List Turn) (ps : List Placed) → AreRising 0 ps → limit ≡ breaks_off ps → turns [] ps ≡ gone ++ rest
     → queue ≡ map due_of rest → IsHeldBack limit queue → emitted_dues ps rest ≡ []
 none_waits limit queue gone rest ps rises is whole waits back =
     let held : IsHeldBack (breaks_off ps) (map due_of rest) = subst (λ (o : Option ℕ). IsHeldBack o (map due_of rest)) is (subst (IsHeldBack limit) waits back) in
     none_kept ps rest (held_back (breaks_off ps) rest (ordered_back gone rest (subst Ordered whole (turns_ordered 0 [] ps rises))) held)
 
--- so far each direction is told
+-- The offsets up to which each direction is emitted.
 emitted_places : (limit : Option ℕ) (t : Emitter) (queue : List Due) (ps : List Placed) (emitted : List TimedEvent) → AreRising 0 ps → limit ≡ breaks_off ps → Waits true t queue ps emitted
     → IsHeldBack limit queue → lefts t.streams ps ≡ remains_after (both_streams ps) (emitted_dues ps (turns [] ps))
 emitted_places limit t queue ps emitted rises is w back =
@@ -100,7 +100,7 @@ emitted_places limit t queue ps emitted rises is w back =
     ∙ ap (λ (ds : List Due). map due_of w.0 ++ ds) (none_waits limit queue w.0 w.1 ps rises is w.2 w.3 back) ∙ append-nil (map due_of w.0) in
     sym has.1 ∙ ap (remains_after (both_streams ps)) (sym dues)
 
--- it is held from there on
+-- It is buffered from there on.
 kept_from : (s r : Stream) (acked emitted : ℕ) (ps : List Placed) (d : End) → acked ≡ received ps d → IsStreamOf s ps d → PassesTo s acked r → s.place ≡ emitted
     → r.held.place ≡ min (received ps d) emitted
 kept_from s r acked emitted ps d e h p is =
@@ -160,7 +160,7 @@ sure_open acked old new next left emitted later first limit e f emits pass losse
       ),
     )
 
--- ---- how many packets stand behind one
+-- ---- the number of packets after one
 
 all_after : (k m : ℕ) (ps : List Placed) → k ≤ m → AreRising m ps → packets_after k ps ≡ length ps
 all_after k m [] le h = refl
@@ -177,7 +177,7 @@ after_loss k ps lost rises =
     let n = after_single 0 lost.0 lost.1 lost.2 (subst (AreRising 0) lost.3 rises) in
     ap (packets_after k) lost.3 ∙ ap (λ (m : ℕ). packets_after m (lost.0 ++ lost.1 ∷ lost.2)) (sym lost.4) ∙ n ∙ lost.5
 
--- fewer than that stand behind one that may be lost
+-- Fewer than 4,096 packets come after one that may be lost.
 after_watched : (needs : List Need) (ps : List Placed) (k : ℕ) → Watches needs ps → AreRising 0 ps → first_of needs ≡ Some k → packets_after k ps < 4096
 after_watched needs ps k w rises first = by_rest w.1 w.2 w.3 w.6
   where
@@ -202,7 +202,7 @@ after_with_more k (p ∷ ps) qs = by_test (nat_lt k p.packet) (after_with_more k
     by_test true le = omega (arith, le)
     by_test false le = le
 
--- ---- whether it is known how it ends
+-- ---- whether the ending is known
 
 known_by : (closed : Bool) (ps : List Placed) → ends_for_good (broken (loss [] ps) (difference [] ps)) ps ≡ true → ends_for_good (ended_by closed ps) ps ≡ true
 known_by true ps h = refl
@@ -233,13 +233,13 @@ good_more (ending.Lost k) ps qs h =
     le-leb 4096 (packets_after k (ps ++ qs)) (omega (arith, many, after_with_more k ps qs))
 good_more (ending.Differs k) ps qs h = refl
 
--- where it ended it stays known
+-- After the end it stays known.
 pub known_more : (ps qs : List Placed) (emitted : List TimedEvent) (e : Ending) → AreRising 0 (ps ++ qs) → IsEnded true ps emitted e → is_known ps ≡ true → is_known (ps ++ qs) ≡ true
 known_more ps qs emitted e rises h known =
     let here : e ≡ ended_at ps = (h [] (nothing_follows ps (rising_front 0 ps qs rises))).1 ∙ ap ended_at (append-nil ps) in
     subst (λ (x : Ending). ends_for_good x (ps ++ qs) ≡ true) (h qs rises).1 (good_more e ps qs (subst (λ (x : Ending). ends_for_good x ps ≡ true) (sym here) known))
 
--- what was told is all that these packets tell, and nothing has ended it
+-- What was emitted is all that these packets give, and nothing has ended it.
 pub log_now : (r : Reading) (ps : List Placed) (emitted : List TimedEvent) → AreRising 0 ps → IsReading r ps emitted
     → log_of ps ≡ record { emitted = map entry_as emitted; closed = is_over r.emitter.emitter_state }
 unfolding turns emit_turns
@@ -263,7 +263,7 @@ unknown_yet r ps emitted rises h =
     ∙ ap (λ (o : Option ℕ). ends_for_good (broken (first_of r.losses) o) ps) h.0.1
     ∙ unknown_by (first_of r.losses) r.differs ps h.3.1 (λ k first. after_watched r.losses ps k h.0.0 rises first)
 
--- ---- where one is lost
+-- ---- a packet is lost
 
 loss_among : (P : ℕ → Type 0) (before ps : List Placed) (k : ℕ) → Each (λ (p : Placed). P p.packet) ps → loss before ps ≡ Some k → P k
 unfolding loss
@@ -331,7 +331,7 @@ pub none_lost : (lost : Option ℕ) (acked : BothEnds) (old new : Reading) (emit
 none_lost lost acked old new emitted later r is emits away ps rises acks may differs streams waits =
     emits away ps rises acks (subst (λ (o : Option ℕ). MayLose o old.losses ps) is may, differs, streams, waits)
 
--- ---- where a copy differs, and nothing before it lacks anything
+-- ---- a copy conflicts, and nothing before it is missing
 
 difference_among : (P : ℕ → Type 0) (before ps : List Placed) (k : ℕ) → Each (λ (p : Placed). P p.packet) ps → difference before ps ≡ Some k → P k
 unfolding difference
@@ -343,7 +343,7 @@ difference_among P before (p ∷ ps) k h e =
     by_test true e later = let same : p.packet ≡ k = cc in subst P same h.0
     by_test false e later = later e
 
--- no loss stands before it
+-- There is no loss before it.
 no_loss_before : (first : Option ℕ) (k j : ℕ) → is_first first k ≡ true → j < k → passes first j ≡ true
 no_loss_before None k j e lt = refl
 no_loss_before (Some l) k j e lt = let le = leb-true k l e in lt-ltb j l (omega (arith, le, lt))
@@ -405,7 +405,7 @@ differs_ends first acked old new emitted later e is sure finishes losses away ps
           subst (λ (ns : List Need). IsWatched 4097 ns ps) (sym losses) (watched_more old.losses ps r.0),
         )
 
--- ---- a packet comes
+-- ---- a packet arrives
 
 may_lose : {E : Type 0} (r : Result (Option ℕ) E) (o : Option ℕ) (from : Side) (packet : Packet) (ends : BothEnds) (old new : List Need) (ps : List Placed) (p : Placed) → r ≡ Ok o
     → (r ≡ Ok None → WatchesOn old from packet ends new) → ((k : ℕ) → r ≡ Ok (Some k) → FindsLoss old from packet ends k new) → Watches old ps

@@ -1,4 +1,4 @@
--- The size of a message is told by its own cells.
+-- A message's own cells give its size.
 use Rattle.std.proofs.Common.{◌≡◌, ◌<◌, ◌≤◌, ℕ, zero, suc, ◌+◌, ◌*◌, List, [], ◌∷◌, ◌++◌, length, Option, Some, None, refl, sym, ap, arith}
 use Rattle.capture_tcp.specs.TcpStreams.{Cell, syn, octet, fin}
 use Rattle.capture_tcp.specs.Message.{one_more, cells_to, octets_after, size_by, message_size}

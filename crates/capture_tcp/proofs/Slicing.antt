@@ -1,4 +1,4 @@
--- Messages that are cut off a stream one by one, and told.
+-- Messages that are cut off a stream one by one, and emitted.
 use Rattle.std.proofs.Common.{◌≡◌, ◌<◌, ◌≤◌, ◌+◌, ◌-◌, ◌++◌, ◌∷◌, ℕ, zero, suc, Bool, true, false, cond, nat_lt, List, [], length, take, drop, map, Option, Some, None, refl, sym, ap, subst, ◌∙◌, arith, inl, inr, length-drop}
 use Rattle.std.proofs.lemmas.Bool.{lt-ltb, le-ltb, cases_lt}
 use Rattle.std.proofs.lemmas.List.{append-nil, append_assoc, take-append-le, drop-append-le, drop-drop}
@@ -15,7 +15,7 @@ use Rattle.capture_tcp.specs.KnownStreams.{end_at}
 use Rattle.capture_tcp.specs.EventSteps.{Processed, ProcessesInput, process_input, processes_input, and_processed, entry_as, closes_down, says_first, cut_entries, cut_to, IsLeft, Cuts}
 use Rattle.capture_tcp.proofs.Sizes.{is_size}
 
--- ---- entries that are heard one after another
+-- ---- entries that are processed one after another
 
 abbrev reception : EmitterState → List Entry → Processed
 reception s es = record { state = s; emitted = es }
@@ -46,7 +46,7 @@ processes_append t (x ∷ xs) ys =
     (ap (λ (h : Processed). h.state) later)
     (ap (λ (h : Processed). (process_input t x).emitted ++ h.emitted) later ∙ sym (append_assoc (process_input t x).emitted (processes_input s xs).emitted (processes_input (processes_input s xs).state ys).emitted))
 
--- what was heard, and then more
+-- What was processed, and then more.
 pub processed_then : (h : Processed) (f : EmitterState → Processed) (a b c : List TimedEvent) (s t : EmitterState) → ProcessesInput h a s b → ProcessesInput (f s) b t c → ProcessesInput (and_processed h f) a t c
 processed_then h f a b c s t x y =
     let same = ap f x.0 in (
@@ -75,7 +75,7 @@ message_processed t u s n octets a b h =
 pub down_processed : (t u : EmitterState) (n : ℕ) (a b : List TimedEvent) → ProcessesInput (closes_down t n) a u b → ProcessesInput (processes_input t (entry n down ∷ [])) a u b
 down_processed t u n a b h = processed_as (closes_down t n) (processes_input t (entry n down ∷ [])) a b u (sym (processes_one t (entry n down))) h
 
--- ---- what is held in one piece behind others
+-- ---- what is buffered without a gap after others
 
 pub piece_drop : (k : ℕ) (ss : List (Option HeldCell)) → k ≤ length (in_piece ss) → in_piece (drop k ss) ≡ drop k (in_piece ss)
 piece_drop zero ss le = refl
@@ -134,7 +134,7 @@ cut_stop (suc k) upto l h = by_size (message_size l.cells) refl
     by_size None e = refl
     by_size (Some n) e = rw (lt-ltb upto (l.place + n) (h n e)) refl
 
--- the first message, and then the others
+-- The first message, and then the others.
 cut_first : (upto n : ℕ) (l : Left) → message_size l.cells ≡ Some n → l.place + n ≤ upto → cut_to upto l ≡ and_then (take n l.cells) (cut_to upto (subsequent l n))
 cut_first upto n l e le =
     let there = is_size.there l.cells n e in
@@ -143,7 +143,7 @@ cut_first upto n l e le =
     ap (λ (k : ℕ). cut_off k message_size upto l) one ∙ cut_some (length l.cells - 1) upto n l e le
     ∙ ap (and_then (take n l.cells)) (enough (length l.cells - 1) (length (drop n l.cells)) upto (subsequent l n) (omega (arith, dropped, there.0)) (omega arith))
 
--- ---- by what is held
+-- ---- by what is buffered
 
 fits_some : (upto place n : ℕ) (o : Option ℕ) → Some n ≡ fitting upto place o → o ≡ Some n
 fits_some upto place n None e = absurd cc

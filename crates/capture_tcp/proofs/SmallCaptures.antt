@@ -1,4 +1,4 @@
--- The small captures, by computing.
+-- The small captures, by computation.
 use Rattle.std.proofs.Common.{refl}
 use Rattle.capture_tcp.specs.TcpStreams.{bound, cell_at, cells_up_to, cut_off, difference, loss, loss_shown, places, run, show, turns}
 use Rattle.capture_tcp.specs.Message.{cells_to, size_by}

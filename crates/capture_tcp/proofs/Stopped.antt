@@ -23,7 +23,7 @@ use Rattle.capture_tcp.specs.ReaderInvariant.{StateInvariantAs}
 use Rattle.capture_tcp.specs.Limits.{FullIf, ContinuesAt, ContinuesBy, IsFar, IsFull, IsNear, StopsAt, StopsBy, of_held}
 use Rattle.capture_tcp.proofs.Connecting.{not_ended, placed_one, side_back}
 
--- ---- too far
+-- ---- too long
 
 near_far : (k : Known) (base : End → ℕ) (ps : List Placed) → k ≡ known base ps → max k.active.end k.passive.end < 2 ^ 62 → IsFar ps → ⊥
 near_far k base ps e lt far =
@@ -33,7 +33,7 @@ near_far k base ps e lt far =
 
 -- ---- too much
 
--- a packet that brings something brings these cells
+-- A packet that carries something carries these cells.
 brings_all : (p : Placed) (cells : List Cell) → BringsCells p cells → 0 < length p.cells → p.cells ≡ cells
 brings_all p cells (inl none) lt = let e : length p.cells ≡ 0 = ap length none in absurd (omega (arith, e, lt))
 brings_all p cells (inr same) lt = same
@@ -47,7 +47,7 @@ some_cells p packet e other =
       | inr ge ↦ absurd (other (omega (arith, from, to, ge)))
     ]
 
--- what is held begins there
+-- The buffer starts there.
 kept_at : (s : Streams) (ps : List Placed) (d : End) → HoldsFrom s ps → (stream_at s (side_of d)).held.place ≡ first_kept ps d
 kept_at s ps active h = h.0
 kept_at s ps passive h = h.1

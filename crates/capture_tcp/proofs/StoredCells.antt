@@ -1,4 +1,4 @@
--- Cells that are laid by their places: what is held stays, and what is laid is held.
+-- Cells that are stored at their offsets: what is buffered stays, and what is stored is buffered.
 use Rattle.std.proofs.Common.{◌≡◌, ◌<◌, ◌≤◌, ◌+◌, ◌-◌, ◌++◌, ◌∷◌, ℕ, zero, suc, Bool, true, false, cond, nat_le, nat_lt, List, [], length, map, max, min, drop, get_or, slice_get, slice_set, Option, Some, None, is_some, refl, sym, ap, ◌∙◌, arith, length-append, length-drop, inl, inr}
 use Rattle.std.proofs.lemmas.Bool.{le-leb, lt-leb, lt-ltb, le-ltb, cases_lt}
 use Rattle.std.proofs.lemmas.List.{set-get_or, get_or-set_same, get_or-set_other, length-set, drop-drop, get_or-drop}
@@ -126,7 +126,7 @@ held_length syns fins octets =
     let f = length_flag fins held.Fin in
     omega (arith, a, b, c, s, f)
 
--- ---- what is held then
+-- ---- what is buffered then
 
 or_none : (x : Option HeldCell) → x ≡ or_else x None
 or_none None = refl
@@ -217,7 +217,7 @@ puts base place cs cells old new appended_text wire = (
       ∙ sym (brought ps p place n cs e (f ∙ wire)),
 )
 
--- cells that are laid one after another, where there is room for them
+-- Cells that are stored one after another, if there is space for them.
 pub stored_wide : (base place : ℕ) (cs : List HeldCell) (first old wide new : List (Option HeldCell)) → old ≡ first → SameCells old wide → new ≡ stored_all base place cs wide
     → place + length cs ≤ base + length wide → IsStored base place cs first new
 stored_wide base place cs first old wide new e widened appended_text fits i =
@@ -259,7 +259,7 @@ puts_none s place syns fins octets none =
           h n le ∙ sym (brought ps p p.place n [] refl f ∙ ap (λ (z : Option HeldCell). or_else (cell_at ps p.from n) (option_map wire_cell z)) (none_from p.place n) ∙ only_one (cell_at ps p.from n)),
     )
 
--- ---- room
+-- ---- space
 
 room_end : (ss : List (Option HeldCell)) (i : ℕ) → get_or (ss ++ (None ∷ [])) i None ≡ get_or ss i None
 room_end [] zero = refl
@@ -277,7 +277,7 @@ pub holds_none : (s : Store) (d : End) → s.cells ≡ [] → IsStoreOf s [] d
 unfolding cell_at
 holds_none s d e n le = ap (λ (z : List (Option HeldCell)). option_map wire_cell (get_or z (n - s.place) None)) e
 
--- ---- what is let go
+-- ---- what is dropped
 
 pub one_consumed : (left : ℕ) (old new rest : List (Option HeldCell)) → 0 < left → new ≡ drop 1 old → drop left old ≡ rest → drop (left - 1) new ≡ rest
 one_consumed left old new rest lt e h =

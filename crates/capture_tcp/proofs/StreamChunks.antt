@@ -1,4 +1,4 @@
--- What the cells tell that are held in one piece.
+-- What cells that are buffered without a gap are.
 use Rattle.std.proofs.Common.{◌≡◌, ◌<◌, ◌≤◌, ◌+◌, ◌-◌, ◌++◌, ◌∷◌, ℕ, zero, suc, List, [], length, take, drop, get_or, Option, Some, None, sym, ap, ◌∙◌, arith, length-drop}
 use Rattle.std.proofs.lemmas.List.{append_assoc, append-nil}
 use Rattle.capture_tcp.specs.declared.reassembly.Cell.{Cell as HeldCell}
@@ -10,7 +10,7 @@ use Rattle.capture_tcp.specs.Reassembly.{in_piece, wire_cell}
 use Rattle.capture_tcp.proofs.ConnectedPackets.{drop_all}
 use Rattle.capture_tcp.proofs.CompleteStreams.{piece_end, piece_next}
 
--- what is left of so many cells tells, behind these octets, what all of them do
+-- Holds if the rest of the given number of cells, after these bytes, gives what all of them give.
 abbrev pub Proceeds : List (Option HeldCell) → ℕ → List ℕ → ℕ → Type 0
 Proceeds ss count octets index =
     (index ≤ count)
@@ -21,12 +21,12 @@ Proceeds ss count octets index =
 pub begins : (ss : List (Option HeldCell)) (count : ℕ) → Proceeds ss count [] 0
 begins ss count = (omega arith, λ le. (omega (arith, le), λ d n. let same : count ≡ count - 0 = omega arith in ap (λ (k : ℕ). entry_of d n [] (take k (in_piece ss))) same))
 
--- so many cells, the first of them
+-- The first of the given number of cells.
 taken : (k : ℕ) (c : Cell) (cs : List Cell) → 0 < k → take k (c ∷ cs) ≡ c ∷ take (k - 1) cs
 taken zero c cs lt = absurd (omega (arith, lt))
 taken (suc k) c cs lt = let same : k ≡ suc k - 1 = omega arith in ap (λ (j : ℕ). c ∷ take j cs) same
 
--- the first of what is left
+-- The first of what is left.
 first_is : (ss : List (Option HeldCell)) (k index : ℕ) (c : HeldCell) → 0 < k → Some c ≡ get_or ss index None
     → take k (in_piece (drop index ss)) ≡ wire_cell c ∷ take (k - 1) (in_piece (drop (suc index) ss))
 first_is ss k index c lt e = ap (take k) (piece_next ss index c (sym e)) ∙ taken k (wire_cell c) (in_piece (drop (suc index) ss)) lt
@@ -75,7 +75,7 @@ ends ss count index octets le h fits d n =
     let none : count - index ≡ 0 = omega (arith, le) in
     (h.1 fits).1 d n ∙ ap (λ (k : ℕ). entry_of d n octets (take k (in_piece (drop index ss)))) none
 
--- ---- octets in one piece
+-- ---- contiguous bytes
 
 emitted_octets : (k : ℕ) (ns before : List ℕ) (os : List (Option HeldCell)) (d : End) (n : ℕ) → k ≤ length ns
     → entry_of d n before (take k (in_piece (some_octets ns ++ os))) ≡ entry n (message d (before ++ take k ns)) ∷ []

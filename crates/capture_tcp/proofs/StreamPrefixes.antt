@@ -1,4 +1,4 @@
--- A capture that is cut shows a front of what the whole one shows.
+-- A capture that is cut shows a prefix of what the complete one shows.
 use Rattle.std.proofs.Common.{◌≡◌, ◌<◌, ℕ, List, [], ◌∷◌, ◌++◌, flat_map, Option, Some, None, refl, sym, ap, subst, ◌∙◌, arith}
 use Rattle.std.proofs.lemmas.List.{append_assoc, append-nil}
 use Rattle.std.proofs.lemmas.List.Concat.{flat_map-append}
@@ -10,7 +10,7 @@ use Rattle.capture_tcp.proofs.Numbered.{Rising, rising_front, rising_lower}
 use Rattle.capture_tcp.proofs.DeliveredPackets.{emitted_more, emitted_within}
 use Rattle.capture_tcp.proofs.CutOff.{end_left, both_longer, show_more}
 
--- ---- places
+-- ---- offsets
 
 pub places_more : (base : End → ℕ) (before : List Placed) (xs ys : List Seen) → places base before (xs ++ ys) ≡ places base (places base before xs) ys
 unfolding places
@@ -53,7 +53,7 @@ pub streams_end : (ps : List Placed) (d : End) → end_left (left_of (both_strea
 streams_end ps active = let e = stream_length ps active in omega (arith, e)
 streams_end ps passive = let e = stream_length ps passive in omega (arith, e)
 
--- more packets make the streams longer
+-- More packets make the streams longer.
 pub streams_more : (xs ys : List Placed) → both_streams (xs ++ ys) ≡ both_longer (λ d. (stream_more xs ys d).0) (both_streams xs)
 streams_more xs ys =
     ap (λ (a : List Cell). both_of a (stream_of (xs ++ ys) passive)) (stream_more xs ys active).1

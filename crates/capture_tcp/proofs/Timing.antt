@@ -1,4 +1,4 @@
--- What is told at a packet is told at its time.
+-- What is emitted at a packet has its time.
 use Rattle.std.proofs.Common.{◌≡◌, ◌++◌, ◌∷◌, ℕ, List, [], map, sym, subst}
 use Rattle.capture_tcp.specs.declared.packet.Packet.{Packet}
 use Rattle.capture_tcp.specs.declared.packet.Side.{Side}
@@ -10,7 +10,7 @@ use Rattle.capture_tcp.specs.PacketArrival.{due_as}
 use Rattle.capture_tcp.specs.Emitted.{EachDue}
 use Rattle.capture_tcp.specs.Timestamps.{AreDueTimed, AreTimed, KeepsTimes, QueuesInTime, ReactsInTime, EmitsInTime}
 
--- ---- what is told at a packet
+-- ---- what is emitted at a packet
 
 timed_push : (time : ℕ → ℕ) (emitted : List TimedEvent) (h : TimedEvent) → AreTimed time emitted → h.time ≡ time h.packet → AreTimed time (emitted ++ h ∷ [])
 timed_push time [] h t e = (e, tt)
@@ -28,7 +28,7 @@ pub keeps_both : (packet at : ℕ) (emitted some later : List TimedEvent) → Ke
     → KeepsTimes packet at emitted later
 keeps_both packet at emitted some later f g time e t = g time e (f time e t)
 
--- ---- turn after turn
+-- ---- delivery after delivery
 
 pub emits_none : (dues : List Due) (emitted : List TimedEvent) → EmitsInTime dues emitted dues emitted
 emits_none dues emitted time d t = (d, t)
@@ -40,7 +40,7 @@ emits_one dues queue left due emitted some later before is keeps time d t =
     let q : AreDueTimed time (due ∷ left) = subst (AreDueTimed time) is b.0 in
     (q.1, keeps time q.0 b.1)
 
--- ---- a packet more
+-- ---- one more packet
 
 due_more : (P : Due → Type 0) (xs ys : List Due) → EachDue P xs → EachDue P ys → EachDue P (xs ++ ys)
 due_more P [] ys f g = g

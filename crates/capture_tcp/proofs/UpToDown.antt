@@ -1,4 +1,4 @@
--- What a log tells begins where the connection comes up, and ends where it goes down.
+-- A log starts where the connection is established, and ends where it is closed.
 use Rattle.std.proofs.Common.{◌≡◌, ◌⊎◌, ◌++◌, ◌∷◌, ◌||◌, inl, inr, ℕ, Bool, true, false, cond, nat_le, nat_lt, List, [], filter, map, Option, Some, None, refl, sym, ap, subst, ◌∙◌}
 use Rattle.std.proofs.lemmas.List.{append-nil, append_assoc}
 use Rattle.std.specs.Option.{option_map}
@@ -24,7 +24,7 @@ use Rattle.capture_tcp.proofs.LaterEvents.{submit_first, emitted_then}
 use Rattle.capture_tcp.proofs.Slicing.{processes_append}
 use Rattle.capture_tcp.proofs.EmittedEvents.{emits_all}
 
--- ---- nothing stands behind a down
+-- ---- nothing follows `down`
 
 not_up : up ≡ down → ⊥
 not_up e = absurd cc
@@ -67,7 +67,7 @@ last_in (x ∷ front) e rest h d = last_in front e rest h.1 d
 pub last_is_down : DownComesLast
 last_is_down ps front e rest is d = last_in front e rest (subst DownLast is (all_last ps)) d
 
--- ---- an up stands first, and nowhere else
+-- ---- `up` is first, and nowhere else
 
 no_up : (es : List Entry) (separated : Option End) → has_up (up_to_down es separated) ≡ false
 no_up [] separated = refl
@@ -136,7 +136,7 @@ only_first_is_up ps front e rest is =
       | inr some ↦ first_alone front e rest some.0 some.1 (sym some.2 ∙ is) some.3
     ]
 
--- ---- it is closed where it went down
+-- ---- it has ended once it was closed
 
 or_assoc : (a b c : Bool) → ((a || b) || c) ≡ (a || (b || c))
 or_assoc true b c = refl
@@ -158,7 +158,7 @@ is_waiting (emitter_state.Waiting early) = true
 is_waiting (emitter_state.Running s) = false
 is_waiting emitter_state.Over = false
 
--- it is over where it was, or a down was told; it waits where it did, and nothing was told
+-- It has ended if it had, or `down` was emitted. It waits if it did before and nothing was emitted.
 abbrev Comes : EmitterState → Processed → Type 0
 Comes s h = (is_over h.state ≡ (is_over s || ends_down h.emitted)) × (is_waiting h.state ≡ true → (h.emitted ≡ []) × (is_waiting s ≡ true))
 
@@ -207,7 +207,7 @@ unfolding processes_input
 processes_so s [] = (or_none (is_over s), λ e. (refl, e))
 processes_so s (e ∷ es) = both_so s (process_input s e) (λ (u : EmitterState). processes_input u es) (process_so s e.packet e.emitted) (processes_so (process_input s e).state es)
 
--- behind a down it is over, or it wasn't up
+-- After `down` it has ended, or it was not established.
 abbrev Stops : EmitterState → Type 0
 Stops s = (is_over s ≡ true) ⊎ (is_waiting s ≡ true)
 
@@ -288,7 +288,7 @@ ended_closes false ps e = by_breaks (loss [] ps) (difference [] ps) e
         by_first true e = absurd cc
         by_first false e = absurd cc
 
--- one that is over tells nothing, or that it went down
+-- A connection that has ended emits nothing, or that it was closed.
 pub closed_emits : (ps : List Placed) → AreRising 0 ps → ended ps ≡ ending.Closed → (emits ps ≡ []) ⊎ (ends_down (emits ps) ≡ true)
 closed_emits ps rises e =
     elim (closed_where_down ps rises) [
@@ -296,7 +296,7 @@ closed_emits ps rises e =
       | inr is ↦ inr (sym is ∙ ended_closes (log_of ps).closed ps (reported_as_it_is (loss_shown [] ps) (ended_at ps) ending.Closed e (λ k no. cc)))
     ]
 
--- ---- once a down was told
+-- ---- once `down` was emitted
 
 down_is : (t : ConnectionEvent) → is_down t ≡ true → t ≡ down
 down_is up e = absurd cc

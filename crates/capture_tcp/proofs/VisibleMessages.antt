@@ -1,4 +1,5 @@
--- Of a whole connection each message that a stream has whole is shown: its packets all have their turns, so all that its streams hold is delivered.
+-- Of a complete connection each complete message of a stream is shown: its packets are all delivered, so all that its
+-- streams hold is delivered.
 use Rattle.std.proofs.Common.{◌≡◌, ◌<◌, ◌≤◌, ◌⊎◌, inl, inr, ◌+◌, ◌-◌, ◌&&◌, ◌||◌, ℕ, zero, suc, Bool, true, false, cond, nat_lt, nat_le, List, [], ◌∷◌, ◌++◌, length, take, drop, map, filter, flat_map, slice_get, Option, Some, None, is_some, refl, sym, ap, subst, ◌∙◌, arith, length-drop}
 use Rattle.std.proofs.lemmas.Bool.{le-leb, lt-ltb, le-ltb, ltb-false, cases_lt}
 use Rattle.std.proofs.lemmas.List.{append_assoc, append-nil, take-append-drop}
@@ -79,7 +80,7 @@ one_order P [] h = absurd h
 one_order P (p ∷ ps) (inl h) = one_insert P p (in_order ps) (inl h)
 one_order P (p ∷ ps) (inr h) = one_insert P p (in_order ps) (inr (one_order P ps h))
 
--- ---- each packet has its turn, where no gap is left
+-- ---- each packet is delivered, if no gap is left
 
 all_three : (a b c : Bool) → a ≡ true → b ≡ true → c ≡ true → (a && b && c) ≡ true
 all_three false b c e f g = absurd cc
@@ -89,7 +90,7 @@ all_three true true c e f g = g
 abbrev InTurn : List Placed → Placed → Type 0
 InTurn before p = nat_lt (end_of before p.from) p.place ≡ false
 
--- one that waits has its turn at the packet that brings the end to its place
+-- A waiting packet is delivered at the packet that moves the end to its offset.
 freed_now : (before : List Placed) (p q : Placed) → end_of before q.from < q.place → q.place ≤ end_of (before ++ (p ∷ [])) q.from → (frees before p q ≡ true) × InTurn before p
 freed_now before p q lt le = by_own (same_end p.from q.from) refl
   where
@@ -172,7 +173,7 @@ has_turn P before (p ∷ ps) within h =
         ]
     by_place later (inr (inr g)) = one_after (λ (t : Turn). P t.own) (turns_at before p) (turns (before ++ (p ∷ [])) ps) (later (inr g))
 
--- where nothing is lost, no packet is left behind a gap
+-- If nothing is lost, no packet stays out of order.
 no_gap_left : (before ps : List Placed) → loss before ps ≡ None → Each (λ (q : Placed). q.place ≤ end_of (before ++ ps) q.from) ps
 unfolding loss
 no_gap_left before [] e = tt
@@ -193,7 +194,7 @@ no_gap_left before (p ∷ ps) e = by_test (is_beyond (before ++ (p ∷ take 4096
               (λ q le. subst (λ (z : List Placed). q.place ≤ end_of z q.from) (append_assoc before (p ∷ []) ps) le) (later e),
         )
 
--- ---- all turns are told
+-- ---- all deliveries are emitted
 
 at_own : (Q : Placed → Type 0) (before : List Placed) (p : Placed) → Each Q before → Q p → Each (λ (t : Turn). Q t.own) (turns_at before p)
 at_own Q before p g h = by_gap (nat_lt (end_of before p.from) p.place)
@@ -352,7 +353,7 @@ cut_in_parts size is (suc k) upto l = by_size (size l.cells) refl (λ n. cut_in_
         by_late true parts = refl
         by_late false parts = parts
 
--- up to the end no message is left that is there whole
+-- Up to the end no complete message is left.
 none_left : (size : List Cell → Option ℕ) → IsSize size → (k upto : ℕ) (l : Left) → length l.cells ≤ k → end_left l ≤ upto
     → messages_in size (cut_off k size upto l).left.cells ≡ []
 unfolding cut_off
@@ -386,7 +387,7 @@ nothing_after : (ms ns : List (List Cell)) → ms ++ ns ≡ [] → ns ≡ []
 nothing_after [] ns e = e
 nothing_after (m ∷ ms) ns e = absurd cc
 
--- no message is left, or all that is there is still to be delivered
+-- No message is left, or all that is present is still to be delivered.
 abbrev IsDue : (List Cell → Option ℕ) → End → Left → List Delivery → Type 0
 IsDue size d l ds = (messages_in size l.cells ≡ []) ⊎ OneOf (Reaches d (end_left l)) ds
 
@@ -455,7 +456,7 @@ pub all_shown : (size : List Cell → Option ℕ) (ps : List Placed) (d : End) �
 all_shown size ps active is whole = shows_all size is (flat_map deliveries (emitted_turns ps)) active (both_streams ps) (all_due size is ps active whole)
 all_shown size ps passive is whole = shows_all size is (flat_map deliveries (emitted_turns ps)) passive (both_streams ps) (all_due size is ps passive whole)
 
--- ---- a stream is told by its cells
+-- ---- the cells determine a stream
 
 not_past_bound : (n : ℕ) (ps : List Placed) (d : End) → bound ps ≤ n → cell_at ps d n ≡ None
 not_past_bound n ps d le = by_cell (cell_at ps d n) refl

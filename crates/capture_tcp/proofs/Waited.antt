@@ -1,4 +1,4 @@
--- What waits covers what is held behind the end, so a queue that is drained comes to the end of what is there.
+-- What waits covers what is buffered after the end, so a drained queue moves the end to where the contiguous bytes end.
 use Rattle.std.proofs.Common.{◌≡◌, ◌<◌, ◌≤◌, ◌+◌, ◌-◌, ◌++◌, ◌&&◌, inl, inr, ℕ, max, Bool, true, false, cond, nat_le, nat_lt, List, [], ◌∷◌, length, map, filter, slice_get, None, is_some, refl, sym, ap, subst, arith}
 use Rattle.std.proofs.lemmas.Bool.{le-leb, lt-leb, lt-ltb, cases_lt}
 use Rattle.capture_tcp.specs.declared.packet.Packet.{Packet}
@@ -77,7 +77,7 @@ spans_ordered : (qs : List Placed) → Sorted qs → IsOrdered (map span_of qs)
 spans_ordered [] h = tt
 spans_ordered (q ∷ qs) h = (covers_least q.place qs h.0, spans_ordered qs h.1)
 
--- ---- they cover what is held behind the end
+-- ---- they cover what is buffered after the end
 
 covers_insert : (p : Placed) (qs : List Placed) (n : ℕ) → Covers (map span_of (p ∷ qs)) n → Covers (map span_of (insert_by_place p qs)) n
 covers_insert p [] n c = c
@@ -187,7 +187,7 @@ end_by_queue before p le =
       λ c. covered_held (waits before d) before d n (λ q e. first_true (same_end q.from d) (nat_lt (end_of before d) q.place) e) (order_covers kept n c),
     )) le
 
--- ---- each packet that waits is of its direction, behind its end
+-- ---- each waiting packet is of its direction, after its end
 
 pub all_wait : (before : List Placed) (d : End) → Each (λ (q : Placed). waits before d q ≡ true) (waiting_in before d)
 all_wait before d =

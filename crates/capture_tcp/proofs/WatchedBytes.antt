@@ -1,4 +1,4 @@
--- The first loss, found by a reader that goes over the packets once.
+-- The first loss, found in one pass over the packets.
 use Rattle.std.proofs.Common.{◌≡◌, ◌<◌, ◌≤◌, ◌++◌, ◌||◌, ℕ, suc, Bool, true, false, nat_lt, List, [], ◌∷◌, length, take, map, Option, Some, None, Result, Ok, refl, sym, ap, subst, ◌∙◌, arith, length-append}
 use Rattle.std.proofs.lemmas.Bool.{le-ltb}
 use Rattle.std.proofs.lemmas.List.{append-nil, append_assoc, take_all, map-append}
@@ -12,7 +12,7 @@ use Rattle.capture_tcp.specs.TcpStreams.{End, active, passive, Placed, end_of, i
 use Rattle.capture_tcp.specs.Losses.{ends_of, side_of, is_incomplete, needs_of, unsettled, IsUnsettled, need_at, other_end, own_end, past_of, HeadIncomplete, IsWatched, Watches, IsNext, WatchesOn, IsLoss, FindsLoss, ReturnsLoss, first_of}
 use Rattle.capture_tcp.proofs.Numbered.{loss_sure, settled_sure, where_true}
 
--- ---- the front of what is needed
+-- ---- the first needs
 
 passes_settled : (e : BothEnds) (n : Need) (ns : List Need) → is_incomplete e n ≡ false → unsettled e (n ∷ ns) ≡ unsettled e ns
 unfolding unsettled
@@ -29,7 +29,7 @@ settles_one e n old ns first is h kept = sym (passes_settled e n ns h) ∙ sym (
 pub settles_all : (e : BothEnds) (ns first : List Need) → IsUnsettled e ns → unsettled e ns ≡ unsettled e first → ns ≡ unsettled e first
 settles_all e ns first h kept = sym (stays_unsettled e ns h) ∙ kept
 
--- ---- a packet lacks what the definition says
+-- ---- a packet has the missing data that the definition gives
 
 past_by : (all : List Placed) (e : End) (a : Option ℕ) (p : Placed)
     → nat_lt (other_end (ends_of all) (side_of e)) (unwrap_or a 0) ≡ is_past all (record p { from = e; acknowledged = a })
@@ -38,7 +38,7 @@ past_by all active (Some n) p = refl
 past_by all passive None p = le-ltb (end_of all active) 0 (omega arith)
 past_by all passive (Some n) p = refl
 
--- the same of what it acknowledges alone
+-- A packet acknowledges missing data exactly if the definition says so.
 pub past_is : (all : List Placed) (p : Placed) → nat_lt (other_end (ends_of all) (need_at p).from) (need_at p).acknowledged ≡ is_past all p
 past_is all p = past_by all p.from p.acknowledged p
 
@@ -51,7 +51,7 @@ incomplete_is all p =
     ap (λ (b : Bool). b || nat_lt (own_end (ends_of all) (side_of p.from)) p.place) (past_is all p)
     ∙ ap (λ (n : ℕ). is_past all p || nat_lt n p.place) (own_is all p.from)
 
--- ---- the packets that are settled go
+-- ---- the settled packets are removed
 
 proceeds : (settled rest all : List Placed) → all ≡ settled ++ rest → length rest ≤ 4097 → ((later : List Placed) → loss [] (all ++ later) ≡ loss settled (rest ++ later))
     → IsWatched 4097 (unsettled (ends_of all) (map need_at rest)) all
@@ -68,7 +68,7 @@ proceeds settled (q ∷ next) all e le f = by_need (is_beyond all q) refl (λ g 
         subst (λ (ns : List Need). IsWatched 4097 ns all) (sym (passes_settled (ends_of all) (need_at q) (map need_at next) (incomplete_is all q ∙ h)))
         (go (e ∙ sym (append_assoc settled (q ∷ []) next)) (λ later. f later ∙ settled_sure settled q next later (omega (arith, le)) here))
 
--- one packet more
+-- One more packet.
 pub watched : (old : List Need) (s : Side) (packet : Packet) (ends : BothEnds) (new : List Need) → new ≡ unsettled ends (old ++ needs_of s packet ∷ [])
     → (before : List Placed) (p : Placed) → Watches old before → IsNext s packet ends before p → IsWatched 4097 new (before ++ (p ∷ []))
 watched old s packet ends new e before p w n =
@@ -150,7 +150,7 @@ none_there : (old : List Need) (s : Side) (packet : Packet) (ends : BothEnds) (n
 none_there old s packet ends [] lt e = absurd (omega (arith, lt))
 none_there old s packet ends (n ∷ ns) lt e = absurd cc
 
--- by what is answered
+-- By the result.
 pub took_none : {E : Type 0} (old : List Need) (s : Side) (packet : Packet) (ends : BothEnds) (new : List Need) (r : Option ℕ) → r ≡ first_of new → 4096 < length new
     → ◌≡◌ {A = Result (Option ℕ) E} (Ok r) (Ok None) → WatchesOn old s packet ends new
 took_none old s packet ends new r f lt e = let none : r ≡ None = cc in none_there old s packet ends new lt (sym f ∙ none)

@@ -1,4 +1,4 @@
--- What is told at the turn of a packet: whether the connection is open, what is delivered, and whether it is reset.
+-- The events of a delivered packet: whether the connection is open, what is delivered, and whether it is reset.
 use Rattle.std.specs.Prelude.{◌≡◌, ◌≤◌, ◌+◌, ◌&&◌, ◌||◌, Bool, true, false, nat_le, if◌then◌else◌, ℕ, max, List, [], ◌∷◌, ◌++◌, length, Option, Some, None}
 use Rattle.std.specs.Option.{unwrap_or}
 use Rattle.capture_tcp.specs.declared.framing.Delivery.{Delivery}
@@ -17,7 +17,7 @@ use Rattle.capture_tcp.specs.KnownStreams.{end_at, packet_of}
 use Rattle.capture_tcp.specs.Losses.{side_of}
 use Rattle.capture_tcp.specs.EventSteps.{ProcessesInput, processes_input, cut_entries, cut_to, IsLeft}
 
--- ---- a turn, by what is kept of it
+-- ---- a delivery, by what is kept of it
 
 abbrev pub due_of : Turn → Due
 due_of t = record { at = t.at.packet; time = t.at.time; from = side_of t.own.from; packet = packet_of t.own }
@@ -38,7 +38,7 @@ acked_by side.Passive t = due_if t.from t.packet.acknowledged
     due_if side.Active a = unwrap_or a 0
     due_if side.Passive a = 0
 
--- it acknowledges the SYN of the passive end
+-- True if it acknowledges the SYN of the passive end.
 abbrev pub answers : Due → Bool
 answers t = nat_le 1 (acked_by side.Passive t)
 
@@ -50,7 +50,7 @@ resets opened t = t.packet.reset && (opened || opens t)
 
 -- ---- what is delivered at it
 
--- the entries, and what is left of both streams
+-- The entries, and what is left of both streams.
 pub record Given : Type 0 where
   pub entries : List Entry
   pub both : Both
@@ -79,13 +79,13 @@ answer_entries t = if answers t then (entry t.at up ∷ []) else []
 abbrev pub reset_entry : Bool → Due → List Entry
 reset_entry opened t = if resets opened t then (entry t.at down ∷ []) else []
 
--- all that is told at it
+-- All entries that are emitted at it.
 abbrev pub entries_at : Bool → Due → Both → List Entry
 entries_at opened t b = answer_entries t ++ ((delivers t b).entries ++ reset_entry opened t)
 
--- ---- turn by turn
+-- ---- delivery by delivery
 
--- what is told, and whether it ended
+-- The emitted entries, and whether the connection ended.
 pub record Log : Type 0 where
   pub emitted : List Entry
   pub closed : Bool
@@ -98,14 +98,14 @@ is_over (emitter_state.Waiting early) = false
 is_over (emitter_state.Running s) = false
 is_over emitter_state.Over = true
 
--- behind a reset nothing is told
+-- Nothing is emitted after a reset.
 unfoldable pub emit_turns : EmitterState → Bool → Both → List Due → Log
 emit_turns s opened b [] = record { emitted = []; closed = is_over s }
 emit_turns s opened b (t ∷ ts) =
     (let h = processes_input s (entries_at opened t b) in
     if resets opened t then (record { emitted = h.emitted; closed = true }) else (and_log h.emitted (emit_turns h.state (opened || opens t) (delivers t b).both ts)))
 
--- what is left of both streams behind these turns
+-- What is left of both streams after these deliveries.
 unfoldable pub remains_after : Both → List Due → Both
 remains_after b [] = b
 remains_after b (t ∷ ts) = remains_after (delivers t b).both ts
@@ -116,29 +116,29 @@ abbrev pub stream_at : Streams → Side → Stream
 stream_at s side.Active = s.active
 stream_at s side.Passive = s.passive
 
--- what is left of both streams begins with what is held
+-- Holds if what is left of both streams starts with what is buffered.
 abbrev pub AreLeft : Streams → Both → Type 0
 AreLeft s b = IsLeft s.active.held s.active.place b.active × IsLeft s.passive.held s.passive.place b.passive
 
--- so far a stream is there without a gap
+-- The offset up to which a stream has no gap.
 abbrev pub reach : Stream → ℕ
 reach s = s.place + length (piece_from s.held s.place)
 
 abbrev pub Reaches : Streams → Delivery → Type 0
 Reaches s d = d.upto ≤ reach (stream_at s d.of)
 
--- all that a turn delivers is there
+-- Holds if everything that a packet delivers is present.
 abbrev pub ReachesAll : Streams → Due → Type 0
 ReachesAll s t = (unwrap_or t.packet.acknowledged 0 ≤ reach (stream_at s (other_side t.from))) × (t.packet.to ≤ reach (stream_at s t.from))
 
--- what is held stays, and no place goes back or past what is delivered
+-- Holds if the buffered cells are unchanged, and no offset decreases or passes what is delivered.
 abbrev pub SameHeld : Streams → Streams → Type 0
 SameHeld old new = (new.active.held ≡ old.active.held) × (new.passive.held ≡ old.passive.held)
 
 abbrev pub MovesTo : Stream → ℕ → Stream → Type 0
 MovesTo old upto new = (new.held ≡ old.held) × (old.place ≤ new.place) × (new.place ≤ max old.place upto)
 
--- the streams move on by what is given, which is told
+-- Holds if the streams advance by what is given, and it is emitted.
 abbrev pub Gives : (Both → Given) → Streams → List TimedEvent → EmitterState → Streams → List TimedEvent → EmitterState → Type 0
 Gives g old emitted state new after now =
     (b : Both) → AreLeft old b → ProcessesInput (processes_input state (g b).entries) emitted now after × AreLeft new (g b).both
@@ -146,7 +146,7 @@ Gives g old emitted state new after now =
 abbrev pub Delivers : Delivery → Streams → List TimedEvent → EmitterState → Streams → List TimedEvent → EmitterState → Type 0
 Delivers d old emitted state new after now = Reaches old d → Gives (given d) old emitted state new after now
 
--- one direction moves on, and the other one stays
+-- Holds if one direction advances, and the other is unchanged.
 abbrev pub Moves : Delivery → Streams → Streams → Type 0
 Moves d old new =
     MovesTo (stream_at old d.of) d.upto (stream_at new d.of) × (stream_at new (other_side d.of) ≡ stream_at old (other_side d.of))

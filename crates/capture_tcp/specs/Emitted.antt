@@ -1,4 +1,4 @@
--- Turns that are told one after another, as far as it is sure that they stand before the end of a log.
+-- Deliveries that are emitted one after another, up to where they are certainly before the end of a log.
 use Rattle.std.specs.Prelude.{◌≡◌, ◌≤◌, Bool, true, false, nat_lt, ℕ, List, [], ◌∷◌, ◌++◌, drop, map, Option, Some, None}
 use Rattle.std.specs.Option.{unwrap_or}
 use Rattle.capture_tcp.specs.declared.emitter.Emitter.{Emitter}
@@ -11,12 +11,12 @@ use Rattle.capture_tcp.specs.TcpStreams.{Cell, Both}
 use Rattle.capture_tcp.specs.EventSteps.{entry_as}
 use Rattle.capture_tcp.specs.DeliverySteps.{AreLeft, Log, and_log, remains_after, other_side, reach, stream_at, emit_turns}
 
--- a packet stands before a limit
+-- True if a packet is before a limit.
 abbrev pub is_sure : Option ℕ → ℕ → Bool
 is_sure None n = true
 is_sure (Some k) n = nat_lt n k
 
--- the first turn isn't before it
+-- Holds if the first delivery is not before the limit.
 abbrev pub IsHeldBack : Option ℕ → List Due → Type 0
 IsHeldBack limit [] = Unit {0}
 IsHeldBack limit (t ∷ ts) = is_sure limit t.at ≡ false
@@ -25,27 +25,27 @@ abbrev pub EachDue : (Due → Type 0) → List Due → Type 0
 EachDue P [] = Unit {0}
 EachDue P (t ∷ ts) = P t × EachDue P ts
 
--- both streams are there up to these places
+-- Holds if a stream is present up to this offset.
 abbrev pub SpansTo : Stream → ℕ → Type 0
 SpansTo s end = (s.held.place ≤ s.place) × (s.place ≤ end) × (end ≤ reach s)
 
 abbrev pub Spans : Streams → (Side → ℕ) → Type 0
 Spans s ends = (d : Side) → SpansTo (stream_at s d) (ends d)
 
--- what a turn delivers ends by them
+-- Holds if what is delivered ends within these offsets.
 abbrev pub Fits : (Side → ℕ) → Due → Type 0
 Fits ends t = (unwrap_or t.packet.acknowledged 0 ≤ ends (other_side t.from)) × (t.packet.to ≤ ends t.from)
 
--- what is left is the end of these streams
+-- Holds if what is left is the rest of these streams.
 abbrev pub AreTails : List Cell → List Cell → Both → Type 0
 AreTails a p b = (b.active.cells ≡ drop b.active.place a) × (b.passive.cells ≡ drop b.passive.place p)
 
--- the log, as far as it is told: all of it, where it was reset
+-- The log, up to what is emitted: all of it, if the connection was reset.
 abbrev pub log_by : Bool → List TimedEvent → Log → Log
 log_by true emitted rest = record { emitted = map entry_as emitted; closed = true }
 log_by false emitted rest = and_log (map entry_as emitted) rest
 
--- these turns were told, and what follows them is told as it was to be
+-- Holds if these deliveries were emitted, and those that follow are emitted as before.
 abbrev pub HasEmitted : List Due → Emitter → List TimedEvent → Emitter → List TimedEvent → Bool → Type 0
 HasEmitted taken old emitted new later closed =
     (b : Both) → AreLeft old.streams b
@@ -57,7 +57,7 @@ HasEmitted taken old emitted new later closed =
 abbrev pub SameStores : Streams → Streams → Type 0
 SameStores old new = (new.active.held ≡ old.active.held) × (new.passive.held ≡ old.passive.held)
 
--- the turns at the front are told that stand before a limit, up to a reset
+-- Holds if the deliveries at the front that are before a limit are emitted, up to a reset.
 abbrev pub Drains : Option ℕ → List Due → Emitter → List TimedEvent → List Due → Emitter → List TimedEvent → Bool → Type 0
 Drains limit queue old emitted left new later closed =
     (ends : Side → ℕ) → Spans old.streams ends → EachDue (λ t. is_sure limit t.at ≡ true → Fits ends t) queue

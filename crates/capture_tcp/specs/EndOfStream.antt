@@ -1,4 +1,4 @@
--- How what is told of a connection ends.
+-- How the events of a connection end.
 use Rattle.std.specs.Prelude.{◌≡◌, ◌++◌, ◌∷◌, Bool, true, false, nat_lt, nat_le, if◌then◌else◌, ℕ, List, [], length, map, filter, Option, Some, None}
 use Rattle.capture_tcp.specs.declared.ending.Ending.{Ending}
 use Rattle.capture_tcp.specs.declared.ending.Ending.TheVariants as ending
@@ -10,14 +10,14 @@ use Rattle.capture_tcp.specs.EventSteps.{entry_as}
 use Rattle.capture_tcp.specs.Emitted.{is_sure}
 use Rattle.capture_tcp.specs.ReaderState.{AreRising, AreStreamsOf, MayFollow, Waits, log_of}
 
--- by the loss and the copy that differs, if there are some: the first of both
+-- The ending by the loss or the conflicting retransmission, if there is one: the earlier of the two.
 abbrev pub broken : Option ℕ → Option ℕ → Ending
 broken None None = ending.Complete
 broken (Some j) None = ending.Lost j
 broken None (Some k) = ending.Differs k
 broken (Some j) (Some k) = if nat_lt j k then ending.Lost j else ending.Differs k
 
--- whole, where the connection was over before that
+-- `Closed`, if the connection ended before that.
 abbrev pub ended_by : Bool → List Placed → Ending
 ended_by true ps = ending.Closed
 ended_by false ps = broken (loss [] ps) (difference [] ps)
@@ -25,7 +25,7 @@ ended_by false ps = broken (loss [] ps) (difference [] ps)
 abbrev pub ended_at : List Placed → Ending
 ended_at ps = ended_by (log_of ps).closed ps
 
--- a loss is told by the packet that shows it
+-- The ending with the packet that shows a loss.
 abbrev pub shown_by : Option ℕ → Ending → Ending
 shown_by shown ending.Closed = ending.Closed
 shown_by shown ending.Complete = ending.Complete
@@ -36,13 +36,14 @@ shown_by shown (ending.Differs packet) = ending.Differs packet
 abbrev pub ended : List Placed → Ending
 ended ps = shown_by (loss_shown [] ps) (ended_at ps)
 
--- ---- whether that is known, whatever follows
+-- ---- whether the ending is known, whatever follows
 
--- so many packets stand behind one
+-- The number of packets after one.
 abbrev pub packets_after : ℕ → List Placed → ℕ
 packets_after k ps = length (filter (λ p. nat_lt k p.packet) ps)
 
--- It is over, or a copy differs, or the next 4,096 packets behind the one that lacks something are there.
+-- True if the connection ended, or a retransmission conflicts, or the next 4,096 packets after the one with missing
+-- data are present.
 abbrev pub ends_for_good : Ending → List Placed → Bool
 ends_for_good ending.Closed ps = true
 ends_for_good ending.Complete ps = false
@@ -58,13 +59,13 @@ abbrev pub EachAfter : Option ℕ → List Turn → Type 0
 EachAfter limit [] = Unit {0}
 EachAfter limit (t ∷ ts) = (is_sure limit t.at.packet ≡ false) × EachAfter limit ts
 
--- whatever follows, it breaks off at a packet, and what follows stands behind it
+-- Holds if, whatever follows, the log stops at a packet, and what follows comes after it.
 abbrev pub BreaksAt : Bool → Option ℕ → Ending → List Placed → Type 0
 BreaksAt more limit e ps =
     (later : List Placed) → MayFollow more ps later
     → (breaks_off (ps ++ later) ≡ limit) × (e ≡ broken (loss [] (ps ++ later)) (difference [] (ps ++ later))) × EachAfter limit (turns ps later)
 
--- whatever follows, this is all that is told, and how it ends
+-- Holds if, whatever follows, these are all emitted events, with this ending.
 abbrev pub IsEnded : Bool → List Placed → List TimedEvent → Ending → Type 0
 IsEnded more ps emitted e =
     (later : List Placed) → MayFollow more ps later → (map entry_as emitted ≡ (log_of (ps ++ later)).emitted) × (e ≡ ended_at (ps ++ later))
@@ -72,12 +73,13 @@ IsEnded more ps emitted e =
 abbrev pub EndsSo : Bool → List Placed → List TimedEvent → Type 0
 EndsSo more ps emitted = (e : Ending) × IsEnded more ps emitted e
 
--- the same, by the packet that shows a loss
+-- Holds if, whatever follows, these are all emitted events, with this ending, by the packet that shows a loss.
 abbrev pub IsShownEnded : Bool → List Placed → List TimedEvent → Ending → Type 0
 IsShownEnded more ps emitted e =
     (later : List Placed) → MayFollow more ps later → (map entry_as emitted ≡ (log_of (ps ++ later)).emitted) × (e ≡ ended (ps ++ later))
 
--- where it breaks off by a loss and a copy, all before that is told, behind what was taken away
+-- Holds if, after a stop by a loss or a conflicting retransmission, everything before it is emitted. It is appended to
+-- what the caller left.
 abbrev pub Finishes : Option ℕ → Option ℕ → Emitter → List Due → List TimedEvent → List TimedEvent → Ending → Type 0
 Finishes lost differs old queue emitted later e =
     (away : List TimedEvent) (more : Bool) (ps : List Placed) → AreRising 0 ps → MayFollow more ps [] → AreStreamsOf old.streams ps

@@ -1,4 +1,4 @@
--- What is told of a connection as its turns come, one after another. The laws say that it is what a log tells.
+-- The events of a connection, one delivery after another. The laws state that they are the entries of a log.
 use Rattle.std.specs.Prelude.{◌≡◌, ◌≤◌, ◌+◌, ◌==◌, Bool, true, false, if◌then◌else◌, ℕ, List, [], ◌∷◌, ◌++◌, length, take, drop, ◌-◌, map, flat_map, Option, Some, None}
 use Rattle.std.specs.Option.{option_map}
 use Rattle.capture_tcp.specs.declared.reassembly.Cell.{Cell as HeldCell}
@@ -17,7 +17,7 @@ use Rattle.capture_tcp.specs.ConnectionEvents.{ConnectionEvent, up, message, dow
 use Rattle.capture_tcp.specs.KnownStreams.{end_at}
 use Rattle.capture_tcp.specs.Losses.{side_of}
 
--- ---- the entries of a log, as they are handed out
+-- ---- the entries of a log, as events
 
 abbrev pub reported_as : Event → ConnectionEvent
 reported_as event.Up = up
@@ -29,7 +29,7 @@ entry_as h = entry h.packet (reported_as h.event)
 
 -- ---- entry by entry
 
--- how things stand, and what was told
+-- The state, and the emitted entries.
 pub record Processed : Type 0 where
   pub state : EmitterState
   pub emitted : List Entry
@@ -38,7 +38,8 @@ abbrev pub is_at : Option ℕ → ℕ → Bool
 is_at None n = false
 is_at (Some m) n = m == n
 
--- It comes up, where it isn't up yet. What ended at the same packet before ends it.
+-- The connection is established, if it is not yet. If an end came before at the same packet, the connection is also
+-- closed.
 abbrev pub comes_up : EmitterState → ℕ → Processed
 comes_up (emitter_state.Waiting early) n =
     if is_at early n then (record { state = emitter_state.Over; emitted = entry n up ∷ entry n down ∷ [] })
@@ -51,7 +52,7 @@ separated_side (Some s) d b = Some s
 separated_side None d true = Some d
 separated_side None d false = None
 
--- a message, where it is up
+-- A message of an established connection.
 abbrev pub says : EmitterState → ℕ → Side → List ℕ → Processed
 says (emitter_state.Waiting early) n d octets = record { state = emitter_state.Waiting early; emitted = [] }
 says (emitter_state.Running s) n d octets =
@@ -59,7 +60,7 @@ says (emitter_state.Running s) n d octets =
     else (record { state = emitter_state.Running (separated_side s d (is_separate octets)); emitted = entry n (message (end_at d) octets) ∷ [] })
 says emitter_state.Over n d octets = record { state = emitter_state.Over; emitted = [] }
 
--- an end: one before it is up ended nothing
+-- The connection is closed, if it is established. Otherwise the packet is only recorded.
 abbrev pub closes_down : EmitterState → ℕ → Processed
 closes_down (emitter_state.Waiting early) n = record { state = emitter_state.Waiting (Some n); emitted = [] }
 closes_down (emitter_state.Running s) n = record { state = emitter_state.Over; emitted = entry n down ∷ [] }
@@ -68,7 +69,7 @@ closes_down emitter_state.Over n = record { state = emitter_state.Over; emitted 
 abbrev pub and_processed : Processed → (EmitterState → Processed) → Processed
 and_processed h f = record { state = (f h.state).state; emitted = h.emitted ++ (f h.state).emitted }
 
--- a message is there: it comes up by it, if it isn't up yet
+-- A complete message. It establishes the connection, if it is not established yet.
 abbrev pub says_first : EmitterState → ℕ → Side → List ℕ → Processed
 says_first t n d octets = and_processed (comes_up t n) (λ s. says s n d octets)
 
@@ -84,19 +85,19 @@ unfoldable pub processes_input : EmitterState → List Entry → Processed
 processes_input t [] = record { state = t; emitted = [] }
 processes_input t (e ∷ es) = and_processed (process_input t e) (λ s. processes_input s es)
 
--- ---- what the cells of a message tell, and those of several
+-- ---- the entries of the cells of a message, and of several
 
 abbrev pub entries_as : End → ℕ → Piece → List Entry
 entries_as d n (piece.Message octets) = entry n (message d octets.items) ∷ []
 entries_as d n piece.Opens = []
 entries_as d n piece.Closes = entry n down ∷ []
 
--- so many cells of those in one piece at the front tell this
+-- Holds if this is what the given number of contiguous cells at the front are.
 abbrev pub PieceEmits : List (Option HeldCell) → ℕ → Piece → Type 0
 PieceEmits ss count emitted =
     count ≤ length (in_piece ss) → (d : End) (n : ℕ) → entry_of d n [] (take count (in_piece ss)) ≡ entries_as d n emitted
 
--- the same from a place on
+-- Holds if this is what the given number of contiguous cells from an offset on are.
 abbrev pub Emits : Store → ℕ → ℕ → Piece → Type 0
 Emits s place count emitted = s.place ≤ place → PieceEmits (drop (place - s.place) s.cells) count emitted
 
@@ -106,17 +107,17 @@ cut_entries d n c = flat_map (λ m. entry_of d n [] m) c.messages
 abbrev pub cut_to : ℕ → Left → Cut
 cut_to upto l = cut_off (length l.cells) message_size upto l
 
--- what is left of a stream, from a place on, begins with what is held there
+-- Holds if what is left of a stream, from an offset on, starts with what is buffered there.
 abbrev pub IsLeft : Store → ℕ → Left → Type 0
 IsLeft s place l = (l.place ≡ place) × (s.place ≤ place) × ((more : List Cell) × (l.cells ≡ piece_from s place ++ more))
 
 -- ---- what code does
 
--- how things stand is what was to come of it, and it was told
+-- Holds if the state is as specified, and the specified entries were emitted.
 abbrev pub ProcessesInput : Processed → List TimedEvent → EmitterState → List TimedEvent → Type 0
 ProcessesInput h before state after = (state ≡ h.state) × (map entry_as after ≡ map entry_as before ++ h.emitted)
 
--- the messages of a direction up to a place, which is held, are told at a packet
+-- Holds if the messages of a direction up to a buffered offset are emitted at a packet.
 abbrev pub Cuts : Store → End → ℕ → ℕ → ℕ → List TimedEvent → EmitterState → ℕ → List TimedEvent → EmitterState → Type 0
 Cuts s d n upto place emitted state later after now =
     (l : Left) → IsLeft s place l → upto ≤ place + length (piece_from s place)

@@ -1,4 +1,4 @@
--- Small captures, and what the definitions say of them. Each message has one cell here.
+-- Small captures, and what the definitions state of them. Each message has one cell here.
 use Rattle.std.specs.Prelude.{◌≡◌, ℕ, true, false, List, [], ◌∷◌, map, Option, None, Some}
 use Rattle.capture_tcp.specs.TcpStreams.{End, active, passive, Cell, syn, octet, Seen, places, loss, loss_shown, difference, wire_shows}
 use Rattle.capture_tcp.specs.Message.{cells_of}
@@ -9,7 +9,7 @@ abbrev pub one_cell : List Cell → Option ℕ
 one_cell [] = None
 one_cell (c ∷ cs) = Some 1
 
--- both SYNs have the number 1000
+-- Both SYNs have the sequence number 1000.
 abbrev pub base : End → ℕ
 base e = 1000
 
@@ -26,28 +26,29 @@ senders ss = map (λ s. s.of) (wire_shows one_cell base (connected ss))
 abbrev pub packets : List Seen → List ℕ
 packets ss = map (λ s. s.at.packet) (wire_shows one_cell base (connected ss))
 
--- the reply that packet 4 acknowledges is missing, and what packet 5 brings is behind the loss
+-- The reply that packet 4 acknowledges is missing, and packet 5's data comes after the loss.
 abbrev pub lost_reply : List Seen
 lost_reply =
     sent active 3 1001 (Some 1001) (octet 7 ∷ []) ∷ (sent active 4 1002 (Some 1002) [] ∷ (sent active 5 1002 (Some 1002) (octet 8 ∷ []) ∷ []))
 
--- the reply is captured before the message that it acknowledges
+-- The reply is captured before the message that it acknowledges.
 abbrev pub early_reply : List Seen
 early_reply = sent passive 3 1001 (Some 1002) (octet 9 ∷ []) ∷ (sent active 4 1001 (Some 1001) (octet 7 ∷ []) ∷ [])
 
--- the octet of packet 5 stands in a place that was acknowledged
+-- The byte of packet 5 is at an offset that was acknowledged.
 abbrev pub asked : List Seen
 asked = sent active 3 1001 (Some 1001) (octet 7 ∷ []) ∷ (sent passive 4 1001 (Some 1002) [] ∷ (record (sent active 5 1001 (Some 1001) (octet 0 ∷ [])) { pushed = false } ∷ []))
 
--- the copy of packet 4 isn't that of packet 3, and nothing acknowledged it
+-- The copy in packet 4 differs from packet 3, and nothing acknowledged it.
 abbrev pub other_copy : List Seen
 other_copy = sent active 3 1001 (Some 1001) (octet 7 ∷ []) ∷ (sent active 4 1001 (Some 1001) (octet 0 ∷ (octet 1 ∷ [])) ∷ [])
 
--- one octet is missing before packet 4, and nothing acknowledges it
+-- One byte is missing before packet 4, and nothing acknowledges it.
 abbrev pub gap_at_end : List Seen
 gap_at_end = sent active 3 1001 (Some 1001) (octet 7 ∷ []) ∷ (sent active 4 1003 (Some 1001) (octet 8 ∷ []) ∷ [])
 
--- the message that packet 4 answers is missing, and packet 3, which stands behind it, is captured before the reply
+-- The message that packet 4 answers is missing. Packet 3, which comes after the missing message, is captured before the
+-- reply.
 abbrev pub lost_message : List Seen
 lost_message = sent active 3 1002 (Some 1002) [] ∷ (sent passive 4 1001 (Some 1002) (octet 9 ∷ []) ∷ [])
 
@@ -75,9 +76,9 @@ LostMessage =
     (loss [] (places base [] (connected lost_message)) ≡ Some 3) × (loss_shown [] (places base [] (connected lost_message)) ≡ Some 4)
     × (packets lost_message ≡ 1 ∷ (2 ∷ []))
 
--- ---- what a log tells of small captures
+-- ---- the log of small captures
 
--- a message of HSMS of this SType, without a text
+-- An HSMS message of this SType, without a text.
 abbrev pub control : ℕ → List ℕ
 control s = 0 ∷ 0 ∷ 0 ∷ 10 ∷ 255 ∷ 255 ∷ 0 ∷ 0 ∷ 0 ∷ s ∷ 0 ∷ 0 ∷ 0 ∷ 1 ∷ []
 
@@ -90,48 +91,49 @@ resets e packet number ack = record (sent e packet number (Some ack) []) { reset
 abbrev pub recorded_of : List Seen → List Entry
 recorded_of ss = emits (places base [] ss)
 
--- nobody listens at the passive end
+-- Nobody listens at the passive end.
 abbrev pub Refused : Type 0
 Refused = recorded_of (sent active 1 1000 None (syn ∷ []) ∷ resets passive 2 1000 1001 ∷ []) ≡ []
 
--- the SYN and ACK isn't answered
+-- The SYN and ACK is not answered.
 abbrev pub HalfOpen : Type 0
 HalfOpen = recorded_of (connected (resets passive 3 1001 1001 ∷ [])) ≡ []
 
--- nobody listens at first; the SYN is sent again, since the reset was lost behind the tap
+-- Nobody listens at first. The SYN is sent again, since the reset was lost after the tap.
 abbrev pub RefusedOnce : Type 0
 RefusedOnce =
     recorded_of (sent active 1 1000 None (syn ∷ []) ∷ resets passive 2 1000 1001 ∷ sent active 3 1000 None (syn ∷ []) ∷ sent passive 4 1000 (Some 1001) (syn ∷ [])
     ∷ sent active 5 1001 (Some 1001) [] ∷ brings active 6 1001 1001 1 ∷ [])
     ≡ entry 5 up ∷ entry 6 (message active (control 1)) ∷ []
 
--- a Linktest.req, which isn't acknowledged, crosses a Separate
+-- A Linktest.req, which is not acknowledged, crosses a Separate.
 abbrev pub SeparateCrossed : Type 0
 SeparateCrossed =
     recorded_of (connected (sent active 3 1001 (Some 1001) [] ∷ brings active 4 1001 1001 9 ∷ brings passive 5 1001 1001 5 ∷ []))
     ≡ entry 3 up ∷ entry 4 (message active (control 9)) ∷ []
 
--- a reset behind a message, and what comes behind it
+-- A reset after a message, and what follows it.
 abbrev pub ResetBetween : Type 0
 ResetBetween =
     recorded_of (connected (sent active 3 1001 (Some 1001) [] ∷ brings active 4 1001 1001 1 ∷ resets passive 5 1001 1015 ∷ brings active 6 1015 1001 5 ∷ []))
     ≡ entry 3 up ∷ entry 4 (message active (control 1)) ∷ entry 5 down ∷ []
 
--- the SYN brings an octet, which is no message yet, and a reset ends it: it is over, and nothing is told
+-- The SYN carries a byte, which is not a complete message, and a reset ends the connection. It ended, and nothing is
+-- emitted.
 abbrev pub over_unreported : List Seen
 over_unreported = sent active 1 1000 None (syn ∷ octet 0 ∷ []) ∷ record (sent active 2 1002 None []) { reset = true } ∷ []
 
 abbrev pub OverUnreported : Type 0
 OverUnreported = ((log_of (places base [] over_unreported)).closed ≡ true) × (recorded_of over_unreported ≡ [])
 
--- the SYN and ACK is captured behind the Select.req that acknowledges it
+-- The SYN and ACK is captured after the Select.req that acknowledges it.
 abbrev pub UpLate : Type 0
 UpLate =
     recorded_of (sent active 1 1000 None (syn ∷ []) ∷ sent active 2 1001 (Some 1001) [] ∷ brings active 3 1001 1001 1
     ∷ sent passive 4 1000 (Some 1001) (syn ∷ []) ∷ brings passive 5 1001 1015 2 ∷ [])
     ≡ entry 2 up ∷ entry 3 (message active (control 1)) ∷ entry 5 (message passive (control 2)) ∷ []
 
--- a FIN ends the connection, also within a message
+-- A FIN ends the connection, also within a message.
 abbrev pub FinWithin : Type 0
 FinWithin =
     recorded_of (connected (sent active 3 1001 (Some 1001) [] ∷ brings active 4 1001 1001 1 ∷ sent active 5 1015 (Some 1001) (cells_of false (0 ∷ 0 ∷ []) true) ∷ []))

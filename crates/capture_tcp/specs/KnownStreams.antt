@@ -1,4 +1,4 @@
--- What a reader knows of a connection in the midst of a capture, and what more it tells at each segment.
+-- The state of reading a connection during a capture, and what each segment adds.
 use Rattle.std.specs.Prelude.{◌≡◌, ◌+◌, ◌&&◌, ◌||◌, ◌++◌, ◌∷◌, ℕ, max, nat_le, if◌then◌else◌, List, [], length, map, Option, Some, None}
 use Rattle.std.specs.Option.{option_to_list, unwrap_or}
 use Rattle.capture_tcp.specs.declared.packet.Packet.{Packet}
@@ -14,7 +14,7 @@ abbrev pub end_at : Side → End
 end_at side.Active = active
 end_at side.Passive = passive
 
--- a segment with these octets
+-- A segment with this payload.
 abbrev pub seen_of : Segment → List ℕ → Seen
 seen_of s octets = record {
   from = end_at s.from;
@@ -27,12 +27,13 @@ seen_of s octets = record {
   reset = s.reset;
 }
 
--- what is kept of a packet: all but its cells
+-- What is kept of a packet: everything except its cells.
 abbrev pub packet_of : Placed → Packet
 packet_of p = record { packet = p.packet; time = p.time; from = p.place; to = p.place + length p.cells; acknowledged = p.acknowledged; reset = p.reset }
 
--- of one direction: its SYN's number, the end of what is there without a gap, the places up to which the turns of the other
--- direction acknowledge it, and up to which its packets do, and the packets that wait behind a gap, in the order of places
+-- The state of one direction: its SYN's sequence number, and the end of what has no gap. Then the offsets up to which
+-- in-order packets of the other direction acknowledge it, and up to which any of its packets do. Last the out-of-order
+-- packets, in the order of offsets.
 pub record Flow : Type 0 where
   pub base : ℕ
   pub end : ℕ
@@ -40,7 +41,7 @@ pub record Flow : Type 0 where
   pub confirmed : ℕ
   pub waiting : List Packet
 
--- both directions, and the greatest time of the packets
+-- Both directions, and the latest time of the packets.
 pub record Known : Type 0 where
   pub active : Flow
   pub passive : Flow
@@ -52,9 +53,9 @@ flow_of base before d = record { base = base d; end = end_of before d; acknowled
 abbrev pub known : (End → ℕ) → List Placed → Known
 known base before = record { active = flow_of base before active; passive = flow_of base before passive; latest = latest before }
 
--- ---- one segment more
+-- ---- one more segment
 
--- a segment at a place
+-- A segment at an offset.
 abbrev pub placed_as : ℕ → Seen → ℕ → Option ℕ → Placed
 placed_as acknowledged s place ack = record {
   from = s.from;
@@ -66,7 +67,8 @@ placed_as acknowledged s place ack = record {
   reset = s.reset && nat_le acknowledged place;
 }
 
--- both directions behind a packet, of which one brings it, the packet by its place, and the packets whose turn is at it
+-- Both directions after a packet, which one of them carries; the packet by its offset; and the packets that are
+-- delivered at it.
 pub record Step : Type 0 where
   pub own : Flow
   pub peer : Flow
@@ -91,36 +93,36 @@ step_at own peer s (Some place) = step_by own peer (packet_of (placed_as own.con
 abbrev pub step : Flow → Flow → Seen → Step
 step own peer s = step_at own peer s (place_of own.end own.base s.number)
 
--- the greatest time behind a packet, if there is one
+-- The latest time after a packet, if there is one.
 abbrev pub latest_after : ℕ → Option Packet → ℕ
 latest_after n None = n
 latest_after n (Some p) = p.time
 
--- ---- behind all segments so far
+-- ---- after all segments so far
 
--- the numbers of both SYNs
+-- The sequence numbers of both SYNs.
 abbrev pub bases : ℕ → ℕ → End → ℕ
 bases a p active = a
 bases a p passive = p
 
--- a segment by its place, behind these packets: none where its place is too far
+-- A segment by its offset, after these packets. There is none if its offset is outside the window.
 abbrev pub placed_after : (End → ℕ) → List Placed → Seen → List Placed
 placed_after base before s =
     placed_at (confirmed before s.from) (timed before s) (place_of (end_of before s.from) (base s.from) s.number) (ack_place before base (other s.from) s.acknowledged)
 
--- the packets whose turn is at this segment, in their order
+-- The packets that are delivered at this segment, in their order.
 abbrev pub released_after : (End → ℕ) → List Placed → Seen → List Packet
 released_after base before s = map (λ (t : Turn). packet_of t.own) (turns before (placed_after base before s))
 
--- After these segments one more is read: what is known is what it was to be, the segment is told by its place, and the
--- packets are told whose turn it is.
+-- Holds if one more segment is read after these: the state is as specified, the segment is returned by its offset, and
+-- the delivered packets are returned.
 abbrev pub ContinuesWith : Known → List Packet → Seen → Known → List Packet → Option Packet → Type 0
 ContinuesWith old emitted s new later placed =
     (base : End → ℕ) (before : List Seen) → old ≡ known base (places base [] before)
     → (new ≡ known base (places base [] (before ++ s ∷ []))) × (later ≡ emitted ++ released_after base (places base [] before) s)
     × (option_to_list placed ≡ map packet_of (placed_after base (places base [] before) s))
 
--- The turns that are told segment by segment are, one after another, those of all segments.
+-- The deliveries that are returned segment by segment are, one after another, those of all segments.
 abbrev pub TurnsGoOn : Type 0
 TurnsGoOn =
     (base : End → ℕ) (before : List Seen) (s : Seen)

@@ -1,4 +1,4 @@
--- When a connection is given up: a stream has come too far, or more than is held of it waits.
+-- When a connection is given up: a stream is too long, or more of it waits than is buffered.
 use Rattle.std.specs.Prelude.{◌≡◌, ◌<◌, ◌≤◌, ◌^◌, ◌++◌, ◌∷◌, ℕ, List, [], length, max, None}
 use Rattle.capture_tcp.specs.declared.connection.Connection.{Connection}
 use Rattle.capture_tcp.specs.declared.connection.ConnectionFault.{ConnectionFault}
@@ -22,15 +22,16 @@ use Rattle.capture_tcp.specs.ReaderState.{first_kept}
 use Rattle.capture_tcp.specs.PacketArrival.{arrival_cells}
 use Rattle.capture_tcp.specs.ReaderInvariant.{StateInvariant, StateInvariantAs}
 
--- a stream has come past 2^62 cells
+-- Holds if a stream is longer than 2^62 cells.
 abbrev pub IsFar : List Placed → Type 0
 IsFar ps = 2 ^ 62 ≤ max (end_of ps active) (end_of ps passive)
 
--- a packet brings cells, and ends past 2^26 places behind the first of its direction that isn't told or isn't acknowledged
+-- Holds if a packet carries cells, and ends more than 2^26 offsets after the first of its direction that is not emitted
+-- or not acknowledged.
 abbrev pub IsPast : List Placed → Placed → Type 0
 IsPast ps p = (0 < length p.cells) × EndsFar (first_kept ps p.from) p.place p.cells
 
--- so is the packet of a segment that isn't too far away
+-- Holds if the packet of a segment in the window carries cells and ends that far ahead.
 abbrev pub EndsPast : (End → ℕ) → List Placed → Seen → Type 0
 EndsPast base ps s = (p : Placed) × (placed_after base ps s ≡ p ∷ []) × IsPast ps p
 
@@ -39,14 +40,14 @@ StopsFor stop.Far base ps s = IsFar ps
 StopsFor stop.Full base ps s = EndsPast base ps s
 StopsFor stop.Memory base ps s = Unit {0}
 
--- a connection that hasn't ended is given up for this, also where what was told was taken away
+-- Holds if a connection that has not ended is given up for this reason, also if the caller removed earlier events.
 abbrev pub StopsBy : Connection → List TimedEvent → Seen → ConnectionFault → Type 0
 StopsBy c emitted s fault =
     (c.ending ≡ None)
     × ((base : End → ℕ) (before : List Seen) (away : List TimedEvent) → StateInvariant c (away ++ emitted) base before
     → StopsFor fault base (places base [] before) s)
 
--- and it is given up wherever there is such a reason
+-- Holds if a connection is given up whenever there is one of these reasons.
 abbrev pub ContinuesBy : Connection → List TimedEvent → Seen → Type 0
 ContinuesBy c emitted s =
     c.ending ≡ None
@@ -63,7 +64,7 @@ abbrev pub of_held : ReassemblyFault → ConnectionFault
 of_held held.Full = stop.Full
 of_held held.Memory = stop.Memory
 
--- what a packet brings ends too far
+-- Holds if what a packet carries ends outside the window.
 abbrev pub IsFull : Store → Packet → List Cell → Type 0
 IsFull s packet cells = (packet.from ≡ packet.to → ⊥) × EndsFar s.place packet.from cells
 
@@ -74,7 +75,7 @@ abbrev pub FullIf : ReassemblyFault → Type 0 → Type 0
 FullIf held.Full A = A
 FullIf held.Memory A = Unit {0}
 
--- one that is brought doesn't
+-- Holds if what an accepted packet carries ends inside the window.
 abbrev pub IsNear : Store → Packet → List Cell → Type 0
 IsNear s packet cells = (packet.from ≡ packet.to → ⊥) → StaysNear s.place packet.from cells
 

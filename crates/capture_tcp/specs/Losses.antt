@@ -1,4 +1,4 @@
--- Which packet is the loss, as a reader that goes over the packets once finds it.
+-- Which packet is the loss, as one pass over the packets finds it.
 use Rattle.std.specs.Prelude.{◌≡◌, ◌≤◌, ◌++◌, ◌∷◌, ◌||◌, ℕ, Bool, true, nat_lt, if◌then◌else◌, List, [], length, map, Option, Some, None}
 use Rattle.std.specs.Option.{unwrap_or}
 use Rattle.capture_tcp.specs.declared.losses.BothEnds.{BothEnds}
@@ -13,7 +13,7 @@ abbrev pub side_of : End → Side
 side_of active = side.Active
 side_of passive = side.Passive
 
--- the end of a side's own direction, and of the other one
+-- The end of a side's own direction, and of the other one.
 abbrev pub own_end : BothEnds → Side → ℕ
 own_end e side.Active = e.active
 own_end e side.Passive = e.passive
@@ -25,14 +25,14 @@ other_end e side.Passive = e.active
 abbrev pub ends_of : List Placed → BothEnds
 ends_of ps = record { active = end_of ps active; passive = end_of ps passive }
 
--- what a packet needs, of which no ACK is one of nothing
+-- What a packet needs. No ACK counts as an ACK of nothing.
 abbrev pub needs_of : Side → Packet → Need
 needs_of s p = record { packet = p.packet; from = s; place = p.from; acknowledged = unwrap_or p.acknowledged 0 }
 
 abbrev pub is_incomplete : BothEnds → Need → Bool
 is_incomplete e n = nat_lt (other_end e n.from) n.acknowledged || nat_lt (own_end e n.from) n.place
 
--- those from the first on that lacks something
+-- The needs from the first with missing data on.
 unfoldable pub unsettled : BothEnds → List Need → List Need
 unsettled e [] = []
 unsettled e (n ∷ ns) = if is_incomplete e n then n ∷ ns else unsettled e ns
@@ -41,7 +41,7 @@ abbrev pub IsUnsettled : BothEnds → List Need → Type 0
 IsUnsettled e [] = Unit {0}
 IsUnsettled e (n ∷ ns) = is_incomplete e n ≡ true
 
--- the packet of the first
+-- The packet of the first need.
 abbrev pub first_of : List Need → Option ℕ
 first_of [] = None
 first_of (n ∷ ns) = Some n.packet
@@ -55,8 +55,8 @@ abbrev pub HeadIncomplete : List Placed → List Placed → Type 0
 HeadIncomplete all [] = Unit {0}
 HeadIncomplete all (p ∷ ps) = is_beyond all p ≡ true
 
--- Whatever follows, none of the first packets is the loss. These are the needs of the others, at most so many; the first of
--- them lacks something.
+-- Holds if, whatever follows, none of the first packets is the loss. These are the needs of the others, at most `most`;
+-- the first of them has missing data.
 abbrev pub IsWatched : ℕ → List Need → List Placed → Type 0
 IsWatched most needs all =
     (settled : List Placed) × (rest : List Placed) × (all ≡ settled ++ rest) × (needs ≡ map need_at rest)
@@ -65,23 +65,23 @@ IsWatched most needs all =
 abbrev pub Watches : List Need → List Placed → Type 0
 Watches needs all = IsWatched 4096 needs all
 
--- the first of these needs for which something that it acknowledges is lacking
+-- The first of these needs that acknowledges missing data.
 abbrev pub past_of : BothEnds → List Need → Option ℕ
 past_of e [] = None
 past_of e (n ∷ ns) = if nat_lt (other_end e n.from) n.acknowledged then Some n.packet else past_of e ns
 
--- the same, or the first of all where there is none
+-- The first of these needs that acknowledges missing data, or the first of all if there is none.
 abbrev pub shown_of : BothEnds → List Need → Option ℕ
 shown_of e needs = or_else (past_of e needs) (first_of needs)
 
--- one packet more
+-- Holds if this is the next packet after the earlier ones.
 abbrev pub IsNext : Side → Packet → BothEnds → List Placed → Placed → Type 0
 IsNext s packet ends before p = (s ≡ side_of p.from) × (packet ≡ packet_of p) × (ends ≡ ends_of (before ++ p ∷ []))
 
 abbrev pub WatchesOn : List Need → Side → Packet → BothEnds → List Need → Type 0
 WatchesOn old s packet ends new = (before : List Placed) (p : Placed) → Watches old before → IsNext s packet ends before p → Watches new (before ++ p ∷ [])
 
--- this packet is the loss, whatever follows, and the next 4,096 are there
+-- Holds if this packet is the loss, whatever follows, and the next 4,096 are present.
 abbrev pub IsLoss : ℕ → List Placed → Type 0
 IsLoss k all =
     (before : List Placed) × (p : Placed) × (rest : List Placed) × (all ≡ before ++ p ∷ rest) × (p.packet ≡ k) × (length rest ≡ 4096)
@@ -91,6 +91,6 @@ abbrev pub FindsLoss : List Need → Side → Packet → BothEnds → ℕ → Li
 FindsLoss old s packet ends k new =
     (before : List Placed) (p : Placed) → Watches old before → IsNext s packet ends before p → IsLoss k (before ++ p ∷ []) × IsWatched 4097 new (before ++ p ∷ [])
 
--- it is the loss, if nothing follows
+-- Holds if `k` is the loss, provided that nothing follows.
 abbrev pub ReturnsLoss : List Need → Option ℕ → Type 0
 ReturnsLoss needs k = (all : List Placed) → Watches needs all → k ≡ loss [] all

@@ -1,4 +1,4 @@
--- What a reader of a connection knows, and what it does as a packet comes.
+-- The state of reading a connection, and how it changes when a packet arrives.
 use Rattle.std.specs.Prelude.{◌≡◌, ◌≤◌, ◌⊎◌, ◌++◌, ◌∷◌, Bool, true, false, nat_le, ℕ, min, max, List, [], map, Option, Some, None}
 use Rattle.capture_tcp.specs.declared.ending.Ending.{Ending}
 use Rattle.capture_tcp.specs.declared.losses.BothEnds.{BothEnds}
@@ -21,9 +21,9 @@ use Rattle.capture_tcp.specs.ReaderState.{AreRising, AreStreamsOf, Waits, first_
 use Rattle.capture_tcp.specs.Emitted.{IsHeldBack}
 use Rattle.capture_tcp.specs.EndOfStream.{IsEnded, is_known}
 
--- ---- what is brought
+-- ---- what is carried
 
--- these cells, or none where it only asks
+-- Holds if a packet carries these cells, or none because it is a keep-alive.
 abbrev pub BringsCells : Placed → List Cell → Type 0
 BringsCells p cells = (p.cells ≡ []) ⊎ (p.cells ≡ cells)
 
@@ -47,13 +47,13 @@ or_differs (Some k) b n = Some k
 or_differs None true n = Some n
 or_differs None false n = None
 
--- what was told and acknowledged is let go
+-- Holds if what was emitted and acknowledged is dropped.
 abbrev pub PassesTo : Stream → ℕ → Stream → Type 0
 PassesTo old acknowledged new =
     (new.place ≡ old.place) × (new.held.place ≡ max old.held.place (min acknowledged old.place))
     × ((ps : List Placed) (d : End) → IsStoreOf old.held ps d → IsStoreOf new.held ps d)
 
--- ---- whose turn is at it
+-- ---- what is delivered at it
 
 abbrev pub due_as : Packet → Side → Packet → Due
 due_as at from packet = record { at = at.packet; time = at.time; from = from; packet = packet }
@@ -61,7 +61,7 @@ due_as at from packet = record { at = at.packet; time = at.time; from = from; pa
 abbrev pub own_packet : Turn → Packet
 own_packet t = packet_of t.own
 
--- ---- a packet comes
+-- ---- a packet arrives
 
 abbrev pub received_of : List Placed → BothEnds
 received_of ps = record { active = received ps active; passive = received ps passive }
@@ -71,26 +71,26 @@ IsArrival a octets freed ps p =
     (a.packet ≡ packet_of p) × (a.from ≡ side_of p.from) × BringsCells p (arrival_cells a octets) × (a.acknowledged ≡ received ps p.from)
     × (freed ≡ map own_packet (turns ps (p ∷ []))) × (a.ends ≡ ends_of (ps ++ p ∷ [])) × (a.received ≡ received_of (ps ++ p ∷ []))
 
--- what is known but for what lacks something
+-- Holds if the new state is the old one with the arrived packet, except for the missing data.
 abbrev pub Arrives : Arrival → List ℕ → List Packet → Reading → Reading → Type 0
 Arrives a octets freed old new =
     (ps : List Placed) (p : Placed) → IsArrival a octets freed ps p → difference [] ps ≡ old.differs → AreStreamsOf old.emitter.streams ps
     → (difference [] (ps ++ p ∷ []) ≡ new.differs) × AreStreamsOf new.emitter.streams (ps ++ p ∷ []) × (new.losses ≡ old.losses)
     × ((emitted : List TimedEvent) → Waits true old.emitter old.due.items ps emitted → Waits true new.emitter new.due.items (ps ++ p ∷ []) emitted)
 
--- what follows from it
+-- Holds if the state agrees with these packets and the emitted events.
 abbrev pub IsKnown : Reading → List Placed → List TimedEvent → Type 0
 IsKnown r ps emitted = Watches r.losses ps × (difference [] ps ≡ r.differs) × AreStreamsOf r.emitter.streams ps × Waits true r.emitter r.due.items ps emitted
 
--- what is held back stands at a packet that lacks something, or that differs, or behind it
+-- Holds if what waits is at or after a packet with missing data or a conflict.
 abbrev pub IsPrompt : Reading → Type 0
 IsPrompt r = IsHeldBack (earlier (first_of r.losses) r.differs) r.due.items
 
--- what is told and acknowledged isn't held
+-- Holds if what is emitted and acknowledged is not buffered.
 abbrev pub HoldsFrom : Streams → List Placed → Type 0
 HoldsFrom s ps = (s.active.held.place ≡ first_kept ps active) × (s.passive.held.place ≡ first_kept ps passive)
 
--- a copy differs, and no packet before it lacks anything
+-- True if a retransmission conflicts, and no packet before it has missing data.
 abbrev pub is_first : Option ℕ → ℕ → Bool
 is_first None k = true
 is_first (Some j) k = nat_le k j
@@ -99,24 +99,24 @@ abbrev pub breaks_sure : Option ℕ → Option ℕ → Bool
 breaks_sure first None = false
 breaks_sure first (Some k) = is_first first k
 
--- nothing has ended it
+-- Holds if nothing has ended it.
 abbrev pub IsUnended : Reading → Type 0
 IsUnended r = (is_over r.emitter.emitter_state ≡ false) × (breaks_sure (first_of r.losses) r.differs ≡ false)
 
 abbrev pub IsReading : Reading → List Placed → List TimedEvent → Type 0
 IsReading r ps emitted = IsKnown r ps emitted × IsPrompt r × HoldsFrom r.emitter.streams ps × IsUnended r
 
--- it goes on, or it ended, since that is known
+-- Holds if it continues, or it ended because the ending is known.
 abbrev pub Outcome : Reading → List Placed → List TimedEvent → Option Ending → Type 0
 Outcome r ps emitted None = IsReading r ps emitted
 Outcome r ps emitted (Some e) = IsEnded true ps emitted e × (is_known ps ≡ true) × IsWatched 4097 r.losses ps
 
--- what is sure is told, behind what was taken away
+-- Holds if what is final is emitted. It is appended to what the caller left.
 abbrev pub EmitsSettled : BothEnds → Reading → List TimedEvent → Reading → List TimedEvent → Option Ending → Type 0
 EmitsSettled acked old emitted new later r =
     (away : List TimedEvent) (ps : List Placed) → AreRising 0 ps → acked ≡ received_of ps → IsKnown old ps (away ++ emitted) → Outcome new ps (away ++ later) r
 
--- where no copy differs before which no packet lacks anything
+-- Holds if what is final is emitted, given that there is no conflicting retransmission before which nothing is missing.
 abbrev pub EmitsIfSettled : BothEnds → Reading → List TimedEvent → Reading → List TimedEvent → Option Ending → Type 0
 EmitsIfSettled acked old emitted new later r = breaks_sure (first_of old.losses) old.differs ≡ false → EmitsSettled acked old emitted new later r
 
@@ -128,7 +128,7 @@ Reacts a octets freed old emitted new later r =
 abbrev pub PassesBoth : Streams → BothEnds → Streams → Type 0
 PassesBoth old acked new = PassesTo old.active acked.active new.active × PassesTo old.passive acked.passive new.passive
 
--- what is known where a packet may be lost
+-- What is known if a packet may be lost.
 abbrev pub MayLose : Option ℕ → List Need → List Placed → Type 0
 MayLose None needs ps = Watches needs ps
 MayLose (Some k) needs ps = IsLoss k ps × IsWatched 4097 needs ps

@@ -1,5 +1,5 @@
--- A connection in the midst of a capture: what it has told is the front of what the definition tells, and what is left
--- follows from what it knows.
+-- The invariant of a connection during a capture: what it has emitted is a prefix of what the definition gives, and the
+-- rest follows from its state.
 use Rattle.std.specs.Prelude.{◌≡◌, ◌⊎◌, ◌++◌, ◌∷◌, true, ℕ, List, [], map, Option, Some, None, is_some}
 use Rattle.capture_tcp.specs.declared.connection.Connection.{Connection}
 use Rattle.capture_tcp.specs.declared.ending.Ending.{Ending}
@@ -23,7 +23,8 @@ abbrev pub of_side : BothEnds → Side → ℕ
 of_side b side.Active = b.active
 of_side b side.Passive = b.passive
 
--- behind these segments: it is known what follows from them, or how it ended, since that is known whatever follows
+-- Holds after these segments if the state determines what follows, or how the connection ended, because that is known
+-- whatever follows.
 abbrev pub StateInvariantAs : Option Ending → Known → Reading → List TimedEvent → (End → ℕ) → List Seen → Type 0
 StateInvariantAs None turns reading emitted base seen = (turns ≡ known base (places base [] seen)) × IsReading reading (places base [] seen) emitted
 StateInvariantAs (Some e) turns reading emitted base seen =
@@ -37,50 +38,51 @@ Followed old reading segment octets emitted new later_reading later r =
     (base : End → ℕ) (before : List Seen) (away : List TimedEvent) → AreNumbered 0 (before ++ seen_of segment octets ∷ [])
     → StateInvariantAs None old reading (away ++ emitted) base before → StateInvariantAs r new later_reading (away ++ later) base (before ++ seen_of segment octets ∷ [])
 
--- One segment more, where the numbers of packets rise. What was told before may have been taken away: then it was told
--- before what is there.
+-- Holds for one more segment, if the numbers of packets increase. The caller may have removed earlier events; then they
+-- precede what is left.
 abbrev pub TakesOn : Connection → Seen → List TimedEvent → Connection → List TimedEvent → Type 0
 TakesOn old s emitted new later =
     (base : End → ℕ) (before : List Seen) (away : List TimedEvent) → AreNumbered 0 (before ++ s ∷ []) → StateInvariant old (away ++ emitted) base before
     → StateInvariant new (away ++ later) base (before ++ s ∷ [])
 
--- All that the definition tells of these segments is told, with what was taken away, and how it ends.
+-- Holds if all events of these segments are emitted, counting the removed ones, with this ending.
 abbrev pub EndsAs : Connection → List TimedEvent → List TimedEvent → Ending → Type 0
 EndsAs c emitted later e =
     (base : End → ℕ) (seen : List Seen) (away : List TimedEvent) → AreNumbered 0 seen → StateInvariant c (away ++ emitted) base seen
     → (map entry_as (away ++ later) ≡ emits (places base [] seen)) × (e ≡ ended (places base [] seen))
 
--- What was told at any time is the front of what is told of these segments and any more.
+-- What was emitted at any time is a prefix of the events of these segments and any more.
 abbrev pub EmittedIsFinal : Type 0
 EmittedIsFinal =
     (c : Connection) (emitted : List TimedEvent) (base : End → ℕ) (seen later : List Seen) → StateInvariant c emitted base seen → AreNumbered 0 (seen ++ later)
     → (rest : List Entry) × (emits (places base [] (seen ++ later)) ≡ map entry_as emitted ++ rest)
 
--- Where it is known in the midst of a capture how what is told ends, that is how it ends, whatever follows: all that is
--- told of these segments and any more was told, and then the connection is over, or a loss or a copy that differs is sure.
+-- If the ending is known during a capture, it is the ending, whatever follows. All events of these segments and any
+-- more were emitted. The connection has ended, or a loss or a conflicting retransmission is final.
 abbrev pub EndingIsSure : Type 0
 EndingIsSure =
     (c : Connection) (emitted : List TimedEvent) (e : Ending) (base : End → ℕ) (seen later : List Seen) → c.ending ≡ Some e → StateInvariant c emitted base seen
     → AreNumbered 0 (seen ++ later)
     → (map entry_as emitted ≡ emits (places base [] (seen ++ later))) × (e ≡ ended (places base [] (seen ++ later))) × (e ≡ ending.Complete → ⊥)
 
--- All that is told of these segments was told at the last of them, and it is over with the one behind which it is known
--- how it ends, whatever follows.
+-- All events of these segments were emitted at the last of them at the latest. The connection has ended at the segment
+-- after which its ending is known, whatever follows.
 abbrev pub EmittedAtOnce : Type 0
 EmittedAtOnce =
     (c : Connection) (emitted : List TimedEvent) (base : End → ℕ) (seen : List Seen) → StateInvariant c emitted base seen → AreNumbered 0 seen
     → (map entry_as emitted ≡ emits (places base [] seen)) × (is_some c.ending ≡ is_known (places base [] seen))
 
--- Turn by turn, where anything is told, a connection is over exactly where it is told that it went down. Where nothing is
--- told it may be over as well: a reset ends one that is open, also before it is told that it came up.
+-- Delivery by delivery, a connection that emits anything has ended exactly if it emits that it was closed. One that
+-- emits nothing may have ended too: a reset ends an open connection, also before it emits that it was established.
 abbrev pub ClosedWhereDown : Type 0
 ClosedWhereDown = (ps : List Placed) → AreRising 0 ps → (emits ps ≡ []) ⊎ ((log_of ps).closed ≡ ends_down (emits ps))
 
--- Where it is told that it went down, it is over.
+-- If it emits that it was closed, it has ended.
 abbrev pub DownIsClosed : Type 0
 DownIsClosed = (ps : List Placed) → AreRising 0 ps → ends_down (emits ps) ≡ true → ended ps ≡ ending.Closed
 
--- Once a connection has told that it went down, that is all of these segments and any more, and it is over.
+-- Once a connection has emitted that it was closed, these are all events of these segments and any more, and it has
+-- ended.
 abbrev pub DownIsAll : Type 0
 DownIsAll =
     (c : Connection) (emitted : List TimedEvent) (base : End → ℕ) (seen later : List Seen) → StateInvariant c emitted base seen → AreNumbered 0 (seen ++ later)

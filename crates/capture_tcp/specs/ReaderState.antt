@@ -1,4 +1,4 @@
--- What a reader of a connection knows in the midst of a capture, what it has told, and what is still to be told.
+-- The state of reading a connection during a capture, what it has emitted, and what is still to be emitted.
 use Rattle.std.specs.Prelude.{◌≡◌, ◌<◌, ◌≤◌, ◌++◌, ◌∷◌, Bool, true, false, ℕ, min, List, [], drop, map, filter, Option, None}
 use Rattle.capture_tcp.specs.declared.streams.Due.{Due}
 use Rattle.capture_tcp.specs.declared.streams.Stream.{Stream}
@@ -13,7 +13,7 @@ use Rattle.capture_tcp.specs.EventSteps.{entry_as}
 use Rattle.capture_tcp.specs.DeliverySteps.{Log, and_log, due_of, is_over, remains_after, emit_turns}
 use Rattle.capture_tcp.specs.Emitted.{EachDue, IsHeldBack, is_sure}
 
--- ---- what all packets tell, turn by turn
+-- ---- what all packets emit, delivery by delivery
 
 abbrev pub emitted_dues : List Placed → List Turn → List Due
 emitted_dues all ts = map due_of (filter (is_before (breaks_off all)) ts)
@@ -21,20 +21,20 @@ emitted_dues all ts = map due_of (filter (is_before (breaks_off all)) ts)
 abbrev pub log_of : List Placed → Log
 log_of all = emit_turns (emitter_state.Waiting None) false (both_streams all) (emitted_dues all (turns [] all))
 
--- the place of the first cell of a direction that isn't told yet
+-- The offset of the first cell of a direction that is not emitted yet.
 abbrev pub initial_state : List Placed → End → ℕ
 initial_state ps d = (left_of (remains_after (both_streams ps) (emitted_dues ps (turns [] ps))) d).place
 
--- that of the first one that isn't told or isn't acknowledged
+-- The offset of the first cell that is not emitted or not acknowledged.
 abbrev pub first_kept : List Placed → End → ℕ
 first_kept ps d = min (received ps d) (initial_state ps d)
 
--- ---- in the midst of it
+-- ---- during the capture
 
 abbrev pub left_at : ℕ → List Cell → Left
 left_at place cells = record { place = place; cells = drop place cells }
 
--- what is left of the streams, where so much was told
+-- What is left of the streams, after what was emitted.
 abbrev pub lefts : Streams → List Placed → Both
 lefts s all = record { active = left_at s.active.place (stream_of all active); passive = left_at s.passive.place (stream_of all passive) }
 
@@ -44,23 +44,23 @@ IsStreamOf s ps d = IsStoreOf s.held ps d × (s.held.place ≤ s.place) × (s.pl
 abbrev pub AreStreamsOf : Streams → List Placed → Type 0
 AreStreamsOf s ps = IsStreamOf s.active ps active × IsStreamOf s.passive ps passive
 
--- packets whose numbers rise from one on
+-- Holds if the packets' numbers increase from 1 on.
 abbrev pub AreRising : ℕ → List Placed → Type 0
 AreRising last [] = Unit {0}
 AreRising last (p ∷ ps) = (last < p.packet) × AreRising p.packet ps
 
--- any packets may follow whose numbers rise, or none
+-- Holds if packets with increasing numbers may follow, or none.
 abbrev pub MayFollow : Bool → List Placed → List Placed → Type 0
 MayFollow true ps later = AreRising 0 (ps ++ later)
 MayFollow false ps later = later ≡ []
 
--- the log of all is what was told, and what the turns tell that are still to come
+-- Holds if the log of all packets is what was emitted, then what the deliveries still to come emit.
 abbrev pub Continues : Emitter → List Turn → List Placed → List TimedEvent → List Placed → Type 0
 Continues t rest ps emitted later =
     log_of (ps ++ later)
     ≡ and_log (map entry_as emitted) (emit_turns t.emitter_state t.opened (lefts t.streams (ps ++ later)) (emitted_dues (ps ++ later) (rest ++ turns ps later)))
 
--- these turns were told: they stand before the end of the log, and what they leave of the streams is left
+-- Holds if these deliveries were emitted: they are before the end of the log, and the streams are what they leave.
 abbrev pub HasPassed : Emitter → List Turn → List Placed → Type 0
 HasPassed t gone all =
     EachDue (λ (d : Due). is_sure (breaks_off all) d.at ≡ true) (map due_of gone) × (remains_after (both_streams all) (map due_of gone) ≡ lefts t.streams all)
@@ -71,16 +71,16 @@ Waits more t queue ps emitted =
     × ((later : List Placed) → MayFollow more ps later → Continues t rest ps emitted later)
     × ((later : List Placed) → MayFollow more ps later → HasPassed t gone (ps ++ later))
 
--- whatever follows, what stands before a limit stands before the end of the log
+-- Holds if, whatever follows, everything before the limit is before the end of the log.
 abbrev pub IsLimit : Bool → Option ℕ → List Placed → Type 0
 IsLimit more limit ps =
     (later : List Placed) → MayFollow more ps later → (n : ℕ) → AreRising n later → is_sure limit n ≡ true → is_sure (breaks_off (ps ++ later)) n ≡ true
 
--- it ended, whatever follows
+-- Holds if it ended, whatever follows.
 abbrev pub IsClosed : Bool → List Placed → List TimedEvent → Type 0
 IsClosed more ps emitted = (later : List Placed) → MayFollow more ps later → log_of (ps ++ later) ≡ record { emitted = map entry_as emitted; closed = true }
 
--- it goes on
+-- Holds if it continues.
 abbrev pub IsOpen : Bool → Option ℕ → Emitter → List Due → List Placed → List TimedEvent → Type 0
 IsOpen more limit t queue ps emitted = Waits more t queue ps emitted × IsHeldBack limit queue × (is_over t.emitter_state ≡ false)
 
@@ -88,14 +88,14 @@ abbrev pub by_closed : Bool → Type 0 → Type 0 → Type 0
 by_closed true A B = A
 by_closed false A B = B
 
--- What stands before a limit is told, up to the end of the connection, behind what was told before. Of that some may have
--- been taken away.
+-- Holds if what comes before a limit is emitted, up to the end of the connection, after what was emitted before. The
+-- caller may have removed some of that.
 abbrev pub EmitsBefore : Option ℕ → Emitter → List Due → List TimedEvent → Emitter → List Due → List TimedEvent → Bool → Type 0
 EmitsBefore limit old queue emitted new left later closed =
     (away : List TimedEvent) (more : Bool) (ps : List Placed) → AreRising 0 ps → MayFollow more ps [] → AreStreamsOf old.streams ps → IsLimit more limit ps
     → Waits more old queue ps (away ++ emitted)
     → AreStreamsOf new.streams ps × by_closed closed (IsClosed more ps (away ++ later)) (IsOpen more limit new left ps (away ++ later))
 
--- A log tells what is told turn by turn, where the numbers of packets rise.
+-- A log is what is emitted delivery by delivery, if the numbers of packets increase.
 abbrev pub LogIsEmitted : Type 0
 LogIsEmitted = (ps : List Placed) → AreRising 0 ps → (log_of ps).emitted ≡ emits ps

@@ -1,5 +1,6 @@
--- What the wire shows of one connection that begins with a SYN, as messages of both ends in the order of cause. SYN and FIN have places of their own, as TCP counts: a
--- stream is cells, the first of them the SYN. So a FIN is a message of one cell, and its ACK is like any other's.
+-- What the packets show of one connection that starts with a SYN, as messages of both ends in causal order. SYN and FIN
+-- have offsets of their own, as in TCP: a stream consists of cells, of which the first is the SYN. So a FIN is a
+-- message of one cell, and its ACK is like any other's.
 use Rattle.std.specs.Prelude.{max, ℕ, zero, suc, ◌+◌, ◌-◌, ◌%◌, ◌^◌, ◌==◌, ◌&&◌, ◌||◌, not, Bool, true, false, nat_lt, nat_le, min, if◌then◌else◌, List, [], ◌∷◌, ◌++◌, length, take, drop, map, filter, flat_map, slice_get, Option, Some, None, is_some}
 
 pub data End : Type 0 where
@@ -32,7 +33,7 @@ same_cell fin syn = false
 same_cell fin (octet n) = false
 same_cell fin fin = true
 
--- a segment as it was captured: the number of its first cell, whether PSH and RST are set
+-- A segment as it was captured: the number of its first cell, and whether PSH and RST are set.
 pub record Seen : Type 0 where
   pub from : End
   pub packet : ℕ
@@ -43,8 +44,8 @@ pub record Seen : Type 0 where
   pub pushed : Bool
   pub reset : Bool
 
--- The same by places: where its first cell stands, and behind which cell of the other direction everything was received.
--- Its time is the greatest of the packets up to it.
+-- A segment by offsets: the offset of its first cell, and the offset in the other direction up to which everything was
+-- received. Its time is the latest of the packets up to it.
 pub record Placed : Type 0 where
   pub from : End
   pub packet : ℕ
@@ -54,7 +55,7 @@ pub record Placed : Type 0 where
   pub acknowledged : Option ℕ
   pub reset : Bool
 
--- ---- held, and the end of what is there without a gap
+-- ---- buffered cells, and the end of what has no gap
 
 abbrev pub or_else : {A : Type 0} → Option A → Option A → Option A
 or_else (Some x) y = Some x
@@ -63,7 +64,7 @@ or_else None y = y
 abbrev pub cell_in : Placed → End → ℕ → Option Cell
 cell_in p d n = if same_end p.from d && nat_le p.place n then slice_get p.cells (n - p.place) else None
 
--- the first copy counts
+-- The first copy counts.
 unfoldable pub cell_at : List Placed → End → ℕ → Option Cell
 cell_at [] d n = None
 cell_at (p ∷ ps) d n = or_else (cell_in p d n) (cell_at ps d n)
@@ -72,7 +73,7 @@ unfoldable pub run : ℕ → List Placed → End → ℕ → ℕ
 run zero ps d n = n
 run (suc k) ps d n = if is_some (cell_at ps d n) then run k ps d (n + 1) else n
 
--- nothing is held from here on
+-- Nothing is buffered from here on.
 unfoldable pub bound : List Placed → ℕ
 bound [] = 0
 bound (p ∷ ps) = max (p.place + length p.cells) (bound ps)
@@ -91,7 +92,7 @@ cells_up_to (suc k) ps d n = if is_some (cell_at ps d n) then option_cell (cell_
 abbrev pub stream_of : List Placed → End → List Cell
 stream_of ps d = cells_up_to (bound ps) ps d 0
 
--- ---- turns
+-- ---- deliveries
 
 pub record Turn : Type 0 where
   pub at : Placed
@@ -105,7 +106,8 @@ abbrev pub in_order : List Placed → List Placed
 in_order [] = []
 in_order (p ∷ ps) = insert_by_place p (in_order ps)
 
--- A packet behind a gap has no turn at itself, and frees none. Otherwise it has its turn, and then those that it frees.
+-- An out-of-order packet is not delivered when it arrives, and releases none. Otherwise it is delivered, and then those
+-- that it releases.
 abbrev pub turns_at : List Placed → Placed → List Turn
 turns_at before p =
     if nat_lt (end_of before p.from) p.place then [] else
@@ -116,7 +118,7 @@ unfoldable pub turns : List Placed → List Placed → List Turn
 turns before [] = []
 turns before (p ∷ ps) = turns_at before p ++ turns (before ++ (p ∷ [])) ps
 
--- the place behind which an end's cells aren't acknowledged yet, by the turns of the other end
+-- The offset after which an end's cells are not acknowledged yet, by the in-order packets of the other end.
 abbrev pub acknowledges : End → Turn → ℕ
 acknowledges d t = if same_end t.own.from d then 0 else (at t.own.acknowledged)
   where
@@ -131,7 +133,7 @@ greatest_acknowledged d (t ∷ ts) = max (acknowledges d t) (greatest_acknowledg
 abbrev pub received : List Placed → End → ℕ
 received before d = greatest_acknowledged d (turns [] before)
 
--- Behind it an end's cells aren't acknowledged by any packet of the other end, whether it had its turn or not.
+-- The offset after which no packet of the other end, in order or not, acknowledges an end's cells.
 abbrev pub confirmed_by : End → Placed → ℕ
 confirmed_by d p = if same_end p.from d then 0 else (at p.acknowledged)
   where
@@ -143,20 +145,20 @@ abbrev pub confirmed : List Placed → End → ℕ
 confirmed [] d = 0
 confirmed (p ∷ ps) d = max (confirmed_by d p) (confirmed ps d)
 
--- ---- places
+-- ---- offsets
 
--- the place with this number that is nearest to a place, and not farther than 2^26 from it
+-- The offset with this number that is nearest to a known offset, and at most 2^26 from it.
 abbrev pub nearest : ℕ → ℕ → Option ℕ
 nearest known number =
     (let ahead = (number + 2 ^ 32 - known % 2 ^ 32) % 2 ^ 32 in
     if nat_le ahead (2 ^ 26) then Some (known + ahead) else
     (if nat_le (2 ^ 32 - ahead) (min known (2 ^ 26)) then Some (known - (2 ^ 32 - ahead)) else None))
 
--- the same in a stream whose SYN has the number `base`
+-- The offset with this number in a stream whose SYN has the number `base`.
 abbrev pub place_of : ℕ → ℕ → ℕ → Option ℕ
 place_of known base number = nearest known ((number + 2 ^ 32 - base) % 2 ^ 32)
 
--- an ACK that is too far away says nothing
+-- An ACK that is too far away is ignored.
 abbrev pub acknowledged_at : ℕ → ℕ → Option ℕ → Option ℕ
 acknowledged_at known base None = None
 acknowledged_at known base (Some number) = place_of known base number
@@ -164,8 +166,7 @@ acknowledged_at known base (Some number) = place_of known base number
 abbrev pub ack_place : List Placed → (End → ℕ) → End → Option ℕ → Option ℕ
 ack_place before base d a = acknowledged_at (end_of before d) (base d) a
 
--- One octet without PSH at a place that was acknowledged before asks whether the other end is there still. It holds
--- nothing.
+-- One byte without PSH at an offset that was acknowledged before is a keep-alive. It carries nothing.
 abbrev pub asks_only : ℕ → ℕ → Bool → List Cell → Bool
 asks_only acknowledged place pushed [] = false
 asks_only acknowledged place pushed (syn ∷ cs) = false
@@ -173,8 +174,8 @@ asks_only acknowledged place pushed (fin ∷ cs) = false
 asks_only acknowledged place pushed (octet n ∷ []) = not pushed && nat_lt place acknowledged
 asks_only acknowledged place pushed (octet n ∷ (c ∷ cs)) = false
 
--- A RST brings nothing: what it has is text for a reader. One at a place that was acknowledged before resets nothing, since
--- the other end ignores it.
+-- A RST carries no cells: its payload is text for a reader. One at an offset that was acknowledged before resets
+-- nothing, since the other end ignores it.
 abbrev pub placed_at : ℕ → Seen → Option ℕ → Option ℕ → List Placed
 placed_at acknowledged s None ack = []
 placed_at acknowledged s (Some place) ack =
@@ -188,16 +189,16 @@ placed_at acknowledged s (Some place) ack =
       reset = s.reset && nat_le acknowledged place;
     } ∷ []
 
--- the greatest time of these packets
+-- The latest time of these packets.
 abbrev pub latest : List Placed → ℕ
 latest [] = 0
 latest (p ∷ ps) = max p.time (latest ps)
 
--- The clock of a capture may go back, and time doesn't: a segment's time is the greatest of the packets up to it.
+-- The clock of a capture may go back, but time does not: a segment's time is the latest of the packets up to it.
 abbrev pub timed : List Placed → Seen → Seen
 timed before s = record s { time = max (latest before) s.time }
 
--- `base` is the number of each end's SYN
+-- `base` is the sequence number of each end's SYN.
 unfoldable pub places : (End → ℕ) → List Placed → List Seen → List Placed
 places base before [] = before
 places base before (s ∷ ss) =
@@ -213,48 +214,48 @@ is_past known p = past p.acknowledged
     past None = false
     past (Some n) = nat_lt (end_of known (other p.from)) n
 
--- A packet that acknowledges what isn't held, or stands behind a gap, where these are known.
+-- True for a packet that acknowledges what is not buffered, or is out of order, if these are known.
 abbrev pub is_beyond : List Placed → Placed → Bool
 is_beyond known p = is_past known p || nat_lt (end_of known p.from) p.place
 
--- the first packet that acknowledges what neither it, nor one before, nor one of the next 4,096 holds, or that stands
--- behind a gap which none of them fills
+-- The first packet that acknowledges what neither it, nor an earlier one, nor one of the next 4,096 carries, or that
+-- follows a gap that none of them fills.
 unfoldable pub loss : List Placed → List Placed → Option ℕ
 loss before [] = None
 loss before (p ∷ ps) = if is_beyond (before ++ (p ∷ take 4096 ps)) p then Some p.packet else loss (before ++ (p ∷ [])) ps
 
--- the first of these packets that acknowledges what isn't held, where these are known
+-- The first of these packets that acknowledges what is not buffered, if these are known.
 abbrev pub first_past : List Placed → List Placed → Option ℕ
 first_past known [] = None
 first_past known (q ∷ qs) = if is_past known q then Some q.packet else first_past known qs
 
--- A loss is told by the packet that shows it: the first one, of that packet and the next 4,096, that acknowledges what
--- none of these and of those before holds; or by the packet itself, where none does.
+-- The packet that shows a loss: of that packet and the next 4,096, the first that acknowledges what none of these and
+-- of those before carries; or the packet itself, if none does.
 unfoldable pub loss_shown : List Placed → List Placed → Option ℕ
 loss_shown before [] = None
 loss_shown before (p ∷ ps) =
     if is_beyond (before ++ (p ∷ take 4096 ps)) p then or_else (first_past (before ++ (p ∷ take 4096 ps)) (p ∷ take 4096 ps)) (Some p.packet) else
     loss_shown (before ++ (p ∷ [])) ps
 
--- ---- copies that differ
+-- ---- conflicting copies
 
 abbrev pub is_other : Cell → Option Cell → Bool
 is_other c None = false
 is_other c (Some d) = not (same_cell c d)
 
--- a cell that isn't acknowledged yet is another one than was held in its place
+-- True if a cell that is not acknowledged yet differs from the one buffered at its offset.
 abbrev pub contradicts : List Placed → End → ℕ → ℕ → List Cell → Bool
 contradicts before d acknowledged place [] = false
 contradicts before d acknowledged place (c ∷ cs) =
     (nat_le acknowledged place && is_other c (cell_at before d place)) || contradicts before d acknowledged (place + 1) cs
 
--- the first packet whose cells differ from those that an earlier one brought
+-- The first packet whose cells differ from those of an earlier one.
 unfoldable pub difference : List Placed → List Placed → Option ℕ
 difference before [] = None
 difference before (p ∷ ps) =
     if contradicts before p.from (received before p.from) p.place p.cells then Some p.packet else difference (before ++ (p ∷ [])) ps
 
--- ---- the end of what is told
+-- ---- the end of the log
 
 abbrev pub earlier : Option ℕ → Option ℕ → Option ℕ
 earlier None k = k
@@ -268,12 +269,12 @@ abbrev pub is_before : Option ℕ → Turn → Bool
 is_before None t = true
 is_before (Some k) t = nat_lt t.at.packet k
 
--- The connection is open: the SYN of the passive end is acknowledged, or what stands behind a SYN is acknowledged or
--- brought.
+-- True if the connection is open: the SYN of the passive end is acknowledged, or what follows a SYN is acknowledged or
+-- carried.
 abbrev pub is_open : Turn → Bool
 is_open t = nat_le 1 (acknowledges passive t) || nat_le 2 (acknowledges active t) || nat_le 2 (t.own.place + length t.own.cells)
 
--- a reset ends both streams, where the connection is open; one before that ends nothing
+-- A reset ends both streams of an open connection. One before that ends nothing.
 abbrev pub up_to_reset : Bool → List Turn → List Turn
 up_to_reset opened [] = []
 up_to_reset opened (t ∷ ts) = if t.own.reset && (opened || is_open t) then t ∷ [] else t ∷ up_to_reset (opened || is_open t) ts
@@ -281,7 +282,7 @@ up_to_reset opened (t ∷ ts) = if t.own.reset && (opened || is_open t) then t �
 abbrev pub emitted_turns : List Placed → List Turn
 emitted_turns ps = up_to_reset false (filter (is_before (breaks_off ps)) (turns [] ps))
 
--- ---- what is delivered at a turn: first what it acknowledges, then what it brings
+-- ---- what a packet delivers: first what it acknowledges, then what it carries
 
 pub record Delivery : Type 0 where
   pub of : End
@@ -297,7 +298,7 @@ deliveries t = by_ack t.own.acknowledged ++ (record { of = t.own.from; upto = t.
 
 -- ---- messages
 
--- what is left of a stream, from a place on
+-- What is left of a stream, from an offset on.
 pub record Left : Type 0 where
   pub place : ℕ
   pub cells : List Cell
@@ -309,12 +310,12 @@ pub record Cut : Type 0 where
 abbrev pub and_then : List Cell → Cut → Cut
 and_then m c = record { messages = m ∷ c.messages; left = c.left }
 
--- the message at the front is taken, if it is there and ends by a place; `next` goes on behind it
+-- The message at the front is cut off, if it is complete and ends by an offset. `next` continues after it.
 abbrev pub cut_by : ℕ → Left → (ℕ → Cut) → Option ℕ → Cut
 cut_by upto l next None = record { messages = []; left = l }
 cut_by upto l next (Some n) = if nat_lt upto (l.place + n) then record { messages = []; left = l } else and_then (take n l.cells) (next n)
 
--- `size` tells how many cells the message at the front has, where it is there whole
+-- `size` returns the number of cells of the message at the front, if it is complete.
 unfoldable pub cut_off : ℕ → (List Cell → Option ℕ) → ℕ → Left → Cut
 cut_off zero size upto l = record { messages = []; left = l }
 cut_off (suc k) size upto l =
@@ -325,7 +326,7 @@ pub record Shown : Type 0 where
   pub cells : List Cell
   pub at : Placed
 
--- what is left of both streams
+-- What is left of both streams.
 pub record Both : Type 0 where
   pub active : Left
   pub passive : Left

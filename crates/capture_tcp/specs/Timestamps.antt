@@ -1,4 +1,4 @@
--- When what is told happened: at the greatest time at which a packet of the connection up to its own was captured.
+-- The times of events: each is the latest time at which a packet of the connection up to the event's own was captured.
 use Rattle.std.specs.Prelude.{◌≡◌, ◌≤◌, ◌++◌, ◌∷◌, max, map, nat_le, if◌then◌else◌, ℕ, List, [], None}
 use Rattle.capture_tcp.specs.declared.connection.Connection.{Connection}
 use Rattle.capture_tcp.specs.declared.packet.Packet.{Packet}
@@ -14,12 +14,12 @@ use Rattle.capture_tcp.specs.Emitted.{EachDue}
 use Rattle.capture_tcp.specs.ReaderInvariant.{StateInvariant, StateInvariantAs}
 use Rattle.capture_tcp.specs.ConnectionEvents.{emits}
 
--- the greatest time of the packets up to a number
+-- The latest time of the packets up to a number.
 unfoldable pub time_at : List Placed → ℕ → ℕ
 time_at [] n = 0
 time_at (p ∷ ps) n = if nat_le p.packet n then max p.time (time_at ps n) else time_at ps n
 
--- each happened at the time of its packet
+-- Holds if each event has the time of its packet.
 abbrev pub AreTimed : (ℕ → ℕ) → List TimedEvent → Type 0
 AreTimed time [] = Unit {0}
 AreTimed time (h ∷ hs) = (h.time ≡ time h.packet) × AreTimed time hs
@@ -28,7 +28,7 @@ abbrev pub AreInOrder : ℕ → List ℕ → Type 0
 AreInOrder last [] = Unit {0}
 AreInOrder last (t ∷ ts) = (last ≤ t) × AreInOrder t ts
 
--- The times of what is told of packets whose numbers rise never go back.
+-- If the numbers of packets increase, the times of their events never decrease.
 abbrev pub TimesNeverGoBack : Type 0
 TimesNeverGoBack = (ps : List Placed) → AreRising 0 ps → AreInOrder 0 (map (λ e. time_at ps e.packet) (emits ps))
 
@@ -37,24 +37,24 @@ TimesNeverGoBack = (ps : List Placed) → AreRising 0 ps → AreInOrder 0 (map (
 abbrev pub AreDueTimed : (ℕ → ℕ) → List Due → Type 0
 AreDueTimed time dues = EachDue (λ t. time t.at ≡ t.time) dues
 
--- what more is told is told at a packet and its time
+-- Holds if new events are emitted at a packet and its time.
 abbrev pub KeepsTimes : ℕ → ℕ → List TimedEvent → List TimedEvent → Type 0
 KeepsTimes packet at emitted later = (time : ℕ → ℕ) → time packet ≡ at → AreTimed time emitted → AreTimed time later
 
--- what more is told is told at the times of the turns that wait, of which others wait still
+-- Holds if new events are emitted at the times of the waiting deliveries, of which some still wait.
 abbrev pub EmitsInTime : List Due → List TimedEvent → List Due → List TimedEvent → Type 0
 EmitsInTime dues emitted left later = (time : ℕ → ℕ) → AreDueTimed time dues → AreTimed time emitted → AreDueTimed time left × AreTimed time later
 
--- the turns at a packet wait with its time
+-- Holds if the deliveries at a packet wait with its time.
 abbrev pub QueuesInTime : Packet → List Due → List Due → Type 0
 QueuesInTime p dues later = (time : ℕ → ℕ) → time p.packet ≡ p.time → AreDueTimed time dues → AreDueTimed time later
 
--- as a packet comes
+-- Holds if the emitted events and the waiting deliveries keep their times when a packet arrives.
 abbrev pub ReactsInTime : Packet → Reading → List TimedEvent → Reading → List TimedEvent → Type 0
 ReactsInTime p old emitted new later =
     (time : ℕ → ℕ) → time p.packet ≡ p.time → AreDueTimed time old.due.items → AreTimed time emitted → AreDueTimed time new.due.items × AreTimed time later
 
--- whatever follows, what was told, and what waits to be told, has the time of its packet
+-- Holds if, whatever follows, what was emitted, and what waits to be emitted, has the time of its packet.
 abbrev pub IsInTimeOf : Reading → List TimedEvent → List Placed → Type 0
 IsInTimeOf r emitted ps =
     (later : List Placed) → AreRising 0 (ps ++ later) → AreDueTimed (time_at (ps ++ later)) r.due.items × AreTimed (time_at (ps ++ later)) emitted
@@ -67,13 +67,13 @@ FollowsInTime turns old segment octets emitted new later =
     (base : End → ℕ) (before : List Seen) (away : List TimedEvent) → StateInvariantAs None turns old (away ++ emitted) base before
     → IsInTimeOf old (away ++ emitted) (places base [] before) → IsInTimeOf new (away ++ later) (places base [] (before ++ seen_of segment octets ∷ []))
 
--- one segment more, where what was told before may have been taken away
+-- Holds if one more segment keeps the times. The caller may have removed earlier events.
 abbrev pub TakesInTime : Connection → Seen → List TimedEvent → Connection → List TimedEvent → Type 0
 TakesInTime old s emitted new later =
     (base : End → ℕ) (before : List Seen) (away : List TimedEvent) → StateInvariant old (away ++ emitted) base before → IsInTime old (away ++ emitted) base before
     → IsInTime new (away ++ later) base (before ++ s ∷ [])
 
--- what is told of these segments has the times of its packets, and so has what was taken away
+-- Holds if the events of these segments have the times of their packets, including the removed ones.
 abbrev pub EndsInTime : Connection → List TimedEvent → List TimedEvent → Type 0
 EndsInTime c emitted later =
     (base : End → ℕ) (seen : List Seen) (away : List TimedEvent) → AreNumbered 0 seen → IsInTime c (away ++ emitted) base seen

@@ -1,4 +1,4 @@
-//! Cells one behind another, of which the octets at the front stand in one piece.
+//! Consecutive cells. The bytes at the front are contiguous.
 
 ghost use Rattle.std.specs.Prelude.{◌≡◌, ◌≤◌, ◌<◌, ◌∷◌, ◌⊎◌, List, OnOk, OnErr, IfSome, drop, get_or, slice_set, vec_len, None, Option, Some, ◌+◌, ◌++◌, max, [], length, true};
 ghost use Rattle.std.specs.VecDeque.{deque_len};
@@ -12,12 +12,12 @@ use std::alloc::{AllocError, Global};
 use std::collections::VecDeque;
 use std::marker::Model;
 
-/// Cells one behind another: octets in one piece at the front, which are laid, compared and cut out together, and behind
-/// them cells of any kind, of which some may be missing. Contracts see both.
+/// Consecutive cells: contiguous bytes at the front, which are appended, compared and cut out together, then cells of
+/// any kind, of which some may be missing. Contracts see both.
 #[derive(Drop)]
 pub(crate) struct Cells {
     octets: Vec<u8>,
-    // So many of the octets are let go.
+    // This number of the bytes was dropped.
     gone: usize,
     others: VecDeque<Option<Cell>>,
 }
@@ -31,7 +31,7 @@ impl Model for Cells {
 }
 
 impl Cells {
-    /// No cells. Takes no memory.
+    /// Creates an empty sequence. Does not allocate.
     pub fn new(alloc: Global) -> Cells
         ensures { result ≡ record { octets = []; others = [] } }
     {
@@ -42,7 +42,7 @@ impl Cells {
         }
     }
 
-    /// The octets in one piece at the front.
+    /// Returns the contiguous bytes at the front.
     #[inline(always)]
     pub fn run(&self) -> &[u8]
         ensures { result.now ≡ self.now.octets }
@@ -50,7 +50,7 @@ impl Cells {
         &self.octets[self.gone..]
     }
 
-    /// Whether nothing stands behind the octets at the front.
+    /// Returns true if nothing follows the bytes at the front.
     #[inline(always)]
     pub fn is_run(&self) -> bool
         ensures { result ≡ true → self.now.others ≡ [] }
@@ -58,14 +58,14 @@ impl Cells {
         self.others.is_empty()
     }
 
-    /// How many cells there are, with those that are missing between them.
+    /// Returns the number of cells, including the missing ones between them.
     pub fn len(&self) -> usize
         ensures { result ≡ length (all_of self.now) }
     {
         self.octets.len() - self.gone + self.others.len()
     }
 
-    /// The cell at an index, if it is there.
+    /// Returns the cell at an index. Returns `None` if it is missing.
     pub fn get(&self, index: u64) -> Option<Cell>
         ensures { result ≡ get_or (all_of self.now) index None }
     {
@@ -76,7 +76,7 @@ impl Cells {
         other_at(&self.others, index - run.len() as u64)
     }
 
-    /// Lays a cell at an index, if none is there.
+    /// Stores a cell at an index, if the cell there is missing.
     #[tactic(auto, using(crate::proofs::ConnectedPackets::appends_none, crate::proofs::ConnectedPackets::stores_after))]
     pub fn append_chunk(&mut self, index: usize, cell: Cell)
         requires { index < length (all_of self.old) }
@@ -87,7 +87,7 @@ impl Cells {
         }
     }
 
-    /// Makes room for so many cells. A refused growth changes nothing.
+    /// Extends the sequence to the given number of cells. A failed allocation changes nothing.
     pub fn widen(&mut self, count: usize) -> Result<(), AllocError>
         ensures ok { OnOk result (SameCells (all_of self.old) (all_of self.new)) }
         ensures room { OnOk result (count ≤ length (all_of self.new)) }
@@ -98,7 +98,7 @@ impl Cells {
         widen(&mut self.others, requested)
     }
 
-    /// Lets go of so many cells at the front.
+    /// Drops the given number of cells from the front.
     #[tactic(auto, using(crate::proofs::ConnectedPackets::lets_go))]
     pub fn let_go(&mut self, count: usize)
         ensures { all_of self.new ≡ drop count (all_of self.old) }
@@ -108,8 +108,8 @@ impl Cells {
         let_go(&mut self.others, subsequent);
     }
 
-    /// Puts octets that stand behind those at the front in one piece with them. The cells stay the same, also where memory
-    /// is refused.
+    /// Moves the bytes that follow the front to the contiguous bytes there. The cells stay the same, also if an
+    /// allocation fails.
     #[tactic(auto, using(crate::proofs::ConnectedPackets::joined))]
     pub fn join(&mut self) -> Result<(), AllocError>
         ensures { all_of self.new ≡ all_of self.old }
@@ -117,7 +117,7 @@ impl Cells {
         join(&mut self.octets, &mut self.others)
     }
 
-    /// Puts octets behind those at the front, where no other cells are. A refused growth changes nothing.
+    /// Appends bytes to those at the front, if there are no other cells. A failed allocation changes nothing.
     pub fn append(&mut self, octets: &[u8]) -> Result<(), AllocError>
         ensures ok { OnOk result (self.new ≡ record { octets = self.old.octets ++ octets.now; others = self.old.others }) }
         ensures err { OnErr result (self.new ≡ self.old) }
@@ -126,7 +126,7 @@ impl Cells {
     }
 }
 
-// The cell at an index of those behind the octets, if it is there.
+// Returns the cell at an index of those after the bytes. Returns `None` if it is missing.
 #[tactic(auto, using(crate::proofs::StoredCells::is_there, crate::proofs::StoredCells::not_there))]
 fn other_at(others: &VecDeque<Option<Cell>>, index: u64) -> Option<Cell>
     ensures { result ≡ get_or others.now.items index None }
@@ -137,7 +137,7 @@ fn other_at(others: &VecDeque<Option<Cell>>, index: u64) -> Option<Cell>
     others[index as usize]
 }
 
-// Lays a cell at an index of those behind the octets, if none is there.
+// Stores a cell at an index of those after the bytes, if the cell there is missing.
 fn write_other(others: &mut VecDeque<Option<Cell>>, index: usize, cell: Cell)
     requires { index < deque_len others.old }
     ensures { others.new.items ≡ slice_set others.old.items index (or_else (get_or others.old.items index None) (Some cell)) }
@@ -147,7 +147,7 @@ fn write_other(others: &mut VecDeque<Option<Cell>>, index: usize, cell: Cell)
     }
 }
 
-// Makes room for so many cells. A refused growth changes nothing.
+// Extends the cells to the given number. A failed allocation changes nothing.
 #[tactic(auto, using(crate::proofs::StoredCells::one_more_room, crate::proofs::StoredCells::same_cells))]
 fn widen(cells: &mut VecDeque<Option<Cell>>, count: usize) -> Result<(), AllocError>
     ensures ok { OnOk result (SameCells cells.old.items cells.new.items) }
@@ -162,7 +162,8 @@ fn widen(cells: &mut VecDeque<Option<Cell>>, count: usize) -> Result<(), AllocEr
     Ok(())
 }
 
-// Moves octets to the front, where no more are left than were let go, and says how many are let go then.
+// Moves the bytes to the front, if no more are left than were dropped. Returns the number of dropped bytes that are
+// then still stored.
 fn settle(octets: &mut Vec<u8>, gone: usize) -> usize
     requires { gone ≤ vec_len octets.old }
     ensures left { drop result octets.new.items ≡ drop gone octets.old.items }
@@ -177,7 +178,7 @@ fn settle(octets: &mut Vec<u8>, gone: usize) -> usize
     0
 }
 
-// Lets go of so many cells at the front.
+// Drops the given number of cells from the front.
 #[tactic(auto, using(crate::proofs::StoredCells::one_consumed))]
 fn let_go(cells: &mut VecDeque<Option<Cell>>, count: usize)
     ensures { cells.new.items ≡ drop count cells.old.items }
@@ -189,7 +190,7 @@ fn let_go(cells: &mut VecDeque<Option<Cell>>, count: usize)
     }
 }
 
-// Moves octets from the front of cells behind others, up to one that is missing or no octet.
+// Appends bytes from the front of the cells to others, up to a missing cell or one that is not a byte.
 #[tactic(auto, using(crate::proofs::ConnectedPackets::joins_none, crate::proofs::ConnectedPackets::joins_one))]
 fn join(octets: &mut Vec<u8>, cells: &mut VecDeque<Option<Cell>>) -> Result<(), AllocError>
     ensures { Joins octets.old.items cells.old.items octets.new.items cells.new.items }
@@ -201,7 +202,7 @@ fn join(octets: &mut Vec<u8>, cells: &mut VecDeque<Option<Cell>>) -> Result<(), 
     Ok(())
 }
 
-// The octet at the front of cells, if one is there.
+// Returns the byte at the front of the cells. Returns `None` if the first cell is not a byte.
 fn first_octet(cells: &VecDeque<Option<Cell>>) -> Option<u8>
     ensures { IfSome result (λ octet. (more : List (Option Cell)) × (cells.now.items ≡ Some (Octet octet) ∷ more)) }
 {

@@ -1,4 +1,4 @@
-//! One connection: its segments are taken one after another, and what happens on it is told.
+//! One connection: it processes segments one after another and emits events.
 
 ghost use Rattle.std.specs.Prelude.{◌≡◌, IfErr, IfOk, OnOk, []};
 ghost use Rattle.capture_tcp.specs.declared.connection.ConnectionFault.TheVariants.{Memory};
@@ -22,14 +22,14 @@ use crate::streams::{Stream, Streams};
 use std::alloc::{AllocError, Global};
 use std::collections::VecDeque;
 
-/// Why a connection can't be followed further.
+/// Why a connection cannot be followed further.
 #[derive(Clone, Copy, Debug, PartialEq, Eq)]
 pub enum ConnectionFault {
-    /// A stream has come past 2^62 octets.
+    /// A stream is longer than 2^62 bytes.
     Far,
-    /// More than 2^26 octets of a direction wait to be told, or to be acknowledged.
+    /// More than 2^26 bytes of a direction wait to be emitted or acknowledged.
     Full,
-    /// There is no memory.
+    /// An allocation failed.
     Memory,
 }
 
@@ -63,15 +63,15 @@ impl From<ReassemblyFault> for ConnectionFault {
     }
 }
 
-/// A connection that begins with a SYN, in the midst of a capture. The numbers of its packets rise, from 1 on. Contracts
-/// see what `StateInvariant` says of it.
+/// A connection that starts with a SYN, while its capture is read. The numbers of its packets increase, from 1 on.
+/// Contracts see what `StateInvariant` states of it.
 pub struct Connection {
     turns: DeliveryQueue,
     reading: Reading,
     ending: Option<Ending>,
 }
 
-// Written out: a proof over one that is dropped has one step for it, not one for each of its parts.
+// Written out so that a proof has one step for a dropped value, not one for each of its parts.
 impl Drop for Connection {
     fn drop(self) {
         let Connection {
@@ -85,7 +85,7 @@ impl Drop for Connection {
 }
 
 impl Connection {
-    /// A connection of which nothing is read yet, by the numbers of both SYNs. Takes no memory.
+    /// Creates a connection without packets, from the sequence numbers of both SYNs. Does not allocate.
     pub fn new(alloc: Global, active: u32, passive: u32) -> Connection
         ensures emitted { StateInvariant result [] (bases active passive) [] }
         ensures times { IsInTime result [] (bases active passive) [] }
@@ -118,14 +118,14 @@ impl Connection {
         }
     }
 
-    /// Takes a segment with its octets, and tells what happens as soon as that is sure, behind what `emitted` holds. What
-    /// was told before may have been taken away.
+    /// Processes a segment with its payload, and appends to `emitted` the events that are final now. The caller may
+    /// have removed earlier events from `emitted`.
     ///
     /// # Errors
     ///
-    /// `Far` where a stream has come past 2^62 octets; `Full` where a packet ends past 2^26 places behind the first octet
-    /// of its direction that isn't told or isn't acknowledged: nothing is told with it; and `Memory`. The connection is gone
-    /// then.
+    /// Returns `Far` if a stream is longer than 2^62 bytes. Returns `Full` if a packet ends more than 2^26 bytes after
+    /// the first byte of its direction that is not yet emitted or not acknowledged; nothing is emitted with it. Returns
+    /// `Memory` if an allocation fails. The connection is dropped then.
     pub fn take(
         self,
         alloc: Global,
@@ -154,19 +154,19 @@ impl Connection {
         Ok(connection)
     }
 
-    /// How what is told ends, where that is sure: nothing more is told then.
+    /// Returns how the events end, once that is final: no more events follow then.
     pub fn ending(&self) -> Option<Ending>
         ensures { result ≡ self.now.ending }
     {
         self.ending
     }
 
-    /// Tells what is left where no segment follows, behind what `emitted` holds, and how what is told ends. What was told
-    /// before may have been taken away.
+    /// Appends the remaining events to `emitted`, if no segment follows, and returns how the events end. The caller may
+    /// have removed earlier events from `emitted`.
     ///
     /// # Errors
     ///
-    /// `Memory`.
+    /// Returns `Memory` if an allocation fails.
     pub fn end(
         self,
         alloc: Global,
@@ -195,7 +195,7 @@ impl Connection {
     }
 }
 
-// What is said of one end.
+// Returns the value of one end.
 fn of_side(both: BothEnds, side: Side) -> u64
     ensures { result ≡ of_side both side }
 {
@@ -205,7 +205,7 @@ fn of_side(both: BothEnds, side: Side) -> u64
     }
 }
 
-// How what is told ends, by the packet that shows a loss.
+// Returns the ending, with the packet that shows a loss.
 fn shown(ending: Ending, losses: &Losses, ends: BothEnds) -> Ending
     ensures { result ≡ shown_by (shown_of ends losses.now) ending }
 {
@@ -215,7 +215,7 @@ fn shown(ending: Ending, losses: &Losses, ends: BothEnds) -> Ending
     }
 }
 
-// The same, where it ends.
+// Returns the ending with the packet that shows a loss, if there is an ending.
 fn shown_if(ending: Option<Ending>, losses: &Losses, ends: BothEnds) -> Option<Ending>
     ensures { result ≡ option_map (shown_by (shown_of ends losses.now)) ending }
 {
@@ -225,7 +225,7 @@ fn shown_if(ending: Option<Ending>, losses: &Losses, ends: BothEnds) -> Option<E
     }
 }
 
-// Takes a segment where it isn't ended yet.
+// Processes a segment of a connection that has not ended.
 fn follow(
     alloc: Global,
     turns: &mut DeliveryQueue,

@@ -1,4 +1,4 @@
-//! Packets of one connection by their places, and the turn of each.
+//! Packets of one connection by their offsets, and their delivery in order.
 
 ghost use Rattle.std.specs.Prelude.{◌≡◌, ◌≤◌, ◌<◌, ◌+◌, ◌^◌, ◌++◌, IfOk, OnOk, OnErr, None, length, max, [], Err, IsOk};
 ghost use Rattle.capture_tcp.specs.KnownStreams.{latest_after, packet_of, placed_as, seen_of, step, step_by, Flow, Known, ContinuesWith, bases, known};
@@ -13,15 +13,15 @@ use std::alloc::{AllocError, Global};
 use std::collections::VecDeque;
 use std::marker::Model;
 
-// Streams are followed up to here.
+// The length up to which streams are followed.
 const FAR: u64 = 1 << 62;
 
-/// Why a segment isn't taken.
+/// Why a segment is not accepted.
 #[derive(Clone, Copy, Debug, PartialEq, Eq)]
 pub enum DeliveryFault {
-    /// A stream has come past 2^62 octets.
+    /// A stream is longer than 2^62 bytes.
     Far,
-    /// There is no memory.
+    /// An allocation failed.
     Memory,
 }
 
@@ -33,7 +33,8 @@ impl From<AllocError> for DeliveryFault {
     }
 }
 
-// What is known of one direction. It is acknowledged by turns of the other one, and confirmed by any packet of it.
+// The state of one direction. In-order packets of the other direction acknowledge it, and any packet of the other
+// direction confirms it.
 #[derive(Drop)]
 struct Direction {
     base: u32,
@@ -56,7 +57,7 @@ impl Model for Direction {
 }
 
 impl Direction {
-    // Nothing is there.
+    // Creates an empty direction.
     fn new(alloc: Global, base: u32) -> Direction
         ensures { result ≡ record { base = base; end = 0; acknowledged = 0; confirmed = 0; waiting = [] } }
     {
@@ -70,9 +71,9 @@ impl Direction {
     }
 }
 
-/// What is known of both directions of a connection: where the end is of what is there without a gap, what was
-/// acknowledged by turns and by any packet, and which packets wait behind a gap; and the greatest time of its packets. Contracts see what `known`
-/// says.
+/// The state of both directions of a connection, and the latest time of the packets. For each direction: where the
+/// bytes without a gap end, what was acknowledged by in-order packets and by any packet, and which packets are out of
+/// order. Contracts see what `known` states.
 #[derive(Drop)]
 pub struct DeliveryQueue {
     active: Direction,
@@ -87,7 +88,7 @@ impl Model for DeliveryQueue {
 }
 
 impl DeliveryQueue {
-    /// A connection of which nothing is read yet, by the numbers of both SYNs. Takes no memory.
+    /// Creates a connection without packets, from the sequence numbers of both SYNs. Does not allocate.
     pub fn new(alloc: Global, active: u32, passive: u32) -> DeliveryQueue
         ensures { result ≡ known (bases active passive) [] }
     {
@@ -98,13 +99,15 @@ impl DeliveryQueue {
         }
     }
 
-    /// Takes a segment with these octets, and tells the packets whose turn is at it, in their order: none where it stands
-    /// behind a gap or is too far away; else itself, and then those that it frees. Gives the segment by its place, if it
-    /// isn't too far away, with the greatest time of the packets up to it.
+    /// Processes a segment with this payload, and returns the packets that are delivered at it, in their order. There
+    /// are none if it is out of order or outside the window. Otherwise they are the packet itself and then those that
+    /// it releases. Also returns the segment by its offset, if it is in the window, with the latest time of the packets
+    /// up to it.
     ///
     /// # Errors
     ///
-    /// `Memory`, and `Far` where a stream has come past 2^62 octets. Neither changes anything.
+    /// Returns `Memory` if an allocation fails, and `Far` if a stream is longer than 2^62 bytes. Neither changes
+    /// anything.
     pub fn take(
         &mut self,
         segment: Segment,
@@ -134,7 +137,7 @@ impl DeliveryQueue {
         }
     }
 
-    /// The ends of what is there without a gap.
+    /// Returns the ends of the bytes without a gap.
     pub fn ends(&self) -> BothEnds
         ensures { result ≡ record { active = self.now.active.end; passive = self.now.passive.end } }
     {
@@ -144,7 +147,7 @@ impl DeliveryQueue {
         }
     }
 
-    /// The places up to which each direction is acknowledged by the turns of the other one.
+    /// Returns the offsets up to which the in-order packets of the other direction acknowledge each direction.
     pub fn received(&self) -> BothEnds
         ensures { result ≡ record { active = self.now.active.acknowledged; passive = self.now.passive.acknowledged } }
     {
@@ -155,7 +158,7 @@ impl DeliveryQueue {
     }
 }
 
-// A segment with the greatest time of the packets up to it.
+// Returns the segment with the latest time of the packets up to it.
 fn raised(latest: u64, segment: Segment) -> Segment
     ensures { result ≡ record segment { time = max latest segment.time } }
 {
@@ -165,7 +168,7 @@ fn raised(latest: u64, segment: Segment) -> Segment
     }
 }
 
-// The greatest time behind a packet, if it has a place.
+// Returns the latest time after a packet, if it has an offset.
 fn latest_after(latest: u64, placed: Option<Packet>) -> u64
     ensures { result ≡ latest_after latest placed }
 {
@@ -175,7 +178,7 @@ fn latest_after(latest: u64, placed: Option<Packet>) -> u64
     }
 }
 
-// Takes a segment of one direction.
+// Processes a segment of one direction.
 fn follow(
     own: &mut Direction,
     peer: &mut Direction,
@@ -200,7 +203,7 @@ fn follow(
     Ok(Some(packet))
 }
 
-// A segment at its place.
+// Returns a segment as a packet at its offset.
 fn packet_at(
     received: u64,
     place: u64,
@@ -221,7 +224,7 @@ fn packet_at(
     }
 }
 
-// How many cells a segment brings.
+// Returns the number of cells that a segment carries.
 fn count_of(received: u64, place: u64, segment: Segment, octets: &[u8]) -> u64
     ensures value { result ≡ length (placed_as received (seen_of segment octets.now) place None).cells }
     ensures bound { result < 2 ^ 63 + 2 }
@@ -233,7 +236,7 @@ fn count_of(received: u64, place: u64, segment: Segment, octets: &[u8]) -> u64
     u64::from(flags.syn) + octets.len() as u64 + u64::from(flags.fin)
 }
 
-// Puts a packet into the queue of its direction, and takes from its front what has its turn now.
+// Inserts a packet into the queue of its direction, and removes from its front the packets that are delivered now.
 fn queue(
     own: &mut Direction,
     peer: &mut Direction,

@@ -1,4 +1,4 @@
-//! Turns that are told one after another.
+//! The emitter of events, one delivered packet after another.
 
 ghost use Rattle.std.specs.Prelude.{◌≡◌, ◌+◌, ◌∷◌, ◌||◌, true, false, IfSome, IfNone, IfOk, OnOk};
 ghost use Rattle.std.specs.VecDeque.{deque_len};
@@ -12,7 +12,7 @@ use crate::streams::{Due, Streams, opens, resets, turn};
 use std::alloc::{AllocError, Global};
 use std::collections::VecDeque;
 
-/// What is told of a connection, how far it has come, and whether it is open.
+/// The streams of a connection, its state, and whether it is open.
 #[derive(Drop)]
 pub(crate) struct Emitter {
     pub streams: Streams,
@@ -20,7 +20,7 @@ pub(crate) struct Emitter {
     pub opened: bool,
 }
 
-// Tells what happens at the turn of a packet, and whether it resets the connection.
+// Emits the events of a delivered packet, and returns whether it resets the connection.
 fn emit_turn(
     alloc: Global,
     emitter: &mut Emitter,
@@ -45,7 +45,7 @@ fn emit_turn(
     Ok(resets(opened, due))
 }
 
-// Takes the first turn, if it is at a packet before a limit.
+// Removes the first delivery, if it is at a packet before a limit.
 fn take_sure(due: &mut VecDeque<Due>, limit: Option<u64>) -> Option<Due>
     ensures some { IfSome result (λ first. (due.old.items ≡ first ∷ due.new.items) × (is_sure limit first.at ≡ true)) }
     ensures none { IfNone result ((due.new.items ≡ due.old.items) × IsHeldBack limit due.old.items) }
@@ -57,7 +57,7 @@ fn take_sure(due: &mut VecDeque<Due>, limit: Option<u64>) -> Option<Due>
     due.pop_front()
 }
 
-// Whether a packet stands before a limit.
+// Returns true if a packet is before a limit.
 fn is_sure(limit: Option<u64>, packet: u64) -> bool
     ensures { result ≡ is_sure limit packet }
 {
@@ -67,7 +67,8 @@ fn is_sure(limit: Option<u64>, packet: u64) -> bool
     }
 }
 
-/// Tells the turns at the front that are at packets before a limit, up to a reset. Gives whether there was one.
+/// Emits the events of the deliveries at the front that are at packets before a limit, up to a reset. Returns whether
+/// there was a reset.
 #[tactic(auto, using(crate::proofs::LaterEvents::drained_none, crate::proofs::Timing::emits_none))]
 pub(crate) fn drain(
     alloc: Global,
@@ -89,14 +90,15 @@ pub(crate) fn drain(
     Ok(false)
 }
 
-// Whether the connection went down.
+// Returns true if the connection is closed.
 fn is_over(emitter_state: EmitterState) -> bool
     ensures { result ≡ is_over emitter_state }
 {
     matches!(emitter_state, EmitterState::Over)
 }
 
-/// Tells the turns that are at packets before a limit, up to the end of the connection. Gives whether that came.
+/// Emits the events of the deliveries at packets before a limit, up to the end of the connection. Returns whether the
+/// connection ended.
 pub(crate) fn emit_before(
     alloc: Global,
     emitter: &mut Emitter,

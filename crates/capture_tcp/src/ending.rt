@@ -1,4 +1,4 @@
-//! How what is told of a connection ends.
+//! How the events of a connection end.
 
 ghost use Rattle.std.specs.Prelude.{◌≡◌, Some, IfOk, OnOk};
 ghost use Rattle.capture_tcp.specs.EndOfStream.{Finishes, broken};
@@ -11,22 +11,22 @@ use crate::streams::Due;
 use std::alloc::{AllocError, Global};
 use std::collections::VecDeque;
 
-/// How what is told of a connection ends.
+/// How the events of a connection end.
 #[derive(Clone, Copy, Debug, PartialEq, Eq)]
 pub enum Ending {
-    /// The connection is over, and all of it was told: nothing that follows says more of it.
+    /// The connection is closed, and all its events were emitted. Nothing that follows adds to them.
     Closed,
-    /// All that its packets show was told, and more may follow.
+    /// All events that its packets show were emitted, and more may follow.
     Complete,
-    /// The capture lost something, as the packet with this number shows: it acknowledges what isn't there, or, where no
-    /// packet does that, stands behind it. Nothing is told from the first packet on that lacks something, and that may
-    /// come before this one.
+    /// The capture lost something, as the packet with this number shows: it acknowledges missing bytes or, if no packet
+    /// does, is out of order. Nothing is emitted from the first packet with missing data on, which may come before this
+    /// packet.
     Lost(u64),
-    /// The packet with this number brings other octets than an earlier one: from it on nothing is told.
+    /// The packet with this number carries other bytes than an earlier one. Nothing is emitted from it on.
     Differs(u64),
 }
 
-// The lesser of two packets, if there are some.
+// Returns the lower of two packet numbers, if there are any.
 pub(crate) fn least(one: Option<u64>, other: Option<u64>) -> Option<u64>
     ensures { result ≡ earlier one other }
 {
@@ -37,7 +37,7 @@ pub(crate) fn least(one: Option<u64>, other: Option<u64>) -> Option<u64>
     }
 }
 
-// How what is told ends that breaks off at a loss or a copy that differs.
+// Returns the ending of a log that stops at a loss or a conflicting retransmission.
 fn broken(lost: Option<u64>, differs: Option<u64>) -> Ending
     ensures { result ≡ broken lost differs }
 {
@@ -55,7 +55,7 @@ fn broken(lost: Option<u64>, differs: Option<u64>) -> Ending
     }
 }
 
-/// Tells what is left to be told before a loss and a copy that differs, and how it ends.
+/// Emits the remaining events before a loss and a conflicting retransmission, and returns the ending.
 pub(crate) fn finish(
     alloc: Global,
     emitter: &mut Emitter,

@@ -1,4 +1,4 @@
-//! What happens on a connection, entry by entry.
+//! The events of a connection.
 
 ghost use Rattle.std.specs.Prelude.{◌≡◌, get_or, OnOk};
 ghost use Rattle.capture_tcp.specs.EventSteps.{separated_side, ProcessesInput, comes_up, closes_down, says, says_first};
@@ -10,36 +10,36 @@ ghost use Rattle.capture_tcp.specs.Timestamps.{KeepsTimes};
 use crate::packet::Side;
 use std::alloc::AllocError;
 
-/// What happens on a connection.
+/// An event of a connection.
 #[derive(Drop)]
 pub enum Event {
-    /// It came up.
+    /// The connection was established.
     Up,
-    /// One end sent a message, with the four octets of its length.
+    /// One end sent a message, with the four bytes of its length.
     Message {
         /// The end that sent it.
         from: Side,
-        /// Its octets, those of the length first.
+        /// Its bytes, those of the length first.
         octets: Vec<u8>,
     },
-    /// It went down.
+    /// The connection was closed.
     Down,
 }
 
-/// What happens on a connection, with the packet at which it does, and when.
+/// An event of a connection, with its packet and its time.
 #[derive(Drop)]
 pub struct TimedEvent {
     /// The number of the packet.
     pub packet: u64,
-    /// The greatest time at which a packet of the connection up to this one was captured, in milliseconds since 1970. It
-    /// is never below that of what happened before.
+    /// The latest time at which a packet of the connection up to this one was captured, in milliseconds since 1970. It
+    /// is never below the time of an earlier event.
     pub time: u64,
-    /// What happens.
+    /// The event.
     pub event: Event,
 }
 
-/// How far a connection has come: not up yet, with the packet of the last FIN or reset before it came up; up, with the
-/// end that sent a Separate, if one did; or over.
+/// The state of a connection: not established yet, with the packet of the last FIN or reset before; established, with
+/// the end that sent a Separate, if one did; or closed.
 #[derive(Clone, Copy)]
 pub(crate) enum EmitterState {
     Waiting(Option<u64>),
@@ -48,7 +48,8 @@ pub(crate) enum EmitterState {
 }
 
 impl EmitterState {
-    // The SYN of the passive end is acknowledged at a packet, or the first message is there.
+    // Establishes the connection, if it is not yet: a packet acknowledges the SYN of the passive end, or the first
+    // message is complete.
     #[tactic(auto, using(crate::proofs::Timing::keeps_none, crate::proofs::Timing::keeps_one, crate::proofs::Timing::keeps_both))]
     pub(crate) fn come_up(
         &mut self,
@@ -80,7 +81,7 @@ impl EmitterState {
         Ok(())
     }
 
-    // An end ends its stream at a packet, or resets the connection.
+    // Closes the connection, if it is established: an end closes its stream at a packet, or resets the connection.
     #[tactic(auto, using(crate::proofs::Timing::keeps_none, crate::proofs::Timing::keeps_one))]
     pub(crate) fn go_down(
         &mut self,
@@ -109,7 +110,7 @@ impl EmitterState {
         }
     }
 
-    // One end sent a message, which is there at a packet. What crosses a Separate is left out.
+    // Emits a message that is complete at a packet. Skips messages that cross a Separate.
     pub(crate) fn say(
         &mut self,
         packet: u64,
@@ -125,7 +126,7 @@ impl EmitterState {
         self.say_up(packet, time, from, octets, emitted)
     }
 
-    // The same where it came up before.
+    // Emits a message of an established connection.
     #[tactic(auto, using(crate::proofs::Timing::keeps_none, crate::proofs::Timing::keeps_one))]
     fn say_up(
         &mut self,
@@ -155,7 +156,7 @@ impl EmitterState {
     }
 }
 
-// Whether what an end sends is left out, since the other end sent a Separate.
+// Returns true if an end's messages are skipped, because the other end sent a Separate.
 fn leaves_out(separated: Option<Side>, from: Side) -> bool
     ensures { result ≡ is_left_out (option_map end_at separated) (end_at from) }
 {
@@ -165,21 +166,21 @@ fn leaves_out(separated: Option<Side>, from: Side) -> bool
     }
 }
 
-// The end that sent a Separate first, behind a message.
+// Returns the end that sent a Separate first, up to and including this message.
 fn separated_by(separated: Option<Side>, from: Side, octets: &[u8]) -> Option<Side>
     ensures { result ≡ separated_side separated from (is_separate octets.now) }
 {
     separated.or(separates(octets).then_some(from))
 }
 
-// Whether a message is a Separate.
+// Returns true if a message is a Separate.
 fn separates(octets: &[u8]) -> bool
     ensures { result ≡ is_separate octets.now }
 {
     octet_or_none(octets, 8) == 0 && octet_or_none(octets, 9) == 9
 }
 
-// The octet in a place, or 0 where there is none.
+// Returns the byte at an index, or 0 if there is none.
 fn octet_or_none(octets: &[u8], place: usize) -> u8
     ensures { result ≡ get_or octets.now place 0 }
 {

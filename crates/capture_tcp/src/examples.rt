@@ -1,8 +1,9 @@
-//! Small captures, and what the definitions say of them.
+//! Small captures, and what the definitions state of them.
 
 ghost use Rattle.capture_tcp.specs.Examples.{Asked, EarlyReply, FinWithin, GapAtEnd, HalfOpen, LostMessage, LostReply, OtherCopy, OverUnreported, Refused, RefusedOnce, ResetBetween, SeparateCrossed, UpLate};
 
-/// Of six captures the definitions tell the loss and what shows it, the order of cause, or the copy that differs.
+/// In six captures, the definitions give the loss and what shows it, the causal order, or the conflicting
+/// retransmission.
 pub fn small_captures()
     ensures lost { LostReply }
     ensures early { EarlyReply }
@@ -12,8 +13,9 @@ pub fn small_captures()
     ensures message { LostMessage }
 {}
 
-/// Of eight captures the definitions tell what a log has: nothing where the connection never came up, also where a reset
-/// ended it; when it came up, also where it was refused before, and went down; and no message that crosses a Separate.
+/// In eight captures, the definitions give the events of a log. There are none if the connection was never established,
+/// also if a reset ended it. They include when it was established, also if it was refused before, and when it was
+/// closed. They have no message that crosses a Separate.
 pub fn small_logs()
     ensures refused { Refused }
     ensures once { RefusedOnce }

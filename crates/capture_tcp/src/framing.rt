@@ -1,4 +1,4 @@
-//! Messages of a direction that are told, up to a place.
+//! The messages of a direction that are emitted, up to an offset.
 
 ghost use Rattle.std.specs.Prelude.{◌≤◌, IfOk, OnOk, length, max, take, []};
 ghost use Rattle.capture_tcp.specs.Reassembly.{piece_from};
@@ -12,7 +12,7 @@ use crate::packet::Side;
 use crate::reassembly::{Piece, ReassemblyBuffer};
 use std::alloc::{AllocError, Global};
 
-/// At a packet, and at a time, it is sure that what one end sent was received, up to a place.
+/// What one end sent was certainly received up to an offset, at a packet and a time.
 #[derive(Clone, Copy)]
 pub(crate) struct Delivery {
     pub of: Side,
@@ -21,7 +21,7 @@ pub(crate) struct Delivery {
     pub time: u64,
 }
 
-// Tells the messages of a direction, from a place on, as far as they end by what is delivered. Gives the place behind
+// Emits the messages of a direction, from an offset on, that end within what is delivered. Returns the offset after
 // them.
 #[tactic(auto, using(crate::proofs::Timing::keeps_none))]
 pub(crate) fn cut(
@@ -45,7 +45,7 @@ pub(crate) fn cut(
     Ok(place)
 }
 
-// Tells what the cells of a message are.
+// Emits the event that the cells of a message give.
 #[tactic(auto, using(crate::proofs::Slicing::message_processed, crate::proofs::Slicing::down_processed, crate::proofs::Slicing::none_processed, crate::proofs::Timing::keeps_none))]
 fn submit(
     piece: Piece,

@@ -1,14 +1,20 @@
-//! What the wire shows of a connection.
+//! What the packets show of a TCP connection.
 //!
-//! The definitions are in `specs/TcpStreams.antt`: which octets of both directions are held, where the turn of each packet is,
-//! where something was lost, and which messages each end sent, in the order of cause. [`laws`] says what holds of them.
+//! The definitions are in `specs/TcpStreams.antt`: which bytes of both directions are buffered, where each packet is
+//! delivered in order, and where the capture lost something. They also give the messages that each end sent, in causal
+//! order. [`laws`] states what holds of them.
 //!
-//! [`Connection`] takes the segments of one connection, one after another, and tells what happens on it, as soon as
-//! that is sure, and how that ends. It stands on [`DeliveryQueue`], which tells whose turn it is, on [`Losses`], which tells
-//! where the capture lost something, by places and the ends behind each, and on [`ReassemblyBuffer`], which holds the cells of a
-//! direction by their places, of two copies the first, and tells a later copy that differs and the message in a place.
-//! Turns stand on the places of octets ([`numbered_place`], [`acknowledged_place`]) and on octets that hold nothing
-//! ([`only_asks`]).
+//! [`Connection`] processes the segments of one connection, one after another. It emits the connection's events as soon
+//! as they are final, and says how they end. It is built on these:
+//!
+//! - [`DeliveryQueue`] finds which packets are delivered in order.
+//! - [`Losses`] finds where the capture lost something, from the offsets of packets and the ends of both directions
+//!   after each.
+//! - [`ReassemblyBuffer`] buffers the cells of a direction by offset, and keeps the first copy of each. It finds
+//!   conflicting retransmissions, and the message at an offset.
+//!
+//! In-order delivery depends on the offsets of bytes ([`numbered_place`], [`acknowledged_place`]) and on keep-alive
+//! bytes, which carry nothing ([`only_asks`]).
 #![tactic(auto)]
 
 mod cells;

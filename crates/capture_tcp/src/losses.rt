@@ -1,4 +1,5 @@
-//! Packets that lack something: octets that they acknowledge, or that stand before theirs, and weren't captured so far.
+//! Packets with missing data: bytes that they acknowledge, or that come before theirs, and that are not captured so
+//! far.
 
 ghost use Rattle.std.specs.Prelude.{◌≡◌, ◌+◌, ◌++◌, ◌∷◌, [], false, nat_lt, IfSome, IfNone, OnOk, OnErr};
 ghost use Rattle.std.specs.VecDeque.{deque_len};
@@ -9,17 +10,18 @@ use std::alloc::{AllocError, Global};
 use std::collections::VecDeque;
 use std::marker::Model;
 
-// How many packets may follow one that lacks something.
+// The number of packets that may follow a packet with missing data.
 const WINDOW: usize = 4096;
 
-/// The ends of what is there without a gap, of both directions.
+/// The ends of the bytes without a gap, of both directions.
 #[derive(Clone, Copy, Debug, PartialEq, Eq)]
 pub struct BothEnds {
     pub active: u64,
     pub passive: u64,
 }
 
-/// What a packet needs: what stands before its place, and in the other direction before the place that it acknowledges.
+/// What a packet needs: the bytes before its offset, and in the other direction those before the offset that it
+/// acknowledges.
 #[derive(Clone, Copy, Debug)]
 pub struct Need {
     pub packet: u64,
@@ -28,8 +30,8 @@ pub struct Need {
     pub acknowledged: u64,
 }
 
-/// Finds the first loss of a connection: a packet that lacks what none of the next 4,096 packets brings. Contracts see
-/// what the packets need from the first on that lacks something.
+/// Finds the first loss of a connection: a packet with missing data that none of the next 4,096 packets carries.
+/// Contracts see what the packets need, from the first with missing data on.
 #[derive(Drop)]
 pub struct Losses {
     needs: VecDeque<Need>,
@@ -48,7 +50,7 @@ impl Losses {
     ghost use Rattle.std.specs.Prelude.{◌≡◌, ℕ, [], Ok, Some, None, OnErr};
     ghost use Rattle.capture_tcp.specs.Losses.{FindsLoss, ReturnsLoss, Watches, WatchesOn, first_of, shown_of};
 
-    /// No packet yet. Takes no memory.
+    /// Creates a value without packets. Does not allocate.
     #[tactic(auto, using(crate::proofs::WatchedBytes::watches_none))]
     pub fn new(alloc: Global) -> Losses
         ensures { Watches result [] }
@@ -58,8 +60,8 @@ impl Losses {
         }
     }
 
-    /// Takes a packet that one end sent, and the ends of both directions behind it, and tells the packet that is the loss,
-    /// as soon as that is sure. Nothing is to be taken behind a loss. A refused growth changes nothing.
+    /// Processes a packet that one end sent, and the ends of both directions after it. Returns the packet that is the
+    /// loss, as soon as that is final. Do not call it after a loss. A failed allocation changes nothing.
     #[tactic(auto, using(crate::proofs::WatchedBytes::watches_on, crate::proofs::WatchedBytes::took_none))]
     pub fn take(
         &mut self,
@@ -78,15 +80,15 @@ impl Losses {
         Ok(self.first())
     }
 
-    /// The packet that shows the loss, where the first packet that lacks something is the loss: the first that
-    /// acknowledges what isn't there, by these ends of both directions; or the loss itself, where none does.
+    /// Returns the packet that shows the loss, if the first packet with missing data is the loss. It is the first
+    /// packet that acknowledges missing bytes, by these ends of both directions, or the loss itself if there is none.
     pub fn shown(&self, ends: BothEnds) -> Option<u64>
         ensures { result ≡ shown_of ends self.now }
     {
         past_packet(&self.needs, ends).or(first_packet(&self.needs))
     }
 
-    /// The packet that is the loss, where no packet follows.
+    /// Returns the packet that is the loss, if no packet follows.
     #[tactic(auto, using(crate::proofs::WatchedBytes::returns_first))]
     pub fn first(&self) -> Option<u64>
         ensures first { result ≡ first_of self.now }
@@ -96,7 +98,7 @@ impl Losses {
     }
 }
 
-// The packet of the first need.
+// Returns the packet of the first need.
 #[tactic(auto, using(crate::proofs::WatchedBytes::first_none, crate::proofs::WatchedBytes::first_some))]
 fn first_packet(needs: &VecDeque<Need>) -> Option<u64>
     ensures { result ≡ first_of needs.now.items }
@@ -104,7 +106,7 @@ fn first_packet(needs: &VecDeque<Need>) -> Option<u64>
     Some(needs.front()?.packet)
 }
 
-// The packet of the first need that acknowledges what is lacking.
+// Returns the packet of the first need that acknowledges missing data.
 #[tactic(auto, using(crate::proofs::WatchedBytes::past_here, crate::proofs::WatchedBytes::past_after, crate::proofs::WatchedBytes::past_none))]
 fn past_packet(needs: &VecDeque<Need>, ends: BothEnds) -> Option<u64>
     ensures { result ≡ past_of ends needs.now.items }
@@ -117,7 +119,7 @@ fn past_packet(needs: &VecDeque<Need>, ends: BothEnds) -> Option<u64>
     None
 }
 
-// Whether something that a packet acknowledges is lacking.
+// Returns true if something that a packet acknowledges is missing.
 fn is_past(ends: BothEnds, need: Need) -> bool
     ensures { result ≡ nat_lt (other_end ends need.from) need.acknowledged }
 {
@@ -127,7 +129,7 @@ fn is_past(ends: BothEnds, need: Need) -> bool
     }
 }
 
-// Puts what a packet needs behind the others, and takes from the front what lacks nothing.
+// Appends what a packet needs, and removes from the front what is no longer missing.
 fn watch(
     needs: &mut VecDeque<Need>,
     from: Side,
@@ -142,7 +144,7 @@ fn watch(
     Ok(())
 }
 
-// What a packet needs.
+// Returns what a packet needs.
 fn need_of(from: Side, packet: Packet) -> Need
     ensures { result ≡ needs_of from packet }
 {
@@ -154,7 +156,7 @@ fn need_of(from: Side, packet: Packet) -> Need
     }
 }
 
-// Takes from the front what lacks nothing.
+// Removes from the front what is no longer missing.
 #[tactic(auto, using(crate::proofs::WatchedBytes::settles_one, crate::proofs::WatchedBytes::settles_all))]
 fn settle(needs: &mut VecDeque<Need>, ends: BothEnds)
     ensures { needs.new.items ≡ unsettled ends needs.old.items }
@@ -162,7 +164,7 @@ fn settle(needs: &mut VecDeque<Need>, ends: BothEnds)
     while let Some(_) = take_settled(needs, ends) {}
 }
 
-// Takes the first, if it lacks nothing.
+// Removes the first need, if nothing of it is missing.
 fn take_settled(needs: &mut VecDeque<Need>, ends: BothEnds) -> Option<Need>
     ensures some { IfSome result (λ need. (needs.old.items ≡ need ∷ needs.new.items) × (is_incomplete ends need ≡ false)) }
     ensures none { IfNone result ((needs.new.items ≡ needs.old.items) × IsUnsettled ends needs.old.items) }
@@ -174,7 +176,7 @@ fn take_settled(needs: &mut VecDeque<Need>, ends: BothEnds) -> Option<Need>
     needs.pop_front()
 }
 
-// Whether something is lacking.
+// Returns true if something is missing.
 fn has_missing(ends: BothEnds, need: Need) -> bool
     ensures { result ≡ is_incomplete ends need }
 {

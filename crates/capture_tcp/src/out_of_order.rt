@@ -1,4 +1,4 @@
-//! Packets that wait behind a gap, in the order of their places.
+//! Out-of-order packets, in the order of their offsets.
 
 ghost use Rattle.std.specs.Prelude.{◌≡◌, ◌≤◌, ◌+◌, ◌++◌, ◌∷◌, IfSome, IfNone, IfOk, IsOk, OnOk, OnErr, vec_len, vec_capacity};
 ghost use Rattle.std.specs.List.{insert};
@@ -9,7 +9,7 @@ use crate::packet::Packet;
 use std::alloc::{AllocError, Global};
 use std::collections::VecDeque;
 
-/// Puts a packet behind those of its place. A refused growth changes nothing.
+/// Inserts a packet after those with its offset. A failed allocation changes nothing.
 pub(crate) fn put(queue: &mut VecDeque<Packet>, packet: Packet) -> Result<(), AllocError>
     ensures ok { OnOk result (queue.new.items ≡ put_after packet queue.old.items) }
     ensures len { OnOk result (deque_len queue.new ≡ deque_len queue.old + 1) }
@@ -20,7 +20,7 @@ pub(crate) fn put(queue: &mut VecDeque<Packet>, packet: Packet) -> Result<(), Al
     Ok(())
 }
 
-// Where a packet belongs.
+// Returns the index of a packet in the queue.
 #[tactic(auto, using(crate::proofs::AfterOffsets::one_more, crate::proofs::AfterOffsets::stops_at, crate::proofs::AfterOffsets::comes_last))]
 fn place_of(queue: &VecDeque<Packet>, packet: Packet) -> usize
     ensures within { result ≤ deque_len queue.now }
@@ -36,7 +36,7 @@ fn place_of(queue: &VecDeque<Packet>, packet: Packet) -> usize
     index
 }
 
-// Takes the first packet, if an end has reached it.
+// Removes the first packet, if the end has reached it.
 fn take_reached(queue: &mut VecDeque<Packet>, end: u64) -> Option<Packet>
     ensures some { IfSome result (λ packet. (queue.old.items ≡ packet ∷ queue.new.items) × (packet.from ≤ end)) }
     ensures none { IfNone result ((queue.new.items ≡ queue.old.items) × IsStopped end queue.old.items) }
@@ -48,8 +48,8 @@ fn take_reached(queue: &mut VecDeque<Packet>, end: u64) -> Option<Packet>
     queue.pop_front()
 }
 
-// Takes the packets from the front that an end reaches as it goes on, and tells them. Gives where the end comes to, and
-// the greatest place that they acknowledge.
+// Moves the packets from the front that the end reaches as it advances to `emitted`. Returns the new end and the
+// greatest offset that these packets acknowledge.
 #[tactic(auto, using(crate::proofs::Draining::keeps, crate::proofs::Draining::begins, crate::proofs::Draining::ends))]
 pub(crate) fn free(
     queue: &mut VecDeque<Packet>,

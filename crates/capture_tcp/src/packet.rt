@@ -1,16 +1,16 @@
-//! Segments of a connection, and the packets that carry them, by their places.
+//! Segments of a connection, and the packets that carry them, by their offsets.
 
 use crate::keep_alive::Flags;
 
-/// An end of a connection: the one that connected, or the one that was connected to.
+/// An end of a connection: the active end, which connected, or the passive end, which was connected to.
 #[derive(Clone, Copy, Debug, PartialEq, Eq)]
 pub enum Side {
     Active,
     Passive,
 }
 
-/// A segment as it was captured, but for its octets: who sent it, the number of its packet, when it was captured, in
-/// milliseconds, and its numbers as TCP counts.
+/// A segment as it was captured, without its payload: the sender, the packet number, the capture time in milliseconds,
+/// and the TCP sequence numbers.
 #[derive(Clone, Copy, Debug)]
 pub struct Segment {
     pub from: Side,
@@ -22,8 +22,8 @@ pub struct Segment {
     pub reset: bool,
 }
 
-/// A packet by its place: it brings what stands from a place up to another, as cells of its stream, of which the first is
-/// the SYN; and it acknowledges what stands before a place of the other direction.
+/// A packet by its offset. It carries the cells of its stream from one offset up to another; the first cell of a stream
+/// is the SYN. It acknowledges what comes before an offset of the other direction.
 #[derive(Clone, Copy, Debug, PartialEq, Eq)]
 pub struct Packet {
     pub packet: u64,

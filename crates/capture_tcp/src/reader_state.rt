@@ -1,4 +1,4 @@
-//! What is known of a connection in the midst of a capture, and what is told as a packet comes.
+//! The state of a connection during a capture, and the events that are emitted when a packet arrives.
 
 ghost use Rattle.std.specs.Prelude.{◌≡◌, ◌++◌, IfErr, IfOk, OnOk, map};
 ghost use Rattle.capture_tcp.specs.PacketArrival.{Arrives, Brings, BringsTo, ContinuesWith, PassesBoth, PassesTo, Reacts, EmitsIfSettled, EmitsSettled, breaks_sure, due_as, or_differs};
@@ -18,7 +18,7 @@ use crate::streams::{Due, Stream, Streams};
 use std::alloc::{AllocError, Global};
 use std::collections::VecDeque;
 
-/// What is known of a connection, but for the turns of its packets.
+/// The state of a connection, except for the delivery of its packets.
 #[derive(Drop)]
 pub(crate) struct Reading {
     pub losses: Losses,
@@ -27,8 +27,8 @@ pub(crate) struct Reading {
     pub differs: Option<u64>,
 }
 
-/// A packet that comes: the end that sent it, what is set in it, its place, what of that end was acknowledged before it,
-/// and behind it the ends of both directions and what is acknowledged of them.
+/// An arriving packet: the end that sent it, its flags, its offset, and what of that end was acknowledged before it.
+/// After it: the ends of both directions, and what is acknowledged of them.
 #[derive(Clone, Copy)]
 pub(crate) struct Arrival {
     pub from: Side,
@@ -39,7 +39,7 @@ pub(crate) struct Arrival {
     pub received: BothEnds,
 }
 
-// Holds what a packet brings, and tells whether it differs from what was held.
+// Buffers what a packet carries, and returns whether it conflicts with what was buffered.
 fn bring(
     held: &mut ReassemblyBuffer,
     acknowledged: u64,
@@ -59,7 +59,7 @@ fn bring(
     Ok(differs)
 }
 
-// The same of both directions.
+// Buffers what a packet carries in its direction, and returns whether it conflicts with what was buffered.
 fn bring_to(streams: &mut Streams, arrival: Arrival, octets: &[u8]) -> Result<bool, ReassemblyFault>
     ensures held { IfOk result (λ differs. BringsTo streams.old arrival octets.now streams.new differs) }
     ensures full { IfErr result (λ f. FullIf f (IsFullAt streams.old arrival octets.now)) }
@@ -90,14 +90,14 @@ fn bring_to(streams: &mut Streams, arrival: Arrival, octets: &[u8]) -> Result<bo
     }
 }
 
-// The first packet that differs.
+// Returns the first conflicting packet.
 fn first_different(known: Option<u64>, differs: bool, packet: u64) -> Option<u64>
     ensures { result ≡ or_differs known differs packet }
 {
     known.or(differs.then_some(packet))
 }
 
-// Puts the packets whose turn is at a packet, and at its time, behind the others.
+// Appends the packets that are delivered at a packet, with the packet's time.
 #[tactic(auto, using(crate::proofs::Arriving::queue_next, crate::proofs::Arriving::queue_all))]
 fn queue(
     due: &mut VecDeque<Due>,
@@ -120,7 +120,7 @@ fn queue(
     Ok(())
 }
 
-// Takes what a packet brings, and the packets whose turn is at it.
+// Processes what a packet carries, and the packets that are delivered at it.
 fn arrive(
     reading: &mut Reading,
     arrival: Arrival,
@@ -139,7 +139,7 @@ fn arrive(
     Ok(())
 }
 
-// Lets go of what was told and acknowledged.
+// Drops what was emitted and acknowledged.
 fn pass(stream: &mut Stream, acknowledged: u64)
     ensures { PassesTo stream.old acknowledged stream.new }
 {
@@ -147,7 +147,7 @@ fn pass(stream: &mut Stream, acknowledged: u64)
     stream.held.pass(acknowledged.min(place));
 }
 
-// Lets go of what was told and acknowledged in both directions.
+// Drops what was emitted and acknowledged in both directions.
 fn pass_both(streams: &mut Streams, received: BothEnds)
     ensures { PassesBoth streams.old received streams.new }
 {
@@ -155,7 +155,7 @@ fn pass_both(streams: &mut Streams, received: BothEnds)
     pass(&mut streams.passive, received.passive);
 }
 
-// Tells what is sure, where none of the packets so far is surely lost.
+// Emits what is final, if none of the packets so far is certainly lost.
 fn emit_settled(
     alloc: Global,
     reading: &mut Reading,
@@ -179,7 +179,7 @@ fn emit_settled(
     Ok(None)
 }
 
-// Whether a copy differs, and no packet before it lacks anything.
+// Returns true if a retransmission conflicts, and no packet before it has missing data.
 fn breaks_surely(first: Option<u64>, differs: Option<u64>) -> bool
     ensures { result ≡ breaks_sure first differs }
 {
@@ -192,7 +192,7 @@ fn breaks_surely(first: Option<u64>, differs: Option<u64>) -> bool
     }
 }
 
-// Tells what is sure, and ends where a copy differs and nothing before it lacks anything.
+// Emits what is final, and ends if a retransmission conflicts and nothing before it is missing.
 fn settle(
     alloc: Global,
     reading: &mut Reading,
@@ -218,7 +218,7 @@ fn settle(
     emit_settled(alloc, reading, received, emitted)
 }
 
-// Tells what is sure behind a packet, of which it may be known that one is lost.
+// Emits what is final after a packet, at which a loss may have become known.
 fn go_on(
     alloc: Global,
     reading: &mut Reading,
@@ -243,8 +243,8 @@ fn go_on(
     Ok(Some(ending))
 }
 
-/// Takes a packet that comes, with its octets and the packets whose turn is at it, and tells what is sure. Gives how what
-/// is told ends, once that is sure.
+/// Processes an arriving packet, with its payload and the packets that are delivered at it, and emits what is final.
+/// Returns the ending, once it is final.
 pub(crate) fn react(
     alloc: Global,
     reading: &mut Reading,

@@ -1,4 +1,4 @@
-//! The cells of one direction by their places.
+//! The cells of one direction by offset.
 
 ghost use Rattle.std.specs.Prelude.{◌≡◌, ◌≤◌, ◌<◌, ◌+◌, ◌^◌, true, ◌-◌, max, take, false, [], IfSome, IfOk, None, OnOk, OnErr, drop, get_or, length, List, Err};
 ghost use Rattle.capture_tcp.specs.Cells.{all_of};
@@ -15,15 +15,16 @@ use crate::keep_alive::Flags;
 use std::alloc::{AllocError, Global};
 use std::marker::Model;
 
-// So many cells are held at most.
+// The maximum number of buffered cells.
 const MOST: u64 = 1 << 26;
 
-// The least length of a message, that of a header, and the greatest one of a message that can be held whole.
+// The minimum length of a message, which is that of a header, and the maximum length of a message that can be buffered
+// completely.
 const SHORTEST: u64 = 10;
 
 const LONGEST: u64 = MOST - 4;
 
-/// A cell of a stream, which has a place of its own.
+/// A cell of a stream: one unit of sequence space, with its own offset.
 #[derive(Clone, Copy, Debug, PartialEq, Eq)]
 pub enum Cell {
     Syn,
@@ -31,7 +32,7 @@ pub enum Cell {
     Fin,
 }
 
-/// What the cells of a message are: its octets; or the SYN; or octets up to a FIN, which ends the stream.
+/// What the cells of a message are: its bytes; or the SYN; or bytes up to a FIN, which ends the stream.
 #[derive(Drop)]
 pub(crate) enum Piece {
     Message(Vec<u8>),
@@ -39,8 +40,8 @@ pub(crate) enum Piece {
     Closes,
 }
 
-// What the first four cells of a message say of its size: some are missing; one of them ends it; or it has so many octets
-// behind them, none where no message has their length.
+// What the first four cells of a message show of its size: some are missing; one of them ends it; or the given number
+// of bytes follow them, none if no message has their length.
 #[derive(Clone, Copy)]
 enum Head {
     Missing,
@@ -48,12 +49,12 @@ enum Head {
     Length(u64),
 }
 
-/// Why cells aren't held.
+/// Why cells are not buffered.
 #[derive(Clone, Copy, Debug, PartialEq, Eq)]
 pub enum ReassemblyFault {
-    /// They end past 2^26 places behind the first that is held.
+    /// They end more than 2^26 offsets after the first that is buffered.
     Full,
-    /// There is no memory.
+    /// An allocation failed.
     Memory,
 }
 
@@ -65,13 +66,13 @@ impl From<AllocError> for ReassemblyFault {
     }
 }
 
-/// The cells of one direction that packets brought, from a place on, of two copies the first. Contracts see what
-/// `IsStoreOf` says of it.
+/// The cells of one direction that packets carried, from an offset on, and the first copy of each. Contracts see what
+/// `IsStoreOf` states of it.
 #[derive(Drop)]
 pub struct ReassemblyBuffer {
     place: u64,
     cells: Cells,
-    // No SYN and no FIN is held from this place on.
+    // No SYN and no FIN is buffered from this offset on.
     octets_from: u64,
 }
 
@@ -84,7 +85,7 @@ impl Model for ReassemblyBuffer {
 }
 
 impl ReassemblyBuffer {
-    /// Nothing is held yet. Takes no memory.
+    /// Creates an empty buffer. Does not allocate.
     #[tactic(auto, using(crate::proofs::StoredCells::holds_none))]
     pub fn new(alloc: Global) -> ReassemblyBuffer
         ensures place { result.place ≡ 0 }
@@ -97,13 +98,13 @@ impl ReassemblyBuffer {
         }
     }
 
-    /// Holds what a packet of this direction brings at a place: a SYN, octets, a FIN, as far as they are set. A cell that
-    /// is held already stays, and what stands before the first place that is held is passed over.
+    /// Buffers what a packet of this direction carries at an offset: a SYN, bytes, a FIN, each if present. A buffered
+    /// cell stays unchanged, and cells before the first buffered offset are skipped.
     ///
     /// # Errors
     ///
-    /// `Memory`, and `Full` where the packet ends past 2^26 places behind the first that is held: more octets than
-    /// that never wait. Neither changes anything.
+    /// Returns `Memory` if an allocation fails, and `Full` if the packet ends more than 2^26 offsets after the first
+    /// that is buffered: more bytes than that never wait. Neither changes anything.
     #[tactic(auto, using(crate::proofs::StoredCells::puts_in, crate::proofs::StoredCells::puts_none, crate::proofs::StoredCells::held_length, crate::proofs::StoredCells::cells_length))]
     pub fn put(&mut self, place: u64, flags: Flags, octets: &[u8]) -> Result<(), ReassemblyFault>
         ensures ok { OnOk result (PutsIn self.old place (cells_of flags.syn octets.now flags.fin) self.new) }
@@ -135,7 +136,7 @@ impl ReassemblyBuffer {
         Ok(())
     }
 
-    /// Lets go of what stands before a place. It is held no longer.
+    /// Drops the cells before an offset.
     #[tactic(auto, using(crate::proofs::StoredCells::still_holds))]
     pub fn pass(&mut self, place: u64)
         ensures place { self.new.place ≡ max self.old.place place }
@@ -149,8 +150,8 @@ impl ReassemblyBuffer {
         self.place = self.place.max(place);
     }
 
-    /// Whether a packet of this direction brings another cell than is held in its place, where that isn't acknowledged
-    /// yet. Then the log ends at the packet, since nobody can know which of both was read.
+    /// Returns true if a packet of this direction carries another cell than is buffered at its offset, and that is not
+    /// yet acknowledged. Then the log ends at the packet, since nobody can know which of the two was read.
     #[tactic(auto, using(crate::proofs::Differing::returns_conflict, crate::proofs::Differing::returns_past, crate::proofs::StoredCells::held_length))]
     pub fn contradicts(&self, acknowledged: u64, place: u64, flags: Flags, octets: &[u8]) -> bool
         ensures { ReturnsConflict self.now acknowledged place (cells_of flags.syn octets.now flags.fin) result }
@@ -161,8 +162,8 @@ impl ReassemblyBuffer {
         differs_in(&self.cells, self.place, acknowledged, place, flags, octets)
     }
 
-    /// How many cells the message has that begins in a place: four octets of a length and as many octets as it says; a
-    /// SYN and a FIN end it. None where it isn't there whole, or ends past another place.
+    /// Returns the number of cells of the message at an offset: four bytes of a length, and as many bytes as it gives;
+    /// a SYN and a FIN end it. Returns `None` if the message is incomplete, or ends after `upto`.
     #[tactic(auto, using(crate::proofs::CompleteStreams::front_none, crate::proofs::CompleteStreams::front_past, crate::proofs::CompleteStreams::front_whole))]
     pub fn front(&self, place: u64, upto: u64) -> Option<u64>
         ensures front { IsFront self.now place upto result }
@@ -184,14 +185,14 @@ impl ReassemblyBuffer {
         Some(count)
     }
 
-    // What so many cells from a place on tell.
+    // Returns what the given number of cells from an offset on are.
     pub(crate) fn piece(&self, alloc: Global, place: u64, count: u64) -> Result<Piece, AllocError>
         ensures { IfOk result (λ emitted. Emits self.now place count emitted) }
     {
         cut_piece(alloc, &self.cells, place.saturating_sub(self.place), count)
     }
 
-    /// The cell in a place, if it is held.
+    /// Returns the cell at an offset, if it is buffered.
     #[tactic(auto, using(crate::proofs::StoredCells::cell_is, crate::proofs::StoredCells::cell_before))]
     pub fn cell(&self, place: u64) -> Option<Cell>
         ensures { CellIs self.now place result }
@@ -203,7 +204,7 @@ impl ReassemblyBuffer {
     }
 }
 
-// What so many cells from an index on tell: where they are octets in one piece, these.
+// Returns what the given number of cells from an index on are: if they are contiguous bytes, these.
 #[tactic(auto, using(crate::proofs::StreamChunks::octets_emit))]
 fn cut_piece(alloc: Global, cells: &Cells, first: u64, count: u64) -> Result<Piece, AllocError>
     ensures { IfOk result (λ emitted. PieceEmits (drop first (all_of cells.now)) count emitted) }
@@ -214,7 +215,7 @@ fn cut_piece(alloc: Global, cells: &Cells, first: u64, count: u64) -> Result<Pie
     }
 }
 
-// So many octets from an index on, if they are there.
+// Returns the given number of bytes from an index on. Returns `None` if they are not all present.
 fn octets_at(octets: &[u8], first: u64, count: u64) -> Option<&[u8]>
     ensures octets { IfSome result (λ found. found.now ≡ take count (drop first octets.now)) }
     ensures there { IfSome result (λ found. first + count ≤ length octets.now) }
@@ -228,7 +229,7 @@ fn octets_at(octets: &[u8], first: u64, count: u64) -> Option<&[u8]>
     Some(found)
 }
 
-// What so many cells tell that are held in one piece from an index on.
+// Returns what the given number of cells are that are buffered without a gap from an index on.
 #[tactic(auto, using(crate::proofs::StreamChunks::begins, crate::proofs::StreamChunks::misses, crate::proofs::StreamChunks::ends))]
 fn piece_of(alloc: Global, cells: &Cells, first: u64, count: u64) -> Result<Piece, AllocError>
     ensures { IfOk result (λ emitted. PieceEmits (drop first (all_of cells.now)) count emitted) }
@@ -249,7 +250,7 @@ fn piece_of(alloc: Global, cells: &Cells, first: u64, count: u64) -> Result<Piec
     Ok(Piece::Message(octets))
 }
 
-// How many cells a packet brings.
+// Returns the number of cells that a packet carries.
 #[tactic(auto, using(crate::proofs::StoredCells::held_length))]
 fn count_of(flags: Flags, octets: &[u8]) -> u64
     ensures { result ≡ length (held_of flags.syn octets.now flags.fin) }
@@ -257,8 +258,8 @@ fn count_of(flags: Flags, octets: &[u8]) -> u64
     u64::from(flags.syn) + octets.len() as u64 + u64::from(flags.fin)
 }
 
-// Holds what a packet brings, from a place on, where there is to be room for so many cells. A refused growth changes
-// nothing.
+// Buffers what a packet carries, from an offset on, with capacity for the given number of cells. A failed allocation
+// changes nothing.
 fn hold(
     cells: &mut Cells,
     base: u64,
@@ -282,7 +283,8 @@ fn hold(
     Ok(())
 }
 
-// Whether octets alone come, and all cells that are held are octets without a gap up to their place, or past it.
+// Returns true if the packet carries bytes alone, and all buffered cells are bytes without a gap up to the packet's
+// offset or past it.
 fn follows(cells: &Cells, base: u64, place: u64, flags: Flags) -> bool
     ensures flags { result ≡ true → (flags.syn ≡ false) × (flags.fin ≡ false) }
     ensures run { result ≡ true → (cells.now.others ≡ []) × (place - base ≤ length cells.now.octets) }
@@ -293,8 +295,8 @@ fn follows(cells: &Cells, base: u64, place: u64, flags: Flags) -> bool
     cells.is_run() && place.saturating_sub(base) <= cells.run().len() as u64
 }
 
-// Puts octets that come at a place behind those that are held, without the first ones, as far as they are held or stand
-// before the first that is. A refused growth changes nothing.
+// Appends the bytes at an offset to the buffered ones, without the first ones that are already buffered or come before
+// the first buffered byte. A failed allocation changes nothing.
 fn append(cells: &mut Cells, base: u64, place: u64, octets: &[u8]) -> Result<(), AllocError>
     requires { (cells.old.others ≡ []) × (place - base ≤ length cells.old.octets) }
     ensures ok { OnOk result (IsStored base place (octets_of octets.now) (all_of cells.old) (all_of cells.new)) }
@@ -308,7 +310,7 @@ fn append(cells: &mut Cells, base: u64, place: u64, octets: &[u8]) -> Result<(),
     cells.append(new)
 }
 
-// Lays what a packet brings, from its place on.
+// Stores what a packet carries, from its offset on.
 #[tactic(auto, using(crate::proofs::StoredCells::in_parts, crate::proofs::StoredCells::held_length))]
 fn store_all(cells: &mut Cells, base: u64, place: u64, flags: Flags, octets: &[u8])
     requires room { place + length (held_of flags.syn octets.now flags.fin) ≤ base + length (all_of cells.old) }
@@ -321,7 +323,7 @@ fn store_all(cells: &mut Cells, base: u64, place: u64, flags: Flags, octets: &[u
     store_flag(cells, base, subsequent, flags.fin, Cell::Fin);
 }
 
-// Lays a cell, if it is there. Gives the place behind it.
+// Stores a cell, if its flag is set. Returns the offset after it.
 #[tactic(auto, using(crate::proofs::StoredCells::appends_none, crate::proofs::StoredCells::stores_one))]
 fn store_flag(cells: &mut Cells, base: u64, place: u64, is_set: bool, cell: Cell) -> u64
     requires room { place + length (flag_of is_set cell) ≤ base + length (all_of cells.old) }
@@ -337,7 +339,7 @@ fn store_flag(cells: &mut Cells, base: u64, place: u64, is_set: bool, cell: Cell
     place
 }
 
-// Lays octets from a place on. Gives the place behind them.
+// Stores bytes from an offset on. Returns the offset after them.
 #[tactic(auto, using(crate::proofs::StoredCells::appends_next, crate::proofs::StoredCells::appends_all))]
 fn append_octets(cells: &mut Cells, base: u64, place: u64, octets: &[u8]) -> u64
     requires room { place + length octets.now ≤ base + length (all_of cells.old) }
@@ -356,7 +358,7 @@ fn append_octets(cells: &mut Cells, base: u64, place: u64, octets: &[u8]) -> u64
     place
 }
 
-// Lays a cell in its place, if nothing is held there, and the place isn't before the first.
+// Stores a cell at its offset, if none is buffered there and the offset is not before the first.
 #[tactic(auto, using(crate::proofs::StoredCells::appends_bytes, crate::proofs::StoredCells::stays, crate::proofs::StoredCells::passes))]
 fn store_at(cells: &mut Cells, base: u64, place: u64, cell: Cell)
     requires { place < base + length (all_of cells.old) }
@@ -369,7 +371,7 @@ fn store_at(cells: &mut Cells, base: u64, place: u64, cell: Cell)
     cells.append_chunk((place - base) as usize, cell);
 }
 
-// Whether a packet brings a cell that differs.
+// Returns true if a packet carries a conflicting cell.
 #[tactic(auto, using(crate::proofs::Differing::returns_syn, crate::proofs::Differing::returns_octets, crate::proofs::Differing::returns_fin, crate::proofs::StoredCells::held_length))]
 fn differs_in(
     cells: &Cells,
@@ -389,7 +391,7 @@ fn differs_in(
         || flag_differs(cells, base, acknowledged, subsequent, flags.fin, Cell::Fin)
 }
 
-// Whether a cell differs, if it is there.
+// Returns true if a cell is present and conflicts.
 #[tactic(auto, using(crate::proofs::Differing::one_differs, crate::proofs::Differing::none_differs))]
 fn flag_differs(
     cells: &Cells,
@@ -404,7 +406,7 @@ fn flag_differs(
     is_set && cell_differs(cells, base, acknowledged, place, cell)
 }
 
-// Whether some octet differs.
+// Returns true if some byte conflicts.
 #[tactic(auto, using(crate::proofs::Differing::known_passed))]
 fn octets_differ(cells: &Cells, base: u64, acknowledged: u64, place: u64, octets: &[u8]) -> bool
     requires { place + length octets.now < 2 ^ 64 }
@@ -419,7 +421,7 @@ fn octets_differ(cells: &Cells, base: u64, acknowledged: u64, place: u64, octets
     open_differ(cells, base, acknowledged, place, open)
 }
 
-// Whether some octet differs, where none is acknowledged: those in one piece are compared at once.
+// Returns true if some byte conflicts, and none is acknowledged. Contiguous bytes are compared at once.
 fn open_differ(cells: &Cells, base: u64, acknowledged: u64, place: u64, octets: &[u8]) -> bool
     requires open { (base ≤ place) × (acknowledged ≤ place) }
     requires end { place + length octets.now < 2 ^ 64 }
@@ -436,7 +438,7 @@ fn open_differ(cells: &Cells, base: u64, acknowledged: u64, place: u64, octets: 
     others_differ(cells, base, acknowledged, place + count as u64, rest)
 }
 
-// Whether some octet differs, which it doesn't where nothing is held.
+// Returns true if some byte conflicts. If nothing is buffered, none does.
 #[tactic(auto, using(crate::proofs::Differing::past_differs))]
 fn others_differ(cells: &Cells, base: u64, acknowledged: u64, place: u64, octets: &[u8]) -> bool
     requires { place + length octets.now < 2 ^ 64 }
@@ -448,7 +450,7 @@ fn others_differ(cells: &Cells, base: u64, acknowledged: u64, place: u64, octets
     some_differs(cells, base, acknowledged, place, octets)
 }
 
-// Whether some octet differs, one after another.
+// Returns true if some byte conflicts, comparing one after another.
 #[tactic(auto, using(crate::proofs::Differing::octet_found, crate::proofs::Differing::octet_passed, crate::proofs::Differing::octets_end))]
 fn some_differs(cells: &Cells, base: u64, acknowledged: u64, place: u64, octets: &[u8]) -> bool
     requires { place + length octets.now < 2 ^ 64 }
@@ -466,7 +468,7 @@ fn some_differs(cells: &Cells, base: u64, acknowledged: u64, place: u64, octets:
     false
 }
 
-// Whether a cell isn't acknowledged and differs from what is held in its place.
+// Returns true if a cell is not acknowledged and differs from the one buffered at its offset.
 #[tactic(auto, using(crate::proofs::Differing::is_acknowledged, crate::proofs::Differing::is_open))]
 fn cell_differs(cells: &Cells, base: u64, acknowledged: u64, place: u64, cell: Cell) -> bool
     ensures { result ≡ differs_at base acknowledged place cell (all_of cells.now) }
@@ -477,7 +479,7 @@ fn cell_differs(cells: &Cells, base: u64, acknowledged: u64, place: u64, cell: C
     is_another(cell, cells.get(place.saturating_sub(base)))
 }
 
-// Whether a cell is another one than is held.
+// Returns true if a cell differs from the buffered one.
 fn is_another(cell: Cell, held: Option<Cell>) -> bool
     ensures { result ≡ is_another cell held }
 {
@@ -487,7 +489,7 @@ fn is_another(cell: Cell, held: Option<Cell>) -> bool
     }
 }
 
-// The place behind a packet with a SYN or a FIN.
+// Returns the offset after a packet with a SYN or a FIN.
 fn flags_end(flags: Flags, end: u64) -> u64
     ensures { result ≡ flags_end flags.syn flags.fin end }
 {
@@ -500,7 +502,7 @@ fn flags_end(flags: Flags, end: u64) -> u64
     0
 }
 
-// Whether a message of octets alone has more cells than there is room for.
+// Returns true if a message of bytes alone has more cells than `room`.
 fn is_longer(head: Head, room: u64) -> bool
     ensures { result ≡ true → IsLonger room head }
 {
@@ -511,7 +513,7 @@ fn is_longer(head: Head, room: u64) -> bool
     }
 }
 
-// How many cells the message has that begins at an index, if it is there whole, by what its first cells say.
+// Returns the number of cells of the message at an index, from its first cells. Returns `None` if it is incomplete.
 fn size_of(cells: &Cells, first: u64, head: Head) -> Option<u64>
     requires { HeadSays (drop first (all_of cells.now)) head }
     ensures size { result ≡ message_size (in_piece (drop first (all_of cells.now))) }
@@ -524,7 +526,8 @@ fn size_of(cells: &Cells, first: u64, head: Head) -> Option<u64>
     }
 }
 
-// How many cells the message has that begins at an index with the length of so many octets, if it is there whole.
+// Returns the number of cells of the message at an index, whose length is the given number of bytes. Returns `None` if
+// it is incomplete.
 #[tactic(auto, using(crate::proofs::CompleteStreams::octets_there))]
 fn size_by_length(cells: &Cells, first: u64, count: u64) -> Option<u64>
     requires { count < 2 ^ 32 }
@@ -537,7 +540,7 @@ fn size_by_length(cells: &Cells, first: u64, count: u64) -> Option<u64>
     size_after(cells, first, 4, count)
 }
 
-// What the first cells of a message say that begins at an index.
+// Returns what the first cells of the message at an index show.
 #[tactic(auto, using(crate::proofs::CompleteStreams::size_none, crate::proofs::CompleteStreams::size_end, crate::proofs::CompleteStreams::next_kept, crate::proofs::CompleteStreams::size_done, crate::proofs::CompleteStreams::size_begins))]
 fn head_of(cells: &Cells, first: u64) -> Head
     ensures { HeadSays (drop first (all_of cells.now)) result }
@@ -557,7 +560,7 @@ fn head_of(cells: &Cells, first: u64) -> Head
     Head::Length(octets_after(value))
 }
 
-// How many octets follow a length: none where no message has it.
+// Returns the number of bytes after a length: 0 if no message has this length.
 fn octets_after(length: u64) -> u64
     ensures value { result ≡ octets_after length }
     ensures bound { result ≤ length }
@@ -571,7 +574,7 @@ fn octets_after(length: u64) -> u64
     length
 }
 
-// How many cells stand before an index and, so many of them, behind it, up to one that is no octet.
+// Returns the number of cells before an index and of the given number of cells after it, up to one that is not a byte.
 #[tactic(auto, using(crate::proofs::CompleteStreams::rest_none, crate::proofs::CompleteStreams::rest_end, crate::proofs::CompleteStreams::rest_next, crate::proofs::CompleteStreams::rest_done))]
 fn size_after(cells: &Cells, first: u64, index: u64, count: u64) -> Option<u64>
     requires { index + count < 2 ^ 63 }
@@ -591,7 +594,7 @@ fn size_after(cells: &Cells, first: u64, index: u64, count: u64) -> Option<u64>
     Some(index)
 }
 
-// The cell so many behind an index, if it is there.
+// Returns the cell at this distance after an index. Returns `None` if it is missing.
 #[tactic(auto, using(crate::proofs::CompleteStreams::cell_there, crate::proofs::CompleteStreams::cell_far))]
 fn cell_after(cells: &Cells, first: u64, index: u64) -> Option<Cell>
     ensures { result ≡ get_or (drop first (all_of cells.now)) index None }
@@ -602,7 +605,7 @@ fn cell_after(cells: &Cells, first: u64, index: u64) -> Option<Cell>
     cells.get(first + index)
 }
 
-// The octet of a cell, if it is one.
+// Returns the byte of a cell, if it is one.
 fn octet_of(cell: Cell) -> Option<u8>
     ensures { result ≡ octet_in cell }
 {

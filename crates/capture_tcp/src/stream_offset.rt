@@ -1,13 +1,13 @@
-//! Places of octets in a stream.
+//! Offsets of bytes in a stream.
 
 ghost use Rattle.std.specs.Prelude.{◌≡◌, ◌<◌, ◌≤◌, ◌+◌, ◌^◌, IfSome};
 ghost use Rattle.capture_tcp.specs.TcpStreams.{acknowledged_at, nearest, place_of};
 
-// Places are told apart as far as this from one that is known.
+// The maximum distance from a known offset within which offsets are distinguished.
 const REACH: u64 = 1 << 26;
 
-/// The place with this number that is nearest to a place that is known: numbers are those of TCP, which begin again
-/// behind 2^32. None is told that is farther than 2^26.
+/// Returns the offset with this sequence number that is nearest to a known offset. TCP sequence numbers wrap at 2^32.
+/// Returns `None` if the distance is more than 2^26.
 pub fn nearest_place(known: u64, number: u32) -> Option<u64>
     requires { known < 2 ^ 63 }
     ensures place { result ≡ nearest known number }
@@ -23,7 +23,8 @@ pub fn nearest_place(known: u64, number: u32) -> Option<u64>
     None
 }
 
-/// The place that a number of TCP has in a stream whose SYN has the number `base`: the nearest to a place that is known.
+/// Returns the offset of a TCP sequence number in a stream whose SYN has the number `base`: the one nearest to a known
+/// offset.
 pub fn numbered_place(base: u32, known: u64, number: u32) -> Option<u64>
     requires { known < 2 ^ 63 }
     ensures place { result ≡ place_of known base number }
@@ -32,8 +33,8 @@ pub fn numbered_place(base: u32, known: u64, number: u32) -> Option<u64>
     nearest_place(known, number.wrapping_sub(base))
 }
 
-/// The place up to which everything was received, by the number that a segment acknowledges. One that is farther than
-/// 2^26 from the place that is known says nothing, as a segment that acknowledges none.
+/// Returns the offset up to which everything was received, from the number that a segment acknowledges. If that is more
+/// than 2^26 from the known offset, it counts as no acknowledgment.
 pub fn acknowledged_place(base: u32, known: u64, acknowledged: Option<u32>) -> Option<u64>
     requires { known < 2 ^ 63 }
     ensures { result ≡ acknowledged_at known base acknowledged }

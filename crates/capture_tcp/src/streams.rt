@@ -1,4 +1,4 @@
-//! Both streams of a connection, as far as they aren't told, and the turn of a packet.
+//! Both streams of a connection, from the first cell that is not emitted, and the delivery of a packet.
 
 ghost use Rattle.std.specs.Prelude.{◌≡◌, IfOk, OnOk};
 ghost use Rattle.capture_tcp.specs.EventSteps.{ProcessesInput, processes_input};
@@ -11,7 +11,7 @@ use crate::packet::{Packet, Side};
 use crate::reassembly::ReassemblyBuffer;
 use std::alloc::{AllocError, Global};
 
-/// A packet whose turn is at a packet, and at a time.
+/// A packet that is delivered at a packet and a time.
 #[derive(Clone, Copy)]
 pub(crate) struct Due {
     pub at: u64,
@@ -20,7 +20,7 @@ pub(crate) struct Due {
     pub packet: Packet,
 }
 
-/// What is held of a direction, and the place of the first cell that isn't told.
+/// What is buffered of a direction, and the offset of the first cell that is not emitted.
 #[derive(Drop)]
 pub(crate) struct Stream {
     pub held: ReassemblyBuffer,
@@ -34,7 +34,7 @@ pub(crate) struct Streams {
     pub passive: Stream,
 }
 
-// The other end.
+// Returns the other end.
 pub(crate) fn other_side(side: Side) -> Side
     ensures { result ≡ other_side side }
 {
@@ -44,7 +44,7 @@ pub(crate) fn other_side(side: Side) -> Side
     }
 }
 
-// The place up to which a packet acknowledges what an end sent.
+// Returns the offset up to which a packet acknowledges what an end sent.
 fn acked_by(side: Side, due: Due) -> u64
     ensures { result ≡ acked_by side due }
 {
@@ -54,28 +54,28 @@ fn acked_by(side: Side, due: Due) -> u64
     due.packet.acknowledged.unwrap_or(0)
 }
 
-// Whether it acknowledges the SYN of the passive end.
+// Returns true if it acknowledges the SYN of the passive end.
 fn answers(due: Due) -> bool
     ensures { result ≡ answers due }
 {
     1 <= acked_by(Side::Passive, due)
 }
 
-// Whether the connection is open by it.
+// Returns true if it opens the connection.
 pub(crate) fn opens(due: Due) -> bool
     ensures { result ≡ opens due }
 {
     answers(due) || 2 <= acked_by(Side::Active, due) || 2 <= due.packet.to
 }
 
-// Whether it resets the connection.
+// Returns true if it resets the connection.
 pub(crate) fn resets(opened: bool, due: Due) -> bool
     ensures { result ≡ resets opened due }
 {
     due.packet.reset && (opened || opens(due))
 }
 
-// Tells that the connection comes up, if it acknowledges the SYN of the passive end.
+// Emits that the connection is established, if the packet acknowledges the SYN of the passive end.
 #[tactic(auto, using(crate::proofs::Timing::keeps_none))]
 fn answer(
     due: Due,
@@ -91,7 +91,7 @@ fn answer(
     Ok(())
 }
 
-// Tells that the connection goes down, if it is reset.
+// Emits that the connection is closed, if it is reset.
 #[tactic(auto, using(crate::proofs::Timing::keeps_none))]
 fn reset(
     opened: bool,
@@ -108,7 +108,7 @@ fn reset(
     Ok(())
 }
 
-// Tells what is delivered.
+// Emits what is delivered.
 fn deliver(
     alloc: Global,
     streams: &mut Streams,
@@ -147,7 +147,7 @@ fn deliver(
     Ok(())
 }
 
-// Tells what a packet acknowledges.
+// Emits what a packet acknowledges.
 #[tactic(auto, using(crate::proofs::Timing::keeps_none))]
 fn acknowledge(
     alloc: Global,
@@ -172,7 +172,7 @@ fn acknowledge(
     deliver(alloc, streams, delivery, emitter_state, emitted)
 }
 
-/// Tells what happens at the turn of a packet: first what it acknowledges, then what it brings, and a reset at last.
+/// Emits the events of a delivered packet: first what it acknowledges, then what it carries, and last a reset.
 pub(crate) fn turn(
     alloc: Global,
     streams: &mut Streams,

@@ -6,13 +6,13 @@ use std::alloc::{AllocError, Global};
 use std::fmt::Debug;
 use std::process::Abort;
 
-// Something is so. Each assertion takes its time where it stands, and so it stands here once.
+// Checks a condition. Each assertion costs proof time where it is written, so it is written once.
 fn assert_so(rt: &impl Abort, is_so: bool, what: &str) {
     assert!(rt; is_so, "{what}");
 }
 
-// A value is written so by Debug. A constant is followed through the function that names it, and so a table is gone
-// through by another one.
+// Checks how Debug writes a value. A constant is followed through the function that names it, so another function
+// iterates over a table.
 fn assert_named<T: Debug>(
     rt: &impl Abort,
     alloc: Global,

@@ -1,4 +1,4 @@
--- Devices of the data in the packets of a session.
+-- The device IDs of the data messages in the packets of a session.
 use Rattle.std.specs.Prelude.{◌≡◌, ◌⊎◌, ◌++◌, ◌==◌, ◌||◌, ℕ, Bool, true, false, List, [], ◌∷◌}
 use Rattle.hsms_frame.specs.declared.header.Header.{Header}
 use Rattle.hsms_frame.specs.declared.kinds.Kind.{Kind}
@@ -13,12 +13,12 @@ is_data Primary = true
 is_data Reply = true
 is_data _ = false
 
--- the bytes of a segment are one data message, of this device
+-- Holds if the bytes of a segment are one data message with this device ID.
 abbrev pub IsDevice : Parameters → List ℕ → ℕ → Type 0
 IsDevice s octets device =
     (h : Header) × IsMessage s octets h × (is_data (kind_of h) ≡ true) × (device ≡ h.session)
 
--- the devices of the packets that are one data message are appended, in order
+-- Holds if the device IDs of the packets that are one data message are appended, in order.
 unfoldable pub AreDevices : Parameters → List BufferedPacket → List ℕ → List ℕ → Type 0
 AreDevices s [] old new = new ≡ old
 AreDevices s (g ∷ gs) old new =

@@ -1,20 +1,20 @@
--- The line on what is not judged.
+-- The line on what is not audited.
 use Rattle.std.specs.Prelude.{◌++◌, ◌==◌, ◌∷◌, ℕ, zero, suc, Bool, true, false, if◌then◌else◌, List, [], length, codes, decimal}
 use Rattle.capture_unjudged.specs.declared.pairs.Pairs.{Pairs}
 use Rattle.capture_unjudged.specs.declared.unjudged.Unjudged.{Unjudged}
 
--- so many further numbers, each after a comma, and two dots for those after them
+-- At most `left` further numbers, each after a comma, and two dots for those after them.
 unfoldable pub rest_text : ℕ → List ℕ → List ℕ
 rest_text left [] = []
 rest_text zero (n ∷ ns) = codes " .."
 rest_text (suc left) (n ∷ ns) = codes ", " ++ decimal n ++ rest_text left ns
 
--- the first eight numbers, and two dots for further ones
+-- The first eight numbers, and two dots for further ones.
 abbrev pub numbers_text : List ℕ → List ℕ
 numbers_text [] = []
 numbers_text (n ∷ ns) = decimal n ++ rest_text 7 ns
 
--- how many sessions there are, and whether there are more
+-- The number of sessions, and whether there are more.
 abbrev pub sessions_text : ℕ → Bool → List ℕ
 sessions_text count true = decimal count ++ codes " or more sessions"
 sessions_text count false = if count == 1 then codes "1 session" else decimal count ++ codes " sessions"
@@ -25,13 +25,13 @@ abbrev pub running_part : Pairs → List ℕ
 running_part pairs =
     let count = length pairs.pairs.keys in
     if count == 0 then [] else
-    (if count == 1 then codes "1 session that was running before the capture (--joined)"
-    else sessions_text count pairs.has_more ++ codes " that were running before the capture (--joined)")
+    (if count == 1 then codes "1 session that was running before the capture (--midstream)"
+    else sessions_text count pairs.has_more ++ codes " that were running before the capture (--midstream)")
 
 abbrev pub elsewhere_part : Pairs → List ℕ
 elsewhere_part pairs =
     let count = length pairs.pairs.keys in
-    if count == 0 then [] else sessions_text count pairs.has_more ++ codes " of other addresses (--with)"
+    if count == 0 then [] else sessions_text count pairs.has_more ++ codes " of other addresses (--peer)"
 
 abbrev pub devices_part : ℕ → List ℕ → List ℕ
 devices_part sessions devices =
@@ -46,7 +46,7 @@ ports_part ports =
 
 -- ---- the line
 
--- a part follows those before it after a semicolon
+-- The parts with one more. A semicolon separates it from those before.
 abbrev pub with_part : List ℕ → List ℕ → List ℕ
 with_part parts part =
     if length part == 0 then parts else parts ++ (if length parts == 0 then [] else codes "; ") ++ part
@@ -58,6 +58,6 @@ parts_of u =
     let devices = with_part elsewhere (devices_part u.strange u.devices.lowest.items) in
     with_part devices (ports_part u.ports.lowest.items)
 
--- the line with its line feed; empty if there is nothing
+-- The line with its line feed. It is empty if there is nothing.
 abbrev pub line_of : Unjudged → List ℕ
 line_of u = if length (parts_of u) == 0 then [] else codes "# not judged: " ++ parts_of u ++ 10 ∷ []

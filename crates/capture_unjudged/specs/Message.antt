@@ -1,4 +1,4 @@
--- Segments that are one message of HSMS (SEMI E37, section 8).
+-- Segments that are one HSMS message (SEMI E37, section 8).
 use Rattle.std.specs.Prelude.{◌≡◌, ◌≤◌, ◌==◌, ◌&&◌, ◌||◌, ℕ, Bool, true, false, nat_le, nat_lt, List, length, take, drop}
 use Rattle.secs_item.specs.Encoding.{IsText}
 use Rattle.hsms_frame.specs.declared.header.Header.{Header}
@@ -9,15 +9,16 @@ use Rattle.hsms_frame.specs.Header.{kind_of, stream_of}
 use Rattle.capture_midstream.specs.MessageCheck.{header_of}
 use Rattle.hsms_machine.specs.Settings.{Parameters}
 
--- a length field counts this many bytes, at most `max`
+-- True if a length field counts this many bytes, at most `max`.
 abbrev pub is_length : ℕ → ℕ → ℕ → Bool
 is_length field count max = (count == field) && nat_le field max
 
--- Data has a device and a stream; data without a text has system bytes, so that a few zeros after a length are no data.
+-- True if a data message has a device ID and a stream. One without a text has system bytes, so that a few zeros after a
+-- length are not a data message.
 abbrev pub may_be_data : Header → ℕ → Bool
 may_be_data h count = nat_le h.session 32767 && (nat_lt 0 (stream_of h) && (nat_lt 0 count || nat_lt 0 h.system))
 
--- a control message has the session ID ffff, and no text
+-- True if a control message has the session ID ffff, and no text.
 abbrev pub is_bare : Header → ℕ → Bool
 is_bare h count = (count == 0) && (h.session == 65535)
 
@@ -33,11 +34,11 @@ may_by Separate h count = is_bare h count
 may_by OtherSType h count = false
 may_by OtherPType h count = false
 
--- a message with this header may have a text of COUNT bytes
+-- True if a message with this header may have a text of `count` bytes.
 abbrev pub may_have : Header → ℕ → Bool
 may_have h count = may_by (kind_of h) h count
 
--- the bytes after the length field, and those after the header
+-- The bytes after the length field, and those after the header.
 abbrev pub counted_in : List ℕ → List ℕ
 counted_in octets = drop 4 octets
 

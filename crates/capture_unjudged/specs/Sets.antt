@@ -6,24 +6,24 @@ use Rattle.capture_log.specs.declared.socket_pair.Pair.{Pair}
 use Rattle.capture_log.specs.contracts.socket_pair.PairPartialEq.TheImpl as same_pair
 use Rattle.capture_unjudged.specs.declared.pairs.Pairs.{Pairs}
 
--- how many at the front are lower than a number
+-- The number of numbers at the front that are lower than a number.
 unfoldable pub count_lower : ℕ → List ℕ → ℕ
 count_lower n [] = 0
 count_lower n (x ∷ xs) = if nat_lt x n then suc (count_lower n xs) else 0
 
--- the lowest nine numbers, with one more in its place, unless it is one of them
+-- The lowest nine numbers, with one more in its position, unless it is one of them.
 abbrev pub with_number : List ℕ → ℕ → List ℕ
 with_number xs n = if list_any (λ x. x == n) xs then xs else take 9 (insert xs (count_lower n xs) n)
 
--- a pair is one of these, whichever of its ends connected
+-- True if a pair is one of these, whichever of its ends connected.
 abbrev pub has_pair : Pair → List Pair → Bool
 has_pair pair pairs = list_any ((same_pair.ghosts).eq pair) pairs || list_any ((same_pair.ghosts).eq (turned pair)) pairs
 
--- the first 4,096 pairs, with one more, unless it is one of them
+-- The first 4,096 pairs, with one more, unless it is one of them.
 abbrev pub with_pair : Pair → List Pair → List Pair
 with_pair pair pairs = if has_pair pair pairs || nat_le 4096 (length pairs) then pairs else pairs ++ pair ∷ []
 
--- whether there are more than these
+-- True if there are more than these.
 abbrev pub is_past : Pair → List Pair → Bool → Bool
 is_past pair pairs has_more = if has_pair pair pairs then has_more else has_more || nat_le 4096 (length pairs)
 

@@ -1,4 +1,4 @@
--- What looks like HSMS in a capture and is not judged.
+-- What looks like HSMS in a capture and is not audited.
 use Rattle.std.specs.Prelude.{◌≡◌, ◌⊎◌, ◌^◌, ◌-◌, ◌+◌, ◌==◌, ◌&&◌, ◌||◌, ℕ, Bool, true, false, not, min, nat_lt, if◌then◌else◌, List, [], fold, length, Option, Some, None}
 use Rattle.std.specs.List.{list_any}
 use Rattle.std.specs.declared.net.ip_addr.IpAddr.{IpAddr}
@@ -14,7 +14,7 @@ use Rattle.capture_unjudged.specs.Message.{IsMessage}
 use Rattle.capture_unjudged.specs.Sets.{AddsPair, with_number}
 use Rattle.capture_unjudged.specs.declared.unjudged.Unjudged.{Unjudged}
 
--- nothing is recorded yet
+-- Holds if nothing is recorded yet.
 pub record IsNone (port : ℕ) (peer : Option IpAddr) (settings : Parameters) (u : Unjudged) : Type 0 where
   pub port_is : u.port ≡ port
   pub peer_is : u.peer ≡ peer
@@ -26,11 +26,11 @@ pub record IsNone (port : ℕ) (peer : Option IpAddr) (settings : Parameters) (u
   pub ports : u.ports.lowest.items ≡ []
   pub incomplete : u.is_complete ≡ false
 
--- the bytes of a segment are one message
+-- Holds if the bytes of a segment are one message.
 abbrev pub AreOne : Parameters → List ℕ → Type 0
 AreOne s octets = (h : Header) × IsMessage s octets h
 
--- the lower of a segment's two ports
+-- The lower of a segment's two ports.
 abbrev pub lower_port : Segment → ℕ
 lower_port segment = min segment.source_port segment.target_port
 
@@ -51,17 +51,18 @@ Passes segment octets old new =
     (AreOne old.settings octets × PassesOf (pairs_at (lower_port segment) segment) segment old new)
     ⊎ ((AreOne old.settings octets → ⊥) × (new ≡ old))
 
--- a segment of a session that was running counts for its pair
+-- Holds if a segment of a midstream session counts for its pair.
 abbrev pub Runs : Pair → List ℕ → Unjudged → Unjudged → Type 0
 Runs pair octets old new =
     (AreOne old.settings octets × AddsPair pair old.running new.running × (new ≡ record old { running = new.running }))
     ⊎ ((AreOne old.settings octets → ⊥) × (new ≡ old))
 
--- data, and none of it of the device that is judged
+-- True if there are data messages, and none has the device ID that is audited.
 abbrev pub are_strange : ℕ → List ℕ → Bool
 are_strange device devices = nat_lt 0 (length devices) && not (list_any (λ d. d == device) devices)
 
--- a session counts as one of other devices if some of its packets are data, and none is data of the device that is judged
+-- A session counts as one with other device IDs if some of its packets are data messages, and none has the device ID
+-- that is audited.
 abbrev pub GivesUp : List BufferedPacket → Unjudged → Unjudged → Type 0
 GivesUp packets old new =
     (devices : List ℕ) × AreDevices old.settings packets [] devices
@@ -70,7 +71,7 @@ GivesUp packets old new =
     × (new ≡ record old { strange = new.strange; devices = new.devices }))
     ⊎ ((are_strange old.settings.device devices ≡ false) × (new ≡ old)))
 
--- something is not judged that no option leaves out
+-- True if something is not audited that no option excludes.
 abbrev pub is_refused : Bool → Unjudged → Bool
 is_refused has_port u =
     nat_lt 0 (length u.running.pairs.keys)

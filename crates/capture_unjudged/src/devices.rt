@@ -1,4 +1,4 @@
-//! Devices of the data in the packets of a session.
+//! The device IDs of the data messages in the packets of a session.
 
 ghost use Rattle.std.specs.Prelude.{◌≡◌, ℕ, IfSome, IfNone, OnOk};
 ghost use Rattle.capture_unjudged.specs.Devices.{AreDevices, IsDevice};
@@ -9,7 +9,7 @@ use hsms_frame::{Kind, kind};
 use hsms_machine::Settings;
 use std::alloc::AllocError;
 
-/// Appends the device of each packet that is one data message.
+/// Appends the device ID of each packet that is one data message.
 #[tactic(auto, using(crate::proofs::Recursions::devices_none, crate::proofs::Recursions::devices_first, crate::proofs::Recursions::devices_next))]
 pub(crate) fn push_devices(
     settings: &Settings,
@@ -30,7 +30,8 @@ pub(crate) fn push_devices(
     }
 }
 
-// Returns the device of the data message that the bytes of a segment are, or `None` if they are anything else.
+// Returns the device ID of the data message in a segment. Returns `None` if the bytes are anything other than one data
+// message.
 fn device_of(settings: &Settings, octets: &[u8]) -> Option<u16>
     ensures some { IfSome result (IsDevice settings.now octets.now) }
     ensures none { IfNone result ((device : ℕ) → IsDevice settings.now octets.now device → ⊥) }

@@ -1,9 +1,9 @@
-//! HSMS of a capture that `hsms capture` does not judge.
+//! The HSMS in a capture that `hsms capture` does not audit.
 //!
-//! An [`Unjudged`] receives what no connection takes: segments of other ports and addresses ([`Unjudged::pass`]), those of
-//! sessions that were running before the capture ([`Unjudged::run`]), and the packets of such sessions in which no
-//! beginning is sure ([`Unjudged::give_up`]). It counts those in which a segment is one message of HSMS
-//! ([`message_of`]), and [`emit_unjudged`] writes the counts in one line.
+//! An [`Unjudged`] receives what no connection accepts: segments of other ports and addresses ([`Unjudged::pass`]),
+//! those of midstream sessions ([`Unjudged::run`]), and the packets of midstream sessions without a certain sync point
+//! ([`Unjudged::give_up`]). It counts those in which a segment is one HSMS message ([`message_of`]). [`emit_unjudged`]
+//! writes the counts in one line.
 #![tactic(auto)]
 
 mod devices;

@@ -1,4 +1,4 @@
-//! The line on what is not judged.
+//! The line on what is not audited.
 
 ghost use Rattle.std.specs.Prelude.{◌≡◌, ◌++◌, IfOk, OnOk, string_bytes};
 ghost use Rattle.capture_unjudged.specs.Line.{devices_part, elsewhere_part, line_of, numbers_text, parts_of, ports_part, rest_text, running_part, sessions_text, with_part};
@@ -8,10 +8,10 @@ use crate::pairs::Pairs;
 use crate::unjudged::Unjudged;
 use std::alloc::{AllocError, Global};
 
-// As many numbers are listed. Further ones are two dots.
+// The maximum length of a list of numbers. Two dots represent further ones.
 const LISTED: usize = 8;
 
-/// Returns the line on what is not judged, with its line feed. It is empty if there is nothing.
+/// Returns the line on what is not audited, with its line feed. It is empty if there is nothing.
 pub fn line_of(alloc: Global, unjudged: &Unjudged) -> Result<String, AllocError>
     ensures { IfOk result (λ line. string_bytes line ≡ line_of unjudged.now) }
 {
@@ -59,17 +59,17 @@ fn push_part(parts: &mut String, part: &str) -> Result<(), AllocError>
     parts.push_str(part)
 }
 
-// Returns the part on sessions that were running.
+// Returns the part on midstream sessions.
 fn running_part(alloc: Global, running: &Pairs) -> Result<String, AllocError>
     ensures { IfOk result (λ part. string_bytes part ≡ running_part running.now) }
 {
     let mut part = String::new(alloc);
     match running.count() {
         0 => {}
-        1 => part.push_str("1 session that was running before the capture (--joined)")?,
+        1 => part.push_str("1 session that was running before the capture (--midstream)")?,
         count => {
             push_sessions(&mut part, count as u64, running.has_more())?;
-            part.push_str(" that were running before the capture (--joined)")?;
+            part.push_str(" that were running before the capture (--midstream)")?;
         }
     }
     Ok(part)
@@ -82,12 +82,12 @@ fn elsewhere_part(alloc: Global, elsewhere: &Pairs) -> Result<String, AllocError
     let mut part = String::new(alloc);
     if elsewhere.count() > 0 {
         push_sessions(&mut part, elsewhere.count() as u64, elsewhere.has_more())?;
-        part.push_str(" of other addresses (--with)")?;
+        part.push_str(" of other addresses (--peer)")?;
     }
     Ok(part)
 }
 
-// Returns the part on sessions of other devices.
+// Returns the part on sessions with other device IDs.
 fn devices_part(alloc: Global, sessions: u64, devices: &[u16]) -> Result<String, AllocError>
     ensures { IfOk result (λ part. string_bytes part ≡ devices_part sessions devices.now) }
 {
@@ -118,7 +118,7 @@ fn ports_part(alloc: Global, ports: &[u16]) -> Result<String, AllocError>
     Ok(part)
 }
 
-// Appends how many sessions there are.
+// Appends the number of sessions.
 fn push_sessions(part: &mut String, count: u64, has_more: bool) -> Result<(), AllocError>
     ensures { OnOk result (string_bytes part.new ≡ string_bytes part.old ++ sessions_text count has_more) }
 {
@@ -142,7 +142,7 @@ fn push_numbers(part: &mut String, numbers: &[u16]) -> Result<(), AllocError>
     push_rest(part, rest, LISTED - 1)
 }
 
-// Appends so many further numbers, and two dots for those after them.
+// Appends at most `left` further numbers, and two dots for those after them.
 #[tactic(auto, using(crate::proofs::Recursions::rest_none, crate::proofs::Recursions::rest_dots, crate::proofs::Recursions::rest_first))]
 fn push_rest(part: &mut String, numbers: &[u16], left: usize) -> Result<(), AllocError>
     ensures { OnOk result (string_bytes part.new ≡ string_bytes part.old ++ rest_text left numbers.now) }

@@ -1,4 +1,4 @@
-//! Segments that are one message of HSMS.
+//! Segments that are one HSMS message.
 
 ghost use Rattle.std.specs.Prelude.{◌≡◌, ◌≤◌, ◌↔◌, IfNone, IfSome, IsTrue};
 ghost use Rattle.secs_item.specs.Encoding.{IsText};
@@ -13,9 +13,9 @@ use secs_item::measure_text;
 // The highest device ID (SEMI E37.1).
 const MAX_DEVICE: u16 = 32767;
 
-/// Returns the header of the one message that the bytes of a segment are, or `None` if they are anything else. The length
-/// field counts all bytes after it. Data has a device, a stream, and a text of one item or none; without a text it has
-/// system bytes. A control message has no text.
+/// Returns the header of the one message in a segment. Returns `None` if the bytes are anything other than one message.
+/// The length field counts all bytes after it. A data message has a device ID, a stream, and a text of one item or
+/// none; without a text it has system bytes. A control message has no text.
 pub fn message_of(settings: &Settings, octets: &[u8]) -> Option<Header>
     ensures some { IfSome result (IsMessage settings.now octets.now) }
     ensures none { IfNone result ((header : Header) → IsMessage settings.now octets.now header → ⊥) }
@@ -32,21 +32,21 @@ pub fn message_of(settings: &Settings, octets: &[u8]) -> Option<Header>
     None
 }
 
-// Whether a length field counts this many bytes, at most `max`.
+// Returns true if a length field counts this many bytes, at most `max`.
 fn is_length(field: u32, length: usize, max: u32) -> bool
     ensures { result ≡ is_length field length max }
 {
     length as u64 == u64::from(field) && field <= max
 }
 
-// The header of ten bytes.
+// Returns the header in ten bytes.
 fn header_in(octets: [u8; HEADER_LENGTH]) -> Header
     ensures { result ≡ header_of octets }
 {
     Header::of(octets)
 }
 
-// Whether bytes are the text of a message.
+// Returns true if bytes are the text of a message.
 fn is_readable(octets: &[u8], depth: u8) -> bool
     requires { depth ≤ 100 }
     ensures { IsTrue result ↔ IsText depth octets.now }
@@ -54,7 +54,7 @@ fn is_readable(octets: &[u8], depth: u8) -> bool
     measure_text(octets, depth).is_ok()
 }
 
-// Whether a message with this header may have a text of this length.
+// Returns true if a message with this header may have a text of this length.
 fn may_have(header: Header, length: usize) -> bool
     ensures { result ≡ may_have header length }
 {
@@ -70,7 +70,7 @@ fn may_have(header: Header, length: usize) -> bool
     }
 }
 
-// Whether data with this header may have a text of this length.
+// Returns true if a data message with this header may have a text of this length.
 fn may_be_data(header: Header, length: usize) -> bool
     ensures { result ≡ may_be_data header length }
 {

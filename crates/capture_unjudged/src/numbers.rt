@@ -5,7 +5,7 @@ ghost use Rattle.capture_unjudged.specs.Sets.{count_lower, with_number};
 
 use std::alloc::{AllocError, Global};
 
-// As many are kept: one more than a line lists.
+// The maximum number of stored numbers: one more than a line lists.
 const KEPT: usize = 9;
 
 /// The lowest nine numbers of a set, in ascending order.
@@ -27,14 +27,14 @@ impl Numbers {
         }
     }
 
-    /// Returns the lowest of them.
+    /// Returns the lowest numbers of the set, at most nine.
     pub fn lowest(&self) -> &[u16]
         ensures { result.now ≡ self.now.lowest.items }
     {
         self.lowest.as_slice()
     }
 
-    /// Adds a number, unless it is one of them.
+    /// Adds a number, unless it is in the set.
     pub fn add(&mut self, number: u16) -> Result<(), AllocError>
         ensures { OnOk result (self.new.lowest.items ≡ with_number self.old.lowest.items number) }
     {
@@ -48,7 +48,7 @@ impl Numbers {
     }
 }
 
-// Returns how many at the front are lower than a number.
+// Returns the number of numbers at the front that are lower than a number.
 #[tactic(auto, using(crate::proofs::Recursions::lower_none, crate::proofs::Recursions::lower_first, crate::proofs::Recursions::lower_last))]
 fn lower(numbers: &[u16], number: u16) -> usize
     ensures count { result ≡ count_lower number numbers.now }

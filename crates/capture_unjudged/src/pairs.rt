@@ -4,7 +4,7 @@ use capture_log::Pair;
 use indexmap::IndexSet;
 use std::alloc::{AllocError, Global};
 
-// As many are kept. Of further ones it is known that there are some.
+// The maximum number of stored pairs. Of further ones, only the fact that there are some is recorded.
 const MAX_PAIRS: usize = 4096;
 
 /// Pairs of endpoints, each counted once, whichever end is the active one.
@@ -18,7 +18,7 @@ impl Pairs {
     ghost use Rattle.std.specs.Prelude.{◌≡◌, [], OnOk, false, length};
     ghost use Rattle.capture_unjudged.specs.Sets.{AddsPair};
 
-    /// Returns no pairs.
+    /// Returns an empty set.
     pub fn new(alloc: Global) -> Pairs
         ensures none { result.pairs.keys ≡ [] }
         ensures no_more { result.has_more ≡ false }
@@ -29,21 +29,21 @@ impl Pairs {
         }
     }
 
-    /// Returns how many there are, up to 4,096.
+    /// Returns the number of pairs, up to 4,096.
     pub fn count(&self) -> usize
         ensures { result ≡ length self.now.pairs.keys }
     {
         self.pairs.len()
     }
 
-    /// Whether there are more than are counted.
+    /// Returns true if there are more pairs than are counted.
     pub fn has_more(&self) -> bool
         ensures { result ≡ self.now.has_more }
     {
         self.has_more
     }
 
-    /// Adds a pair, unless it is one of them.
+    /// Adds a pair, unless it is in the set.
     pub fn add(&mut self, pair: Pair) -> Result<(), AllocError>
         ensures { OnOk result (AddsPair pair self.old self.new) }
     {

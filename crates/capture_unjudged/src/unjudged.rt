@@ -1,4 +1,4 @@
-//! What looks like HSMS in a capture and is not judged.
+//! What looks like HSMS in a capture and is not audited.
 
 ghost use Rattle.std.specs.Prelude.{◌≡◌, OnOk, fold};
 ghost use Rattle.capture_unjudged.specs.Sets.{with_number};
@@ -15,22 +15,22 @@ use hsms_machine::Settings;
 use std::alloc::{AllocError, Global};
 use std::net::IpAddr;
 
-/// What looks like HSMS in a capture and is not judged: the sessions that were running before it, those of other addresses
-/// than `--with`, those of other devices, and other ports.
+/// What looks like HSMS in a capture and is not audited: the midstream sessions, those of other addresses than
+/// `--peer`, those with other device IDs, and other ports.
 #[derive(Drop)]
 pub struct Unjudged {
     port: u16,
     peer: Option<IpAddr>,
     settings: Settings,
-    /// Sessions that were running before the capture, without `--joined`.
+    /// Midstream sessions, without `--midstream`.
     pub(crate) running: Pairs,
-    /// Sessions of which no end has the address of `--with`.
+    /// Sessions of which no end has the address of `--peer`.
     pub(crate) elsewhere: Pairs,
-    /// How many sessions are of other devices, with `--joined`.
+    /// The number of sessions with other device IDs, with `--midstream`.
     pub(crate) strange: u64,
-    /// Their devices.
+    /// Their device IDs.
     pub(crate) devices: Numbers,
-    /// The lower port of each segment that is one message and is not of the port.
+    /// The lower port of each segment that is one message and does not use the audited port.
     pub(crate) ports: Numbers,
     is_complete: bool,
 }
@@ -39,8 +39,8 @@ impl Unjudged {
     ghost use Rattle.std.specs.Prelude.{◌≡◌, OnOk, OnErr, ◌∷◌, true, IsTrue, ◌↔◌};
     ghost use Rattle.capture_unjudged.specs.Unjudged.{GivesUp, IsNone, Passes, Runs, is_refused};
 
-    /// Returns an empty count for the connections of this port, of which one end has this address if there is one, with
-    /// these settings.
+    /// Returns an empty count for the connections of this port, with these settings. If `peer` is given, one end has
+    /// this address.
     pub fn new(alloc: Global, port: u16, peer: Option<IpAddr>, settings: Settings) -> Unjudged
         ensures { IsNone port peer settings result }
     {
@@ -57,7 +57,7 @@ impl Unjudged {
         }
     }
 
-    /// Records a segment that no connection may take, by its addresses and ports.
+    /// Records a segment that no connection accepts, by its addresses and ports.
     pub fn pass(&mut self, segment: &Segment, octets: &[u8]) -> Result<(), AllocError>
         ensures { OnOk result (Passes segment.now octets.now self.old self.new) }
     {
@@ -77,7 +77,7 @@ impl Unjudged {
         self.ports.add(port)
     }
 
-    /// Records a segment of a session that was running before the capture.
+    /// Records a segment of a midstream session.
     pub fn run(&mut self, pair: &Pair, octets: &[u8]) -> Result<(), AllocError>
         ensures { OnOk result (Runs pair.now octets.now self.old self.new) }
     {
@@ -87,8 +87,8 @@ impl Unjudged {
         self.running.add(*pair)
     }
 
-    /// Records a session that was running before the capture, of which these packets are kept and no beginning is sure. It
-    /// is one of other devices if packets are data of other devices, and none is data of this one.
+    /// Records a midstream session without a certain sync point, from its buffered packets. It has another device ID if
+    /// packets are data messages with other device IDs, and none has this one.
     pub fn give_up(&mut self, alloc: Global, packets: &[BufferedPacket]) -> Result<(), AllocError>
         ensures { OnOk result (GivesUp packets.now self.old self.new) }
     {
@@ -101,21 +101,22 @@ impl Unjudged {
         add_all(&mut self.devices, &devices)
     }
 
-    /// Records that the capture was read as far as it is judged.
+    /// Records that the capture was read up to where it is audited.
     pub fn complete(&mut self)
         ensures { self.new ≡ record self.old { is_complete = true } }
     {
         self.is_complete = true;
     }
 
-    /// Whether the capture was read as far as it is judged.
+    /// Returns true if the capture was read up to where it is audited.
     pub fn is_complete(&self) -> bool
         ensures { result ≡ self.now.is_complete }
     {
         self.is_complete
     }
 
-    /// Whether anything is not judged that no option leaves out. `--with` leaves out other addresses, `--port` other ports.
+    /// Returns true if anything is not audited that no option excludes. `--peer` excludes other addresses, `--port`
+    /// other ports.
     pub fn is_refused(&self, has_port: bool) -> bool
         ensures { result ≡ is_refused has_port self.now }
     {
@@ -124,14 +125,14 @@ impl Unjudged {
     }
 }
 
-// Whether there are devices, and none is this one.
+// Returns true if there are device IDs, and none is this one.
 fn are_strange(device: u16, devices: &[u16]) -> bool
     ensures { result ≡ are_strange device devices.now }
 {
     !devices.is_empty() && !devices.contains(&device)
 }
 
-// Adds numbers, one after the other.
+// Adds numbers, one after another.
 #[tactic(auto, using(crate::proofs::Recursions::all_none, crate::proofs::Recursions::all_first))]
 fn add_all(set: &mut Numbers, numbers: &[u16]) -> Result<(), AllocError>
     ensures { OnOk result (set.new.lowest.items ≡ fold with_number set.old.lowest.items numbers.now) }

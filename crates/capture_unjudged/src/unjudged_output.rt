@@ -1,4 +1,4 @@
-//! What the command writes of what is not judged, and what it returns.
+//! What the command writes on what is not audited, and what it returns.
 
 ghost use Rattle.std.specs.Prelude.{IfErr, OnOk, codes};
 ghost use Rattle.capture_unjudged.specs.UnjudgedOutput.{IsDone, IsFailure, Returns, line_if};
@@ -12,13 +12,13 @@ use cli_output::put;
 use hsms_frame::Sink;
 use std::alloc::Global;
 
-/// Writes the line on what is not judged after what `hsms capture` wrote, and returns its answer. A capture whose logs
-/// pass is refused as `NotJudged` if anything is not judged that no option leaves out. No line is written if the capture
-/// was not read as far as it is judged, and after a failure of memory, reading or writing.
+/// Writes the line on what is not audited after the output of `hsms capture`, and returns the result of `hsms capture`.
+/// If the logs pass, but anything is not audited that no option excludes, the capture is refused as `NotJudged`. Writes
+/// no line if the capture was not read up to where it is audited, or after a failed allocation, read or write.
 ///
 /// # Errors
 ///
-/// Those of the capture; `Refused`; `Write`, `Memory`.
+/// Returns the capture's errors, `Refused`, `Write` or `Memory`.
 pub fn emit_unjudged<W: Sink>(
     alloc: Global,
     sink: &mut W,
@@ -46,7 +46,7 @@ pub fn emit_unjudged<W: Sink>(
     }
 }
 
-// Writes the line, if the capture was read as far as it is judged.
+// Writes the line, if the capture was read up to where it is audited.
 #[tactic(auto, using(crate::proofs::Recursions::line_written))]
 fn put_line<W: Sink>(alloc: Global, sink: &mut W, unjudged: &Unjudged) -> Result<(), ToolFault>
     ensures ok { OnOk result (Grows (W.state sink.old).written (W.state sink.new).written (line_if unjudged.now)) }

@@ -12,36 +12,34 @@ use Rattle.cli_capture.specs.declared.skipped_packets.LeftOut.{LeftOut}
 use Rattle.cli_capture.specs.declared.incomplete.Shortfall.{Shortfall}
 use Rattle.cli_capture.specs.declared.incomplete.Shortfall.TheVariants.{File}
 
--- something was written behind what was there before
+-- holds if some bytes were appended to the output
 unfoldable pub GrowsBySome : Option (List ℕ) → Option (List ℕ) → Type 0
 GrowsBySome old new = IfRecorded old (λ octets. (emitted : List ℕ) × (new ≡ Some (octets ++ emitted)))
 
--- What is written where verdicts are told: the lines of the connections that were told while the capture was read, then of
--- those that were left at its end, and then what was left out; and what is answered by these and by what is missing of the
--- file.
+-- Holds if the output of verdicts is complete: the lines of the connections that finished during reading, then of those
+-- left at the end, then the line of skipped packets. The result follows from these, and from what is missing in the file.
 abbrev pub CapturesTo : Role → Role → Option (List ℕ) → Option (List ℕ) → Result Bool ToolFault → Type 0
 CapturesTo active passive before after result =
     (reading ending : List LogOutputState) × (missing : Option Shortfall) × (left_out : LeftOut)
     × Grows before after (lines_of active passive (reading ++ ending) ++ line_of left_out)
     × Answers (found_behind (found_with (found_behind nothing_found reading) missing) ending) result
 
--- it is told that there is more than the command counts
+-- holds if the error is that the input exceeds the counters
 abbrev pub IsEndless : ToolFault → Type 0
 IsEndless (tool.Device word) = word.now ≡ codes "Endless"
 IsEndless (tool.Refused words) = ⊥
 IsEndless tool.Memory = ⊥
 
--- so many octets or more: a capture is read in so many steps, and each passes one or more
+-- holds if the input has 2 ^ 64 - 4 bytes or more: reading takes at most that many steps, each of one byte or more
 abbrev pub HasMany : List ℕ → Type 0
 HasMany input = 2 ^ 64 - 4 ≤ length input
 
--- so many octets or more were passed between these
+-- holds if at least `n` bytes were consumed between these two states of the input
 abbrev pub HasPassed : ℕ → List ℕ → Option (List ℕ) → List ℕ → Option (List ℕ) → Type 0
 HasPassed n ahead from now left =
     IfRecorded from (λ input. (rest : List ℕ) × (left ≡ Some rest) × (n + (length now + length rest) ≤ length ahead + length input))
 
--- why a file isn't read on behind so many packets is told by the word of its device, as want of memory, or as what is
--- missing from the next packet on
+-- how reading a file ends after `packets` packets: a read error, a failed allocation, or data missing from the next packet on
 abbrev pub IsMissingBy : FileFault → ℕ → Result Shortfall ToolFault → Type 0
 IsMissingBy fault packets (Ok shortfall) =
     (fault ≡ file.Read → ⊥) × (fault ≡ file.Memory → ⊥) × (shortfall ≡ File fault (min (packets + 1) (2 ^ 64 - 1)))

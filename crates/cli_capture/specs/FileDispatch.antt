@@ -100,8 +100,8 @@ pub record Concluded (w : Wanted) (missing : Option Shortfall) (all : Connection
   pub written : Grows out now (emitted.page.octets ++ line_of emitted.left_out)
   pub answers : Answers (found_of emitted) result
 
--- What is written of a file, and what is answered: the packets that it has go to connections, one after another; of each
--- is told what its packets show, with the packet behind which that is known, or at the end.
+-- Holds if the output and the result are those of a file: its packets are dispatched to connections, one by one. What the
+-- packets of a connection show is written once it is final, or at the end.
 pub record CapturesFile (w : Wanted) (input : List ℕ) (out now : Option (List ℕ)) (result : Result Bool ToolFault) : Type 0 where
   pub packets : List Packet
   pub ending : Ending

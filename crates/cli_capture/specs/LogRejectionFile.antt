@@ -197,6 +197,7 @@ RefusesBy to_verdicts w input out now fault = CapturesFile w input out now (Err 
 RefusesBy (to_log settings side) w input out now fault =
     CapturesFile w input out now (Err fault) ⊎ RefusesPacket w input out now fault ⊎ RefusesLeft w input out now fault
 
+-- holds if the capture is rejected: by the file, or with a log by a packet or a connection left at the end
 abbrev pub RefusesFile : Wanted → List ℕ → Option (List ℕ) → Option (List ℕ) → ToolFault → Type 0
 RefusesFile w input out now fault = RefusesBy w.way w input out now fault
 

@@ -33,7 +33,7 @@ kinds_of counts =
     let link = with_kind [] (codes "link") counts.link in
     let short = with_kind link (codes "short") counts.short in
     let fragment = with_kind short (codes "fragment") counts.fragment in
-    let cut = with_kind fragment (codes "cut") counts.cut in
+    let cut = with_kind fragment (codes "truncated") counts.cut in
     with_kind cut (codes "header") counts.header
 
 -- how many packets there are
@@ -43,4 +43,4 @@ packets_words n = if n == 1 then codes "1 packet" else decimal n ++ codes " pack
 -- the line, with its end; nothing where none is left out
 abbrev pub line_of : LeftOut → List ℕ
 line_of counts =
-    if all_of counts == 0 then [] else codes "# " ++ packets_words (all_of counts) ++ codes " left out: " ++ kinds_of counts ++ 10 ∷ []
+    if all_of counts == 0 then [] else codes "# " ++ packets_words (all_of counts) ++ codes " skipped: " ++ kinds_of counts ++ 10 ∷ []

@@ -27,7 +27,7 @@ abbrev pub IsRefused : Stop → Type 0
 IsRefused (stop.Refused words) = Unit {0}
 IsRefused stop.Memory = ⊥
 
--- as the command tells it
+-- holds if the command rejects the capture
 abbrev pub IsRefusal : ToolFault → Type 0
 IsRefusal (tool.Refused words) = Unit {0}
 IsRefusal (tool.Device word) = ⊥

@@ -114,6 +114,7 @@ way_by (Some r) a p = if same_role r a.role then to_log a Active else to_log p P
 abbrev pub way_of : Capturing → Way
 way_of options = way_by options.log options.active options.passive
 
+-- what is audited or written, by the options
 abbrev pub wanted_of : Capturing → Wanted
 wanted_of options =
     record { port = options.port; peer = options.peer; way = way_of options; active = options.active; passive = options.passive; joined = options.joined }

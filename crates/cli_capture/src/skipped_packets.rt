@@ -54,7 +54,7 @@ impl LeftOut {
         let kinds = self.kinds(alloc)?;
         let mut line = String::from_str(alloc, "# ")?;
         push_packets(&mut line, all)?;
-        write!(line, " left out: {kinds}\n")?;
+        write!(line, " skipped: {kinds}\n")?;
         Ok(line)
     }
 
@@ -77,7 +77,7 @@ impl LeftOut {
         push_kind(&mut kinds, "link", self.link)?;
         push_kind(&mut kinds, "short", self.short)?;
         push_kind(&mut kinds, "fragment", self.fragment)?;
-        push_kind(&mut kinds, "cut", self.cut)?;
+        push_kind(&mut kinds, "truncated", self.cut)?;
         push_kind(&mut kinds, "header", self.header)?;
         Ok(kinds)
     }

@@ -1,4 +1,4 @@
--- How the log that is gone on with grows with a line.
+-- How the repaired log grows with a line.
 use Rattle.std.proofs.Common.{◌≡◌, ◌+◌, ◌++◌, inl, inr, ℕ, List, [], ◌∷◌, length, map, refl, sym, ap, ◌∙◌, subst, arith, append_assoc, length-append}
 use Rattle.std.proofs.lemmas.List.{append-nil}
 use Rattle.hsms_machine.specs.declared.entry.Entry.{Entry}
@@ -29,7 +29,7 @@ none_before : (before : List (List ℕ)) → 0 ≡ counted (length before) → b
 none_before [] is = refl
 none_before (line ∷ before) is = absurd (omega (arith, is))
 
--- ---- one line more
+-- ---- one more line
 
 lines_push : (s : Parameters) (number : ℕ) (log : List Entry) (lines : List (List ℕ)) (line : List ℕ) (after placed put : List Entry)
     → LinesPut s number log lines after placed → LinePuts s (log ++ after) line put
@@ -62,7 +62,7 @@ lines_push s number log (first ∷ others) line after placed put (own, rest, pla
       lines_push s (number + 1) (log ++ own) others line rest places put more subsequent,
     )
 
--- what the line puts, and the course behind it
+-- The entries that the line appends, and the repaired session after it.
 continues_so : (old new : Known) (mid : CurrentState) (line : List ℕ) (what : Carried) (notes : List Note) (log placed : List Entry)
     → IsCarried old.settings.max line what → RepairsLine mid what new.repaired_session notes → HasProgress old.settings log placed mid
     → (put : List Entry) × LinePuts old.settings log line put × HasProgress old.settings (log ++ put) (placed ++ map (at_place mid.line) put) new.repaired_session
@@ -103,7 +103,7 @@ later_continues old new mid (first ∷ lines) line shown what notes mid_is is_sh
     let size = length-append lines (line ∷ []) in
     (log ++ put, placed ++ map (at_place mid.line) put, encoded_now, puts_now, has_now, omega (arith, line_is, next, size))
 
--- the first line
+-- The first line.
 pub first_continues : (known : Known) (settings : Parameters) (before : List (List ℕ)) (line shown : List ℕ) → 0 ≡ counted (length before)
     → IsShown settings_limit line shown → EncodesSettings shown settings → known.settings ≡ settings → HasProgress settings [] [] known.repaired_session
     → known.repaired_session.line ≡ 1 → ContinuesWith known (before ++ line ∷ [])

@@ -1,4 +1,4 @@
--- The judgements of an entry end.
+-- The checks of an entry end.
 use Rattle.std.proofs.Common.{◌≡◌, ◌≤◌, ◌+◌, ◌++◌, suc, inl, inr, ℕ, List, [], ◌∷◌, Some, None, refl, sym, ap, ◌∙◌, subst, arith, append_assoc, length}
 use Rattle.std.proofs.lemmas.List.{append-nil}
 use Rattle.secs_item.proofs.Texts.{some_text_answer, not_both_of_text}
@@ -34,7 +34,7 @@ at_least_one LeftOut = omega arith
 at_least_one (Changed steps) = omega arith
 at_least_one (Preceded one more) = omega arith
 
--- a failure asks for what is asked for
+-- A failure requires the change that its repair makes.
 asked : (s : Parameters) (log : List Entry) (entry : Entry) (failure : Failure) (change : Change) → IsChecked s log entry (Broken failure) → Asks s log entry change
     → change_by failure.repair_action entry ≡ change
 asked s log entry failure change (broken, repair_action) (rule, asks, is) =
@@ -42,13 +42,13 @@ asked s log entry failure change (broken, repair_action) (rule, asks, is) =
     let same : failure.rule ≡ rule = cc in
     ap (λ r. change_by r entry) (repair_action ∙ ap (repair_of (view_of s log) entry) same) ∙ is
 
--- the judgements of an entry, behind which others stand, come to its end, and others follow
+-- Holds if the checks of an entry, followed by other pending entries, come to its end, and other checks follow.
 abbrev Ends : Parameters → List Entry → Steps → List Checked → List Entry → List Entry → List Entry → Type 0
 Ends s log steps check_result entries more put =
     (rest : List Checked) × AreChecked s (log ++ put) rest more × (length check_result ≡ judgements steps + length rest)
     × (left_of check_result entries ≡ left_of rest more)
 
--- behind a judgement that asks for a change
+-- After a check that requires a change.
 ends_on : (s : Parameters) (log : List Entry) (steps later : Steps) (failure : Failure) (change : Change) (rest : List Checked) (entry : Entry) (more put : List Entry)
     → change_by failure.repair_action entry ≡ change → judgements steps ≡ suc (judgements later)
     → Ends s log later rest (changed change entry more) more put → Ends s log steps (Broken failure ∷ rest) (entry ∷ more) more put
@@ -90,7 +90,7 @@ row_ends s log (Preceded one further) entry put (Broken failure ∷ rest) more (
       ap (λ c. left_of rest (changed c entry more)) change ∙ mid_left ∙ last_left,
     )
 
--- of an entry alone none is left
+-- No entry is left of a single entry.
 alone_ends : (s : Parameters) (log : List Entry) (steps : Steps) (entry : Entry) (put : List Entry) (check_result : List Checked) → RepairedBy s log steps entry put
     → AreChecked s log check_result (entry ∷ []) → judgements steps ≤ length check_result → left_of check_result (entry ∷ []) ≡ []
 alone_ends s log steps entry put check_result entry_repaired are few = none_left (row_ends s log steps entry put check_result [] entry_repaired are few) where
@@ -112,7 +112,7 @@ octets_of step text octets = of_what step.what where
   of_what (what.Cut cause) = tt
   of_what what.Down = tt
 
--- after as many judgements as are made at most none is left
+-- After the maximum number of checks, no entry is left.
 pub all_done : (old new : CurrentState) (entry : Entry) (before after : List Note) → HasOctets entry.event
     → LeadsOn (most_steps (waiting_of old.tracker) + 1) old (entry ∷ []) before new after → RepairsEntry old entry before new after
 all_done old new entry before after fits (check_result, leads, notes, (few, inl none)) = (check_result, leads, notes, λ s log placed has. none)

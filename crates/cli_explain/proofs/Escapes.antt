@@ -1,4 +1,4 @@
--- Octets of the log that are written without control characters.
+-- Bytes of the log that are written without control characters.
 use Rattle.std.proofs.Common.{◌≡◌, ◌++◌, ◌∙◌, ℕ, zero, suc, true, List, [], ◌∷◌, refl, replicate}
 use Rattle.std.specs.List.{list_all}
 use Rattle.std.proofs.lemmas.Bool.{and_from}
@@ -19,7 +19,7 @@ pub visible_then : (old mid new : Page) → AddsVisible old mid → AddsVisible 
 visible_then old mid new (one, plain, first) (other, also, second) =
     (one ++ other, no_control_then one other plain also, adds_then old mid new one other first second)
 
--- one octet is
+-- One byte is written without control characters.
 pub visible_octet : (old new : Page) (octet : ℕ) → is_visible octet ≡ true → Adds old new (octet ∷ []) → AddsVisible old new
 visible_octet old new octet visible adds = (octet ∷ [], and_from (is_visible octet) true visible refl, adds)
 

@@ -1,4 +1,4 @@
--- Failures of the same sort are alike.
+-- Failures of the same kind are similar.
 use Rattle.std.proofs.Common.{◌≡◌, ◌<◌, ◌+◌, ◌*◌, ◌^◌, ℕ, nat_eq, refl, sym, ◌∙◌, ap, arith, lit<}
 use Rattle.std.specs.Prelude.{if◌then◌else◌}
 use Rattle.hsms_frame.specs.Header.{IsHeader, kind_of}
@@ -14,7 +14,7 @@ use Rattle.hsms_log.specs.declared.step.What.TheVariants.{Up, Frame, T3, Cut, Do
 use Rattle.hsms_machine.specs.Rule.{rule_number}
 use Rattle.cli_explain.specs.FailureKind.{kind_number, detail_of, frame_number, event_number, frame_of, IsInRange, SortsAreApart, FramesAreApart}
 
--- ---- numbers, and what they stand for
+-- ---- numbers, and what they represent
 
 rule_at : ℕ → Rule
 rule_at n = if nat_eq n 0 then Backwards else (if nat_eq n 1 then NotUp else (if nat_eq n 2 then Ended else (if nat_eq n 3 then T3Overdue else (if nat_eq n 4 then LinkOverdue else (if nat_eq n 5 then NotDue else (if nat_eq n 6 then TooLong else (if nat_eq n 7 then PType else (if nat_eq n 8 then SType else (if nat_eq n 9 then ControlText else (if nat_eq n 10 then Session else (if nat_eq n 11 then Direction else (if nat_eq n 12 then NotSelected else (if nat_eq n 13 then WBit else (if nat_eq n 14 then Text else (if nat_eq n 15 then SystemInUse else (if nat_eq n 16 then NoTransaction else (if nat_eq n 17 then SelectStatus else (NoCause))))))))))))))))))
@@ -114,7 +114,7 @@ what_small (T3 system) fits = lit< tt
 what_small (Cut cause) fits = lit< tt
 what_small Down fits = lit< tt
 
--- ---- what is the same where the number is
+-- ---- what is equal if the number is
 
 apart_36 : (a b c d : ℕ) → b < 2 ^ 36 → d < 2 ^ 36 → a * 2 ^ 36 + b ≡ c * 2 ^ 36 + d → (a ≡ c) × (b ≡ d)
 apart_36 a b c d one other is = (omega (arith, one, other, is), omega (arith, one, other, is))

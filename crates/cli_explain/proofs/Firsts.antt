@@ -1,4 +1,4 @@
--- The first failure of all is told.
+-- The first failure of all is written.
 use Rattle.std.proofs.Common.{◌≡◌, ◌++◌, ℕ, Bool, true, false, List, [], ◌∷◌, Some, None, refl, sym, ap, ◌∙◌, subst, append_assoc}
 use Rattle.std.specs.Prelude.{MatchOption, Option}
 use Rattle.std.specs.List.{list_any}
@@ -36,7 +36,7 @@ use Rattle.cli_explain.specs.OutputBuffer.{AddsSome, HasEmitted}
 use Rattle.cli_explain.specs.LineFilter.{NoneBefore, TakesLine, WritesFirst, is_written_at_once}
 use Rattle.cli_explain.proofs.OutputBuffers.{adds_none}
 
--- ---- notes
+-- ---- annotations
 
 any_whole : (notes : List Note) (failing : Failing) → first_whole notes ≡ Some failing → list_any is_whole notes ≡ true
 any_whole [] failing is = absurd cc
@@ -54,7 +54,7 @@ no_faults line (Closes closing ∷ notes) faults none = no_faults line notes fau
 no_faults line (Fails failing ∷ notes) faults none = absurd cc
 no_faults line (FailsInGroup failure_group ∷ notes) faults none = no_faults line notes faults none
 
--- ---- none is grouped where none was counted
+-- ---- no failure is grouped while none is counted
 
 both_none : (old : Option Failed) (line : ℕ) (why : Option Why) → either old (failed_at line why) ≡ None → (old ≡ None) × (why ≡ None)
 both_none None line None is = (refl, refl)
@@ -73,7 +73,7 @@ none_grouped old new groups now line notes counted grouped before = λ none.
     let H : List Fault → Type 0 = λ f. HasGroups f now.items in
     subst H (no_faults line notes [] both.1) (grouped [] (before both.0))
 
--- ---- the line is told
+-- ---- the line is written
 
 pub first_written : (excerpt : Excerpt) (tally : Tally) (notes grouped : List Note) (shown_line : ExplainedLine) (old new : Page) (subsequent : ℕ)
     → (tally.first ≡ None → first_whole grouped ≡ first_whole notes)
@@ -94,7 +94,7 @@ takes_some false old new shown_line notes same =
     let P : Page → Type 0 = λ p. AddsSome old p in
     subst P (sym same) ([], adds_none old)
 
--- ---- what was told stays
+-- ---- the output is kept
 
 more_written : (number : ℕ) (why : Why) (all more : List ℕ) → WritesFailure number why all → WritesFailure number why (all ++ more)
 more_written number why all more (before, words, subsequent, shown_line, is) =
@@ -131,7 +131,7 @@ keeps_some old new asked groups first some = λ excerpt written is shows.
       },
     )
 
--- what changes neither the failures nor what is told, but for more behind it
+-- A change that leaves the failures and the output as they are, except for appended output.
 pub keeps_on : (old new : Report) → new.window ≡ old.window → new.groups ≡ old.groups → new.tally.first ≡ old.tally.first
     → (old.window.excerpt.form ≡ Text → AddsSome old.page new.page) → KeepsShown old new
 keeps_on old new window groups first some =
@@ -146,7 +146,7 @@ keeps_page old new window groups first page =
 pub keeps_then : (old mid new : Report) → KeepsShown old mid → KeepsShown mid new → KeepsShown old new
 keeps_then old mid new one other = λ excerpt written is shows. other excerpt written is (one excerpt written is shows)
 
--- ---- a line is told
+-- ---- output of a line
 
 first_failing : (notes : List Note) (why : Why) → first_why notes ≡ Some why → (failing : Failing) × (first_whole notes ≡ Some failing) × (failing.why ≡ why)
 first_failing [] why is = absurd cc
@@ -159,7 +159,7 @@ at_end written text before words =
     ap (λ l. written ++ l) (sym (append_assoc text before words)) ∙ sym (append_assoc written (text ++ before) words)
     ∙ sym (append-nil (written ++ (text ++ before) ++ words))
 
--- behind lines of which no failure was counted
+-- The output is kept after lines without a counted failure, if a failure is annotated.
 emits_new : (old new : Report) (notes : List Note) (shown_line : ExplainedLine) (why : Why) (between : Bool) → is_between old.window.excerpt shown_line.number ≡ between
     → first_why notes ≡ Some why → new.tally.first ≡ failed_at shown_line.number (Some why) → old.tally.first ≡ None
     → (NoneBefore old.tally old.groups → WritesFirst old.window.excerpt old.tally notes shown_line old.page new.page)
@@ -198,7 +198,7 @@ emits_new old new notes shown_line why false between why_is first none emits som
       },
     )
 
--- where none is noted either
+-- The output is kept if no failure is annotated either.
 emits_none : (old new : Report) → new.tally.first ≡ None → (old.window.excerpt.form ≡ Text → AddsSome old.page new.page)
     → (NoneBefore old.tally old.groups → NoneBefore new.tally new.groups) → new.window.excerpt ≡ old.window.excerpt → KeepsShown old new
 emits_none old new first some groups asked = λ excerpt written is shows.
@@ -227,7 +227,7 @@ pub keeps_written : (old new : Report) (notes : List Note) (shown_line : Explain
     → new.window.excerpt ≡ old.window.excerpt → KeepsShown old new
 keeps_written old new notes shown_line = emits_by old new notes shown_line old.tally.first (first_why notes) refl refl
 
--- ---- what is told is written
+-- ---- the output is written
 
 pub nothing_shown : (excerpt : Excerpt) (report : Report) → report.window.excerpt ≡ excerpt → NoneBefore report.tally report.groups → report.tally.first ≡ None
     → HasEmitted report.page [] → ShowsWith excerpt report [] []
@@ -250,7 +250,7 @@ unjudged_first before tally lines (Some failed) is after some =
     let P : Option Failed → Type 0 = λ f. IsOfFirst (unjudged_by f) f in
     subst P (sym is) refl
 
--- ---- all that is told is written
+-- ---- all output is written
 
 pub all_written : (excerpt : Excerpt) (start old now : Option (List ℕ)) (report new : Report) (shown_line : List ℕ) → new.window ≡ report.window
     → new.groups ≡ report.groups → new.tally ≡ report.tally → ((text : List ℕ) → HasEmitted report.page text → shown_line ≡ text) → HasEmitted new.page []
@@ -279,7 +279,7 @@ more_shown excerpt start now old new keeps before = λ octets at is.
     let so_far = before octets at is in
     (so_far.0, keeps excerpt so_far.0 is ([], so_far.1), so_far.2)
 
--- the verdict is that of the first failure, which was told, and its own line follows
+-- The verdict is that of the first failure, which was written, and the verdict line follows.
 pub first_failure : (excerpt : Excerpt) (text : List ℕ) (start mid now : Option (List ℕ)) (report : Report) (verdict : Verdict) (last : List ℕ)
     → ((text : List ℕ) (one other : Verdict) → HasAuditVerdict text one → HasAuditVerdict text other → one ≡ other) → HasAuditVerdict text verdict
     → ((lines_of text ≡ [] → ⊥) → IsOfFirst verdict report.tally.first) → IsWritten excerpt start report mid → Grows mid now last

@@ -1,4 +1,4 @@
--- How what is known of the lines of a log grows with a line.
+-- How the state after the lines of a log changes with a line.
 use Rattle.std.proofs.Common.{◌≡◌, ◌<◌, ◌+◌, ◌-◌, ◌^◌, ◌++◌, inl, inr, min, ℕ, List, [], ◌∷◌, length, drop, get_or, Bool, true, false, Some, None, Ok, Err, refl, sym, ap, ◌∙◌, subst, arith, append_assoc, length-append, zero-add}
 use Rattle.std.proofs.lemmas.List.{append-nil, drop_more}
 use Rattle.std.proofs.lemmas.List.Sums.{sum_by-append}
@@ -32,7 +32,7 @@ use Rattle.cli_explain.specs.LinesProcessed.{IsShown, Tracks, TracksOrFails, Beg
 use Rattle.cli_explain.specs.AnnotatedFailure.{either, first_why, why_of, with_carried, FailsBy, IsCarried, LineFailsBy}
 use Rattle.hsms_log.specs.Step.{entry_by}
 
--- ---- notes
+-- ---- annotations
 
 pub first_why-push : (notes : List Note) (note : Note) → first_why (notes ++ note ∷ []) ≡ either (first_why notes) (first_why (note ∷ []))
 first_why-push [] note = refl
@@ -57,7 +57,7 @@ pub either_none : {A : Type 0} (one : Option A) → either one None ≡ one
 either_none None = refl
 either_none (Some x) = refl
 
--- the failures of one note more are counted
+-- The failures of one more annotation are counted.
 pub note_counted : (notes : List Note) (k : ℕ) (d : Note) (line : ℕ) (now next all : Option Failed) (why : Option Why) → k < length notes
     → why ≡ first_why (get_or notes k d ∷ []) → either now (failed_at line (first_why (drop k notes))) ≡ all → next ≡ either now (failed_at line why)
     → either next (failed_at line (first_why (drop (k + 1) notes))) ≡ all
@@ -68,7 +68,7 @@ note_counted notes k d line now next all why lt why_is so_far next_is =
     ap (λ n. either n (failed_at line rest)) next_is ∙ sym (either_assoc now (failed_at line why) (failed_at line rest))
     ∙ ap (either now) (sym (failed_either line why rest)) ∙ ap (λ w. either now (failed_at line w)) (sym here) ∙ so_far
 
--- where it is answered, and else too
+-- A fact that holds in any case holds if a value is returned.
 pub on_ok : {T E : Type 0} (X : Type 0) (r : Result T E) → X → OnOk r X
 on_ok X (Ok _) fact = fact
 on_ok X (Err _) fact = tt
@@ -81,7 +81,7 @@ pub on_ok_three : {T E : Type 0} (A B C D : Type 0) (r : Result T E) → (A → 
 on_ok_three A B C D (Ok _) more a b c = more a b c
 on_ok_three A B C D (Err _) more a b c = tt
 
--- what grows where it is answered
+-- Bytes that grow if a value is returned.
 pub on_ok_grown : {T E : Type 0} (r : Result T E) (new more old : List ℕ) → new ≡ (if is_ok r then more else old) → OnOk r (new ≡ more)
 on_ok_grown (Ok _) new more old is = is
 on_ok_grown (Err _) new more old is = tt
@@ -90,7 +90,7 @@ pub if_ok_more : {T E : Type 0} (P Q : T → Type 0) (r : Result T E) → ((x : 
 if_ok_more P Q (Ok x) more fact = more x fact
 if_ok_more P Q (Err _) more fact = tt
 
--- a lawful entry, of which no failure is noted
+-- A valid entry, for which no failure is annotated.
 pub valid_entry : (old mid new : CurrentState) (entry : Entry) (closed : Option Opening) (what : Checked) (before after : Option Why)
     → what ≡ check_result.Lawful closed → ChecksAs old entry mid what → new ≡ mid → after ≡ either before (why_of what) → before ≡ None → FailsBy old entry new after
 valid_entry old mid new entry closed what before after is gives_verdict same noted none =
@@ -143,7 +143,7 @@ fails_more lines line failed (n, is, few, fails) =
     let size = length-append lines (line ∷ []) in
     (n, is, omega (arith, few, size), onward lines (line ∷ []) n failed.why fails)
 
--- the next line fails after lines that don't
+-- The next line fails after lines that do not.
 pub fails_next : (before : List (List ℕ)) (line : List ℕ) (number : ℕ) (why : Why) → number ≡ counted (length before + 1) → FailsAfter before line why
     → FailsFirst (before ++ line ∷ []) (record { line = number; why = why })
 fails_next before line number why is fails =
@@ -155,7 +155,7 @@ fails_after : (s : Parameters) (log : List Entry) (before : List (List ℕ)) (li
 fails_after s log [] line why encoded_bytes run fails = absurd encoded_bytes
 fails_after s log (first ∷ others) line why encoded_bytes run fails = (s, log, record { encoded_bytes = encoded_bytes; run = run }, fails)
 
--- ---- what is shown of a line
+-- ---- the shown part of a line
 
 pub carried_shown : (max : ℕ) (line shown : List ℕ) (what : Carried) → IsShown (line_limit max) line shown → IsCarried max shown what → IsCarried max line what
 carried_shown max line shown what (inl same) is = let P : List ℕ → Type 0 = λ l. IsCarried max l what in subst P (sym same) is
@@ -172,7 +172,7 @@ pub unspelled_shown : (line shown : List ℕ) → IsShown settings_limit line sh
 unspelled_shown line shown (inl same) none s is = let P : List ℕ → Type 0 = λ l. EncodesSettings l s in none s (subst P same is)
 unspelled_shown line shown (inr long) none s is = let fits = is.fits in let over = long.0 in omega (arith, fits, over)
 
--- ---- a line that isn't the first
+-- ---- a line after the first
 
 abbrev pub next_progress : CurrentState → CurrentState
 next_progress repaired_session = record repaired_session { line = min (repaired_session.line + 1) (2 ^ 64 - 1) }
@@ -180,7 +180,7 @@ next_progress repaired_session = record repaired_session { line = min (repaired_
 at_next : (s : Parameters) (log placed : List Entry) (repaired_session : CurrentState) → HasProgress s log placed repaired_session → HasProgress s log placed (next_progress repaired_session)
 at_next s log placed repaired_session has = record { run = has.run; lines = has.lines; times = has.times }
 
--- the facts of a line: how it was judged, and what is counted
+-- The facts of a line: how it was checked, and what is counted.
 pub record LineFacts (old new : Known) (mid : CurrentState) (entries counts : Summary) (line : List ℕ) (what : Carried) : Type 0 where
   pub mid_is : mid ≡ next_progress old.repaired_session
   pub carries : IsCarried old.settings.max line what
@@ -199,7 +199,7 @@ mid_has old new mid entries counts line what log placed facts has =
     let P : CurrentState → Type 0 = λ c. HasProgress old.settings log placed c in
     subst P (sym facts.mid_is) (at_next old.settings log placed old.repaired_session has)
 
--- nothing fails
+-- If nothing fails, the log is still checked after the line.
 can_continue : (old new : Known) (mid : CurrentState) (entries counts : Summary) (before : List (List ℕ)) (line : List ℕ) (what : Carried)
     → LineFacts old new mid entries counts line what → LineFailsBy mid what new.repaired_session None → Tracks old entries before
     → Tracks new counts (before ++ line ∷ [])
@@ -235,7 +235,7 @@ can_continue old new mid entries counts before line carried.Nothing facts (none,
     )
 can_continue old new mid entries counts before line (carried.Unreadable reasoned) facts some tracks = absurd cc
 
--- it fails
+-- If the line fails, it fails after the lines before it.
 fails_so : (old new : Known) (mid : CurrentState) (entries counts : Summary) (before : List (List ℕ)) (line : List ℕ) (what : Carried) (why : Why)
     → LineFacts old new mid entries counts line what → LineFailsBy mid what new.repaired_session (Some why) → Tracks old entries before
     → FailsAfter before line why
@@ -260,7 +260,7 @@ follows_so old new mid entries counts before line what None (Some why) facts fai
     (number_of old new mid entries counts before line what facts after.4)
     (fails_so old new mid entries counts before line what why facts fails after)
 
--- a line that isn't the first
+-- A line after the first.
 pub later_follows : (old new : Known) (mid : CurrentState) (tally next : Tally) (before : List (List ℕ)) (line shown : List ℕ) (what : Carried) (number : ℕ) (why : Option Why)
     → mid ≡ next_progress old.repaired_session → IsShown (line_limit old.settings.max) line shown → IsCarried old.settings.max shown what
     → new.settings ≡ old.settings → new.repaired_session.line ≡ mid.line → number ≡ new.repaired_session.line → next.entries ≡ with_carried tally.entries what
@@ -279,13 +279,13 @@ later_follows old new mid tally next before line shown what number why mid_is is
     let Q : ℕ → Type 0 = λ n. MatchOption (either tally.first (failed_at n why)) (Tracks new next.entries lines) (FailsFirst lines) in
     subst P (sym first) (subst Q (sym number_is) (follows_so old new mid tally.entries next.entries before line what tally.first why facts fails after))
 
--- ---- a line where nothing is judged
+-- ---- a line of a log that is not checked
 
 unjudged_first : (known : Known) (tally : Tally) (line : List ℕ) → EncodesSettings line known.settings → HasProgress known.settings [] [] known.repaired_session
     → known.repaired_session.line ≡ 1 → tally.entries ≡ counts_of [] → Tracks known tally.entries (line ∷ [])
 unjudged_first known tally line encoded_bytes has number entries = ([], [], (encoded_bytes, refl), has, number, entries)
 
--- the first line, where it spells settings
+-- The first line, if it encodes settings.
 pub first_follows : (known : Known) (tally next : Tally) (so_far : ℕ) (before : List (List ℕ)) (line shown : List ℕ) (settings : Parameters) (first : Option Failed)
     → tally.first ≡ first → next.first ≡ either tally.first None → next.entries ≡ tally.entries
     → IsShown settings_limit line shown → EncodesSettings shown settings → known.settings ≡ settings → HasProgress settings [] [] known.repaired_session
@@ -305,7 +305,7 @@ first_follows known tally next so_far before line shown settings None first next
     let L : List (List ℕ) → Type 0 = λ l. Tracks known next.entries (l ++ line ∷ []) in
     subst P (sym is) (subst L (sym none) (unjudged_first known next line both.0 both.1 number (entries ∙ none_yet)))
 
--- the first line, where it spells none
+-- The first line, if it encodes no settings.
 pub first_fails : (tally next : Tally) (so_far number : ℕ) (before : List (List ℕ)) (line shown : List ℕ) (first : Option Failed)
     → tally.first ≡ first → next.first ≡ either tally.first (Some (record { line = 1; why = Unreadable }))
     → IsShown settings_limit line shown → ((s : Parameters) → EncodesSettings shown s → ⊥)
@@ -322,7 +322,7 @@ first_fails tally next so_far number before line shown None first next_is is_sho
     let L : List (List ℕ) → Type 0 = λ l. FailsFirst (l ++ line ∷ []) (record { line = 1; why = Unreadable }) in
     subst P (sym is) (subst L (sym no_line) (fails_next [] line 1 Unreadable refl (unspelled_shown line shown is_shown none, refl)))
 
--- a line behind it
+-- A line after an unreadable first line.
 pub further_fails : (tally next : Tally) (so_far number : ℕ) (before : List (List ℕ)) (line : List ℕ) (first : Option Failed)
     → tally.first ≡ first → next.first ≡ either tally.first None → 0 < so_far
     → MatchOption first ((before ≡ []) × (so_far ≡ 0) × (tally.entries ≡ counts_of [])) (FailsFirst before) → BeginsOrFails number next (before ++ line ∷ [])

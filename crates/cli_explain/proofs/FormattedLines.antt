@@ -1,4 +1,4 @@
--- What was told of an input.
+-- The output for an input.
 use Rattle.std.proofs.Common.{◌≡◌, ◌≤◌, ◌<◌, ◌+◌, ◌^◌, ◌++◌, ℕ, Bool, List, [], Some, Ok, Err, refl, sym, ◌∙◌, ap, subst, length, take, drop, append_assoc, length-append, take-append-drop, codes, inl, inr, get_or, arith, ◌≢◌}
 use Rattle.std.specs.Prelude.{Option, Result, IfOk, IfErr, OnErr}
 use Rattle.std.proofs.lemmas.List.{append-nil}
@@ -52,14 +52,14 @@ pub concludes_after : (form : OutputFormat) (text : List ℕ) (passes : Bool) (o
     → Concludes form text passes mid new → Concludes form text passes old new
 concludes_after form text passes old mid new before shown_line = (shown_line.0, shown_line.1, shown_line.2, ends_following form old mid new shown_line.0 before shown_line.3)
 
--- where the answer is a fault, and else too
+-- A fact that holds in any case holds if an error is returned.
 pub on_err : {T E : Type 0} (X : Type 0) (r : Result T E) → X → OnErr r X
 on_err X (Ok _) fact = tt
 on_err X (Err _) fact = fact
 
 -- ---- what was read
 
--- what was read of an input, of so many octets at most, is the text that was heard
+-- Holds if the bytes read of an input, at most this many, are the text that was processed.
 abbrev pub HasRead : Option (List ℕ) → ℕ → Explainer → Option (List ℕ) → Type 0
 HasRead old most explainer new =
     IfRecorded old (λ input. (text rest : List ℕ) × (input ≡ text ++ rest) × (new ≡ Some rest) × (length text ≤ most) × HasProcessed explainer text)
@@ -67,7 +67,7 @@ HasRead old most explainer new =
 pub none_read : (old : Option (List ℕ)) (explainer : Explainer) → HasProcessed explainer [] → HasRead old 0 explainer old
 none_read old explainer reception input shown_line = ([], input, refl, shown_line, omega arith, reception)
 
--- one read more
+-- The processed text grows with one more read.
 pub read_on : (old mid new : Option (List ℕ)) (n most next_most : ℕ) (buffer : List ℕ) (explainer next : Explainer) → HasRead old most explainer mid
     → Takes mid new n buffer → most + length (take n buffer) ≤ next_most
     → ((text : List ℕ) → HasProcessed explainer text → HasProcessed next (text ++ take n buffer)) → HasRead old next_most next new
@@ -87,12 +87,12 @@ read_on old mid new n most next_most buffer explainer next so_far takes fits on 
       on text before.5,
     )
 
--- a part of the input is left
+-- Part of the input is left.
 pub part_left : (old new : Option (List ℕ)) (most : ℕ) (explainer : Explainer) → HasRead old most explainer new → IfRecorded old (λ input. LeavesPart input new)
 part_left old new most explainer so_far input shown_line =
     let before = so_far input shown_line in (before.0, before.1, before.2, before.3)
 
--- and after one read more, whatever was heard of it
+-- Part of the input is left after one more read, however much of it was processed.
 pub less_left : (old mid new : Option (List ℕ)) (n most : ℕ) (buffer : List ℕ) (explainer : Explainer) → HasRead old most explainer mid
     → Takes mid new n buffer → IfRecorded old (λ input. LeavesPart input new)
 less_left old mid new n most buffer explainer so_far takes input shown_line =
@@ -106,13 +106,13 @@ less_left old mid new n most buffer explainer so_far takes input shown_line =
       step.2,
     )
 
--- or after one that failed
+-- Part of the input is left after a read that failed.
 pub same_left : (old mid new : Option (List ℕ)) (most : ℕ) (explainer : Explainer) → HasRead old most explainer mid → Stays mid new
     → IfRecorded old (λ input. LeavesPart input new)
 same_left old mid new most explainer so_far same input shown_line =
     let before = so_far input shown_line in (before.0, before.1, before.2, same before.1 before.3)
 
--- the end was found
+-- The end was found.
 pub all_read : (old mid new : Option (List ℕ)) (n most : ℕ) (buffer : List ℕ) (explainer : Explainer) → HasRead old most explainer mid
     → Takes mid new n buffer → n ≡ 0 → IsAtEnd mid → IfRecorded old (λ input. (length input ≤ most) × HasProcessed explainer input × (new ≡ Some []))
 all_read old mid new n most buffer explainer so_far takes none at_end input shown_line =
@@ -126,7 +126,7 @@ all_read old mid new n most buffer explainer so_far takes none at_end input show
     let both = subst P whole (before.4, before.5) in
     (both.0, both.1, step.2 ∙ ap (λ k. Some (drop k rest)) none ∙ ap (λ l. Some l) rest_is)
 
--- ---- the answers
+-- ---- the results
 
 pub stops_early : (form : OutputFormat) (input : List ℕ) (fault : ToolFault) (left : Option (List ℕ)) (ended : Type 0) (old new : Option (List ℕ))
     → IsOfExplaining fault → LeavesPart input left → GrowsBySome old new → ExplainsTo form input (Err fault) left ended old new
@@ -144,7 +144,7 @@ wider (Refused words) word = absurd word
 wider (Device word) is = inr (inl is)
 wider Memory word = tt
 
--- what is told behind the lines, at the end of the input
+-- The output after the lines, at the end of the input.
 pub concluded : (form : OutputFormat) (input : List ℕ) (r : Result Bool ToolFault) (explainer : Explainer) (left : Option (List ℕ)) (ended : Type 0) (old mid new : Option (List ℕ))
     → length input < 2 ^ 63 → HasProcessed explainer input → left ≡ Some [] → ended → GrowsBySome old mid
     → IfOk r (λ passes. (text : List ℕ) → length text < 2 ^ 63 → HasProcessed explainer text → Concludes form text passes mid new)
@@ -161,7 +161,7 @@ fault_wider (Err given) fault = wider given fault
 write_is_no_read : (given : List ℕ) → given ≡ codes "Write" → given ≢ codes "Read"
 write_is_no_read given w e = let first : ◌≡◌ {A = ℕ} 87 82 = ap (λ xs. get_or xs 0 0) (sym w ∙ e) in absurd (omega arith)
 
--- no read failed
+-- No read failed.
 pub reads_none : (r : Result Bool ToolFault) (n : ℕ) → IfErr r IsOfExplaining → CountsFailure (codes "Read") r n n
 reads_none (Ok passes) n fault = refl
 reads_none (Err (Refused words)) n fault = refl

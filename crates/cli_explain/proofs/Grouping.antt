@@ -1,4 +1,4 @@
--- How the notes of a line are told.
+-- How the annotations of a line are written.
 use Rattle.std.proofs.Common.{◌≡◌, ◌≤◌, ◌+◌, ◌++◌, inl, inr, ℕ, Bool, true, false, List, [], ◌∷◌, Some, None, refl, sym, ap, ◌∙◌, subst, arith, append_assoc, length, nat_eq}
 use Rattle.std.specs.Prelude.{Option, sum_by, if◌then◌else◌}
 use Rattle.std.proofs.lemmas.List.{append-nil}
@@ -10,7 +10,7 @@ use Rattle.cli_explain.specs.declared.phrases.FailureGroup.{FailureGroup}
 use Rattle.cli_explain.specs.FailureGroups.{Fault, IsReported, counted, fault_at, lines_of}
 use Rattle.cli_explain.specs.GroupedAnnotations.{AreGrouped, AreLike, EachIsReported, Joins, NoteIsReported, PutsNote, RepresentAll, Represents, failure_by, faults_with, first_whole, times_of}
 
--- ---- notes that stand for others
+-- ---- annotations that represent others
 
 represents_push : (shown_line each : List Note) (note : Note) → RepresentAll shown_line each → RepresentAll (shown_line ++ note ∷ []) (each ++ note ∷ [])
 represents_push [] each note none =
@@ -54,7 +54,7 @@ puts_apart old popped mid new last note was then_is is = record {
       subst P (sym is) (represents_push mid each note (subst Q (was ∙ sym then_is) consistent));
 }
 
--- ---- failures that are told by the same line
+-- ---- failures that refer to the same line
 
 like_same : (failure_group both : FailureGroup) (notes : List Note) → failure_group.why ≡ both.why → failure_group.line ≡ both.line → AreLike failure_group notes → AreLike both notes
 like_same failure_group both [] why line like = tt
@@ -100,7 +100,7 @@ joins last note failure_group other both last_is note_is why line both_why both_
       subst N (sym note_is) (joins_like last note failure_group other both last_is note_is why line both_why both_line times notes (subst L last_is consistent));
 }
 
--- ---- each note by itself
+-- ---- each annotation by itself
 
 faults_cons : (line : ℕ) (first : Note) (notes : List Note) (faults : List Fault) → faults_with line notes (faults_with line (first ∷ []) faults) ≡ faults_with line (first ∷ notes) faults
 faults_cons line (Closes closing) notes faults = refl
@@ -143,7 +143,7 @@ each_wider groups more line faults [] each wider shown_line = shown_line
 each_wider groups more line faults (note ∷ notes) each wider (one, rest, first, others, is) =
     (one, rest, note_wider groups more line faults note one wider first, each_wider groups more line (faults_with line (note ∷ []) faults) notes rest wider others, is)
 
--- one note more
+-- One more annotation.
 pub each_more : (groups more line : ℕ) (faults : List Fault) (notes all each : List Note) (note one : Note) → all ≡ notes ++ note ∷ [] → groups ≤ more
     → EachIsReported groups line faults notes each → NoteIsReported more line (faults_with line notes faults) note one → EachIsReported more line faults all (each ++ one ∷ [])
 each_more groups more line faults notes all each note one is wider shown_line last =
@@ -154,7 +154,7 @@ pub faults_more : (line : ℕ) (faults : List Fault) (notes all : List Note) (no
     → faults_with line (note ∷ []) (faults_with line notes faults) ≡ faults_with line all faults
 faults_more line faults notes all note is = faults_push line notes note faults ∙ ap (λ l. faults_with line l faults) (sym is)
 
--- ---- the first failure of all is told whole
+-- ---- the first failure of all is written in full
 
 one_line : (so : Bool) (line : ℕ) → length (if so then line ∷ [] else []) ≤ 1
 one_line true line = omega arith

@@ -1,11 +1,11 @@
--- A time that is halved again and again.
+-- A time that is halved repeatedly.
 use Rattle.std.proofs.Common.{◌≡◌, ◌≤◌, ◌<◌, ◌+◌, ◌-◌, ◌*◌, ◌/◌, ◌%◌, ◌^◌, ◌⊎◌, ℕ, true, false, suc, zero, inl, inr, refl, arith, nat_lt}
 use Rattle.std.proofs.Math.Nat.{mul-le-mul_left}
 use Rattle.std.proofs.lemmas.Bool.{lt-ltb, le-ltb}
 use native.Mathlib.Numerals.{unary_clauses}
 use Rattle.cli_explain.specs.Histogram.{time_at, IsNear}
 
--- the time lies at this number of units of a power of two, or less than a unit behind
+-- Holds if the time is this number of units of a power of two, or less than one unit more.
 pub record IsHalved (time rest halvings : ℕ) : Type 0 where
   pub low : rest * 2 ^ halvings ≤ time
   pub high : time < (rest + 1) * 2 ^ halvings
@@ -50,7 +50,7 @@ near_high time rest h place is some full small low high =
     let close : 128 * (time - rest * unit) ≤ time = omega (arith, most, low, high) in
     rw not_low (rw digits (rw times (low, close)))
 
--- the time at the place is near
+-- The time of the counter is near.
 pub near : (time rest halvings : ℕ) → rest < 256 → IsHalved time rest halvings → IsNear time (time_at (128 * halvings + rest))
 near time rest zero small is = near_plain time rest (128 * 0 + rest) (omega arith) small (omega (arith, is.low)) (omega (arith, is.high))
 near time rest (suc k) small is =
@@ -60,6 +60,6 @@ near time rest (suc k) small is =
       | inr full ↦ near_high time rest (suc k) (128 * suc k + rest) refl some full small is.low is.high
     ]
 
--- after 24 times it is below 256
+-- After 24 halvings the time is below 256.
 pub last_rest : (time rest : ℕ) → IsHalved time rest 24 → rest < 256
 last_rest time rest is = omega (arith, is.low, is.fits)

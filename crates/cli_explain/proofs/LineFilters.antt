@@ -1,4 +1,4 @@
--- Which lines come to the page.
+-- Filter of log lines: which lines are written.
 use Rattle.std.proofs.Common.{◌≡◌, ◌≤◌, ◌<◌, ◌+◌, ◌-◌, ◌++◌, ◌∙◌, ℕ, zero, suc, Bool, true, false, List, [], refl, sym, ap, arith, append_assoc}
 use Rattle.std.proofs.lemmas.Bool.{lt-ltb, le-ltb}
 use Rattle.cli_explain.specs.declared.annotation.Note.{Note}
@@ -21,7 +21,7 @@ follows page last number le = adds_is page page [] _ (sym (none_left last number
 pub leaves_out : (old new : Page) (last number : ℕ) → last + 1 < number → Adds old new gap_text → Adds old new (left_out last number)
 leaves_out old new last number lt adds = adds_is old new gap_text _ (sym (some_left last number lt)) adds
 
--- up to the line before a line, of which 0 has none
+-- Up to the line before a line; line 0 has none before it.
 number_after : (last number : ℕ) → left_out last (number - 1 + 1) ≡ left_out last number
 number_after last zero = rw (le-ltb (last + 1) 1 (omega arith), le-ltb (last + 1) 0 (omega arith)) refl
 number_after last (suc number) =
@@ -41,7 +41,7 @@ pub ends_with : (old mid new : Page) (last : ℕ) (shown_line : ExplainedLine) (
 ends_with old mid new last shown_line notes (before, some) (words, line, adds) =
     (before ++ left_out last shown_line.number, words, line, adds_is old new _ _ (sym (append_assoc before (left_out last shown_line.number) words)) (adds_then old mid new before _ some adds))
 
--- ---- a line is told, or held
+-- ---- a line is written, or buffered
 
 pub line_emitted : (now : Bool) (old mid new : Page) (last : ℕ) (shown_line : ExplainedLine) (notes : List Note) → now ≡ true → AddsSome old mid
     → WritesNext last mid new shown_line notes → TakesLine now old new shown_line notes

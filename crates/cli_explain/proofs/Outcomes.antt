@@ -1,4 +1,4 @@
--- What became of primaries, after one more deed.
+-- Outcomes of primaries, after one more event.
 use Rattle.std.proofs.Common.{◌≡◌, ◌+◌, ℕ, Bool, true, false, cond, nat_eq, List, [], ◌∷◌, Some, None, refl, sym, ◌∙◌, ap, subst, eqb-true, arith, length, add-one}
 use Rattle.std.specs.Prelude.{Option, unwrap_or, if◌then◌else◌}
 use Rattle.indexmap.specs.IndexMap.{IndexMap, get, Updates}
@@ -8,11 +8,11 @@ use Rattle.cli_explain.specs.declared.reply_stats.ReplyOutcome.TheVariants.{Answ
 use Rattle.cli_explain.specs.ReplyStats.{Deed, Opened, Closed, Reply, IsCounts, HasReplies, counts_at, no_counts, open_of, opened_of, replies_of, is_kind, has, FatesAddUp}
 
 module _ {T : Type 0} (kinds next : IndexMap ℕ Counts T) (kind : ℕ) (counts : Counts) (updates : Updates nat_eq kinds next kind (Some counts)) where
-  -- the counts of a kind, where these are the new ones of one
+  -- The counts of a kind, if the new counts of one kind are these.
   changed : (q : ℕ) (b : Bool) → nat_eq kind q ≡ b → counts_at next q ≡ unwrap_or (cond b (Some counts) (get nat_eq kinds q)) no_counts
   changed q b is = ap (λ o. unwrap_or o no_counts) (updates.0 q ∙ ap (λ c. cond c (Some counts) (get nat_eq kinds q)) is)
 
-  -- one more of the kind was opened
+  -- One more primary of the kind was opened.
   opened_kind : (deeds : List Deed) → ((q : ℕ) → IsCounts (opened_of q deeds) (replies_of q deeds) (counts_at kinds q))
       → IsCounts (opened_of kind deeds + 1) (replies_of kind deeds) counts
       → (q : ℕ) (b : Bool) → nat_eq kind q ≡ b
@@ -25,7 +25,7 @@ module _ {T : Type 0} (kinds next : IndexMap ℕ Counts T) (kind : ℕ) (counts 
       let Q : Counts → Type 0 = λ c. IsCounts (opened_of q deeds) (replies_of q deeds) c in
       subst Q (sym (changed q false is)) (each q)
 
-  -- one of the kind was closed
+  -- A primary of the kind was closed.
   closed_kind : (deeds : List Deed) (reply : Reply) → ((q : ℕ) → IsCounts (opened_of q deeds) (replies_of q deeds) (counts_at kinds q))
       → IsCounts (opened_of kind deeds) (reply ∷ replies_of kind deeds) counts
       → (q : ℕ) (b : Bool) → nat_eq kind q ≡ b
@@ -38,7 +38,7 @@ module _ {T : Type 0} (kinds next : IndexMap ℕ Counts T) (kind : ℕ) (counts 
       let Q : Counts → Type 0 = λ c. IsCounts (opened_of q deeds) (replies_of q deeds) c in
       subst Q (sym (changed q false is)) (each q)
 
--- a primary was opened
+-- A primary was opened.
 pub opened_more : {S T : Type 0} (deeds : List Deed) (open_now open_then : IndexMap ℕ ℕ S) (kinds next : IndexMap ℕ Counts T)
     (key kind : ℕ) (before counts : Counts) → HasReplies deeds open_now kinds → before ≡ counts_at kinds kind
     → ((opened : ℕ) (replies : List Reply) → IsCounts opened replies before → IsCounts (opened + 1) replies counts)
@@ -52,7 +52,7 @@ opened_more {S} {T} deeds open_now open_then kinds next key kind before counts h
       each_kind = λ q. opened_kind kinds next kind counts updates deeds has.each_kind more q (nat_eq kind q) refl;
     }
 
--- a primary that was open was closed
+-- A primary that was open was closed.
 pub closed_more : {S T : Type 0} (deeds : List Deed) (open_now open_then : IndexMap ℕ ℕ S) (kinds next : IndexMap ℕ Counts T)
     (key kind : ℕ) (reply_outcome : ReplyOutcome) (after line : ℕ) (before counts : Counts) → HasReplies deeds open_now kinds → before ≡ counts_at kinds kind
     → get nat_eq open_now key ≡ Some kind
@@ -71,7 +71,7 @@ closed_more {S} {T} deeds open_now open_then kinds next key kind reply_outcome a
           subst R (sym open_is) (closed_kind kinds next kind counts updates deeds reply has.each_kind more q (nat_eq kind q) refl);
     }
 
--- one more reply has one fate
+-- One more reply has exactly one outcome.
 one_more : (reply_outcome : ReplyOutcome) (a b c d n : ℕ) → a + b + c + d ≡ n
     → (if has Answered reply_outcome then a + 1 else a) + (if has Aborted reply_outcome then b + 1 else b) + (if has Expired reply_outcome then c + 1 else c)
     + (if has Rejected reply_outcome then d + 1 else d) ≡ n + 1

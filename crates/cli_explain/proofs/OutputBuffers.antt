@@ -1,4 +1,4 @@
--- What is laid on a page.
+-- Appending to the output buffer.
 use Rattle.std.proofs.Common.{◌≡◌, ◌+◌, ◌++◌, ℕ, true, false, List, [], ◌∷◌, Some, None, refl, sym, ap, ◌∙◌, subst, append_assoc, replicate}
 use Rattle.std.specs.Prelude.{Option, IfSome}
 use Rattle.std.proofs.lemmas.List.{append-nil, replicate_more}
@@ -32,7 +32,7 @@ some_then old mid new (one, first) (other, second) = (one ++ other, adds_then ol
 pub adds_is : (old new : Page) (one other : List ℕ) → one ≡ other → Adds old new one → Adds old new other
 adds_is old new one other is adds = let P : List ℕ → Type 0 = λ w. Adds old new w in subst P is adds
 
--- ---- a page that is refused
+-- ---- a buffer after a failed allocation
 
 pub adds_refused : (old new : Page) (words : List ℕ) → new.shown_line.is_refused ≡ true → new.block ≡ [] → Adds old new words
 adds_refused old new words refused none = record {
@@ -41,13 +41,13 @@ adds_refused old new words refused none = record {
       (all, λ kept. let other : true ≡ false = sym refused ∙ kept in absurd cc, sym (append-nil all) ∙ ap (λ b. all ++ b) (sym none));
 }
 
--- it takes each words
+-- After a failed allocation the buffer accepts any words.
 pub said_refused : (output : Option (List ℕ)) (old new : Page) → ((words : List ℕ) → Adds old new words)
     → (said : List ℕ) × IfSome output (λ words. said ≡ words) × Adds old new said
 said_refused None old new refused = ([], tt, refused [])
 said_refused (Some words) old new refused = (words, refl, refused words)
 
--- ---- what is told is put together, and let go
+-- ---- the output is collected, and dropped
 
 pub emitted_pending : (old new : Page) (text : List ℕ) → HasEmitted old text
     → ((given : List ℕ) → HasMemory old.shown_line given → HasMemory new.shown_line (given ++ old.block)) → new.block ≡ [] → HasEmitted new text
@@ -58,9 +58,9 @@ pub input_octets : (page : Page) (text octets : List ℕ) → page.block ≡ [] 
     → ((given : List ℕ) → HasMemory page.shown_line given → octets ≡ given) → octets ≡ text
 input_octets page text octets none (given, has, is) are = are given has ∙ sym (is ∙ ap (λ b. given ++ b) none ∙ append-nil given)
 
--- ---- notes
+-- ---- annotations
 
--- what the notes before said, and one more
+-- The words of the annotations so far, and of one more.
 pub notes_written_more : (notes : List Note) (note : Note) (words more : List ℕ) → NotesWritten notes words → NoteWritten note more → NotesWritten (notes ++ note ∷ []) (words ++ more)
 notes_written_more [] note words more none shown_line =
     let P : List ℕ → Type 0 = λ w. NotesWritten (note ∷ []) (w ++ more) in

@@ -1,4 +1,4 @@
--- How what is known of a text grows with its octets.
+-- How the state after a text changes with its next bytes.
 use Rattle.std.proofs.Common.{◌≡◌, ◌≢◌, ◌≤◌, ◌<◌, ◌+◌, ◌-◌, ◌++◌, inl, inr, min, ℕ, List, [], ◌∷◌, length, take, eqb, false, cond, true, Bool, None, refl, sym, ap, ◌∙◌, subst, arith, append_assoc, length-append}
 use Rattle.std.specs.Prelude.{Option, MatchOption, slice_index, ◌==◌}
 use Rattle.std.specs.Str.Lines.{strip_carriage_return}
@@ -20,9 +20,9 @@ use Rattle.cli_explain.specs.LinesProcessed.{HasProcessed, IsShown, ProcessedAft
 none_of : HasNone 10 []
 none_of = All-nil (λ x. eqb x 10 ≡ false)
 
--- ---- what is held of a line
+-- ---- the buffered part of a line
 
--- a front of a front that goes on is the front of the whole
+-- The prefix of a prefix that continues is the prefix of the complete line.
 held_more : (n : ℕ) (all part held : List ℕ) → held ≡ take n all
     → held ++ take (min (length part) (n - length held)) part ≡ take n (all ++ part)
 held_more n all part held is =
@@ -49,7 +49,7 @@ strip_go false line = omega arith
 strip-length : (line : List ℕ) → length line ≤ length (strip_carriage_return line) + 1
 strip-length line = strip_go (slice_index line (length line - 1) == 13) line
 
--- a front of a line that is too long is too long too
+-- A prefix of a line that is too long is too long too.
 front_long : (limit : ℕ) (whole : List ℕ) → limit + 2 ≤ length whole → IsShown limit (strip_carriage_return whole) (strip_carriage_return (take (limit + 2) whole))
 front_long limit whole long =
     let size = length-take (limit + 2) whole in
@@ -64,7 +64,7 @@ front_shown limit whole front is =
       | inr short ↦ inl (ap strip_carriage_return (sym (take_all (limit + 2) whole short)))
     ])
 
--- ---- the lines of a text that goes on
+-- ---- the lines of a text that continues
 
 held_none : (text part : List ℕ) → HasNone 10 part → HasNone 10 (open_line text ++ part)
 held_none text part none = All-append (λ x. eqb x 10 ≡ false) (open_line text) part (HasNone-open_line text) none
@@ -89,7 +89,7 @@ end_lines text part none =
       open_line-append text (part ++ 10 ∷ []) ∙ ap open_line joined ∙ open_line-first (open_line text ++ part) [] both ∙ open_line-none [] none_of,
     )
 
--- ---- what was heard
+-- ---- what was processed
 
 front_none : (n : ℕ) → ◌≡◌ {A = List ℕ} (take n []) []
 front_none n = take_all n [] (omega arith)
@@ -109,7 +109,7 @@ processed_none explainer none shown_line =
       few = omega (arith, ap length no_line);
     }
 
--- the line goes on
+-- The line continues.
 pub processed_part : (old new : Explainer) (text part : List ℕ) → HasNone 10 part → new.stage ≡ old.stage → new.report.tally ≡ old.report.tally
     → new.held.items ≡ old.held.items ++ take (min (length part) (limit_at old.stage + 2 - length old.held.items)) part
     → HasProcessed old text → HasProcessed new (text ++ part)
@@ -128,7 +128,7 @@ processed_part old new text part none stage tally held reception =
       few = omega (arith, reception.few, size, same);
     }
 
--- the line has ended
+-- The line has ended.
 pub processed_line : (old new : Explainer) (text part shown : List ℕ) → HasNone 10 part → new.held.items ≡ []
     → IsShown (limit_at old.stage) (strip_carriage_return (open_line text ++ part)) shown
     → ((before : List (List ℕ)) (real : List ℕ) → IsShown (limit_at old.stage) real shown → ProcessedAfter old.stage old.report.tally before
@@ -152,11 +152,11 @@ none_front : (n : ℕ) (all : List ℕ) → 0 < n → take n all ≡ [] → all 
 none_front n [] some is = refl
 none_front n (octet ∷ all) some is = let size = length-take n (octet ∷ all) in let none = ap length is in absurd (omega (arith, size, none, some))
 
--- where nothing is held no line goes on
+-- If nothing is buffered, no line is incomplete.
 pub nothing_open : (explainer : Explainer) (text : List ℕ) → explainer.held.items ≡ [] → HasProcessed explainer text → open_line text ≡ []
 nothing_open explainer text none reception = none_front (limit_at explainer.stage + 2) (open_line text) (omega arith) (sym reception.held ∙ none)
 
--- the held line has ended
+-- The buffered line has ended.
 pub processed_held : (old new : Explainer) (text shown : List ℕ) → shown ≡ strip_carriage_return old.held.items → new.held.items ≡ []
     → ((before : List (List ℕ)) (real : List ℕ) → IsShown (limit_at old.stage) real shown → ProcessedAfter old.stage old.report.tally before
     → ProcessedAfter new.stage new.report.tally (before ++ real ∷ []))
@@ -168,7 +168,7 @@ processed_held old new text shown shown_is held shown_line reception =
     processed_line old new text [] shown none_of held
     (subst P (sym (append-nil line)) (subst Q (sym shown_is) (front_shown (limit_at old.stage) line old.held.items reception.held))) shown_line reception
 
--- a line has ended that lies there whole
+-- A line has ended that is complete in the input.
 pub processed_complete : (old new : Explainer) (text part shown : List ℕ) → HasNone 10 part → old.held.items ≡ [] → new.held.items ≡ []
     → shown ≡ strip_carriage_return part
     → ((before : List (List ℕ)) (real : List ℕ) → IsShown (limit_at old.stage) real shown → ProcessedAfter old.stage old.report.tally before
@@ -178,7 +178,7 @@ processed_complete old new text part shown none empty held shown_is shown_line r
     processed_line old new text part shown none held
     (inl (ap (λ o. strip_carriage_return (o ++ part)) (nothing_open old text empty reception) ∙ sym shown_is)) shown_line reception
 
--- the end of the text, where it stands behind a line feed
+-- The end of the text, if it is after a line feed.
 pub ended_all : (explainer : Explainer) (text : List ℕ) → explainer.held.items ≡ [] → HasProcessed explainer text
     → ProcessedAfter explainer.stage explainer.report.tally (lines_of text) × (length (lines_of text) ≤ length text + 1)
 ended_all explainer text none reception =
@@ -191,7 +191,7 @@ last_line : (text : List ℕ) → text ≢ [] → last_lines text ≡ strip_carr
 last_line [] some = absurd (some refl)
 last_line (octet ∷ octets) some = refl
 
--- the end of the text, where a line goes on up to it
+-- The end of the text, if an incomplete line continues up to it.
 pub last_ended : (old new : Explainer) (text : List ℕ) → old.held.items ≢ [] → (HasProcessed old text → HasProcessed new (text ++ 10 ∷ [])) → HasProcessed old text
     → ProcessedAfter new.stage new.report.tally (lines_of text) × (length (lines_of text) ≤ length text + 1)
 last_ended old new text some next reception =

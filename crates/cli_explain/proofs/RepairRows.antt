@@ -1,4 +1,4 @@
--- Judgements in a row.
+-- Consecutive checks.
 use Rattle.std.proofs.Common.{◌≡◌, ◌<◌, ◌≤◌, ◌+◌, ◌++◌, inl, inr, ℕ, List, [], ◌∷◌, Some, None, refl, sym, ap, ◌∙◌, subst, arith, append_assoc, map, reverse, length, length-append, option_to_list}
 use Rattle.std.proofs.lemmas.List.{append-nil, map-append, reverse-append, length-map, length-reverse}
 use Rattle.std.specs.Prelude.{Option}
@@ -22,7 +22,7 @@ use Rattle.cli_explain.specs.RepairedSession.{CurrentState, HasProgress, ForEach
 use Rattle.cli_explain.specs.RepairSteps.{AreDone, AreChecked, IsChecked, LeadsBy, LeadsOn, Notes, NotesSay, NoteSays, StepsRepair, StepsOn, changed, entries_of, left_of, log_after, most_steps, next_after, put_of, put_with, recorded_of, recorded_with}
 use Rattle.hsms_log.specs.Step.{entry_by, entry_of_what}
 
--- ---- what a judgement puts, and what it tells
+-- ---- what a check appends, and what it records
 
 put_before : (check_result : Checked) (log : List Entry) (entry : Entry) (later : List Entry) → log_after check_result log entry ++ later ≡ log ++ put_with check_result entry later
 put_before (Lawful closed) log entry later = append_assoc log (entry ∷ []) later
@@ -36,7 +36,7 @@ recorded_further : (check_result : Checked) (more : List Entry) (one other : Lis
 recorded_further check_result [] one other = refl
 recorded_further check_result (entry ∷ more) one other = refl
 
--- ---- a row with one judgement more
+-- ---- one more check
 
 left_push : (check_result : List Checked) (one : Checked) (entries : List Entry) (entry : Entry) (more : List Entry) → left_of check_result entries ≡ entry ∷ more
     → left_of (check_result ++ one ∷ []) entries ≡ next_after one entry more
@@ -76,7 +76,7 @@ checked_push s log (first ∷ others) one (next ∷ entries) entry more is (firs
     let L : List Entry → Type 0 = λ l. IsChecked s l entry one in
     (first_so, checked_push s (log_after first log next) others one left entry more is others_so (subst L (sym (put_before first log next (put_of others left))) so))
 
--- ---- notes
+-- ---- annotations
 
 notes_then : (shown_line other : List Checked) (notes last : List Note) → NotesSay shown_line notes → NotesSay other last → NotesSay (shown_line ++ other) (notes ++ last)
 notes_then [] other notes last none says =
@@ -99,7 +99,7 @@ quiet_note before one is =
 pub one_note : (before after notes : List Note) (one : Checked) → NoteSays one notes → after ≡ before ++ notes → Notes before (one ∷ []) after
 one_note before after notes one says is = (notes, (notes, [], says, refl, sym (append-nil notes)), is)
 
--- ---- a course
+-- ---- a repaired session
 
 checked_next : (old new : CurrentState) (entry : Entry) (one : Checked) → ChecksAs old entry new one
     → ForEachProgress old (λ s log placed. IsChecked s log entry one
@@ -132,7 +132,7 @@ leads_push old mid new check_result one entries entry more line left leads gives
     let Q : List Entry → Type 0 = λ p. HasProgress s ((log ++ put) ++ last) p new in
     (checked_push s log check_result one entries entry more left so_far is, subst L log_is (subst Q placed_is next))
 
--- so many judgements were made of these entries, and others are left
+-- Holds if this number of checks was made of these entries, and others are left.
 pub record Stepped (old : CurrentState) (entries : List Entry) (before : List Note) (count : ℕ) (new : CurrentState) (left : List Entry) (after : List Note) : Type 0 where
   pub check_result : List Checked
   pub size : length check_result ≡ count
@@ -170,13 +170,13 @@ stepped_more old mid new entries before after last count entry left more next so
       line = line ∙ so_far.line;
     }
 
--- none is left
+-- The checks are done: no entry is left.
 pub stepped_none : (most : ℕ) (old new : CurrentState) (entries left : List Entry) (before after : List Note) (count : ℕ) → count ≤ most → left ≡ []
     → Stepped old entries before count new left after → LeadsOn most old entries before new after
 stepped_none most old new entries left before after count few none all =
     let size = all.size in (all.check_result, all.leads, all.noted, (omega (arith, size, few), inl (all.left_is ∙ none)))
 
--- there were as many as there are at most
+-- The checks are done: the maximum number was made.
 pub stepped_most : (most : ℕ) (old new : CurrentState) (entries left : List Entry) (before after : List Note) (count : ℕ) → count ≡ most
     → Stepped old entries before count new left after → LeadsOn most old entries before new after
 stepped_most most old new entries left before after count last all =
@@ -247,7 +247,7 @@ recorded_long (entry ∷ entries) one some = refl
 pub recorded_before : (text : List ℕ) (steps : List Step) (one : Checked) → 0 < length steps → recorded_with one (entries_of text steps) [] ≡ []
 recorded_before text steps one some = let size = steps-length text steps in recorded_long (entries_of text steps) one (omega (arith, size, some))
 
--- ---- what is judged next
+-- ---- what is checked next
 
 at_time : (time other : ℕ) (w : What) (text : List ℕ) → entry_of_what time w text ≡ entry_of_event time (entry_of_what other w text).event
 at_time time other (what.Frame mark header) text = refl
@@ -256,7 +256,7 @@ at_time time other (what.T3 system) text = refl
 at_time time other (what.Cut cause) text = refl
 at_time time other what.Down text = refl
 
--- the steps go on by the remedy
+-- Holds if the steps continue by the repair.
 abbrev pub ContinuesBy : RepairAction → Step → List Step → List Step → Type 0
 ContinuesBy repair_action step old new =
     (text : List ℕ) → entries_of text new ≡ changed (change_by repair_action (entry_by step text)) (entry_by step text) (entries_of text old)
@@ -341,7 +341,7 @@ steps_repair s log entry check_result so none =
     let P : List Entry → Type 0 = λ l. RepairedBy s log steps entry l in
     (steps, subst P (sym (split ∙ ap (λ l. one ++ l) nothing ∙ append-nil one)) entry_repaired)
 
--- ---- one judgement, behind which others are pending
+-- ---- one check before pending entries
 
 pub valid_steps : (old mid new : CurrentState) (entry : Entry) (closed : Option Opening) (one : Checked) (more : List Entry) (before after : List Note)
     → one ≡ Lawful closed → ChecksAs old entry mid one → new ≡ mid → Notes before (recorded_with one more []) after → StepsOn old entry more before new more after

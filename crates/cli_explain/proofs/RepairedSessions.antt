@@ -1,4 +1,4 @@
--- The course of a log that is gone on with.
+-- The repaired session of a log.
 use Rattle.std.proofs.Common.{◌≡◌, ◌≤◌, ◌++◌, ℕ, List, [], ◌∷◌, Some, None, Ok, inl, inr, sym, ◌∙◌, ap, subst, arith}
 use Rattle.std.specs.Prelude.{Option, Result, IfOk, IfSome}
 use Rattle.hsms_machine.specs.declared.entry.Entry.{Entry}
@@ -17,12 +17,12 @@ use Rattle.cli_explain.specs.declared.repaired_session.Checked.{Checked}
 use Rattle.cli_explain.specs.declared.repaired_session.Checked.TheVariants.{Lawful, Broken}
 use Rattle.cli_explain.specs.RepairedSession.{CurrentState, HasProgress, ForEachProgress, ProgressLeadsTo, Closes, Concerns, ConcernsSome, ChecksAs}
 
--- a lawful entry isn't before the last one
+-- A valid entry is not before the last one.
 pub not_before : (view : View) (entry : Entry) → IsBrokenAt view entry None → view.last_time ≤ entry.time
 not_before view entry (inl (applies, is)) = absurd cc
 not_before view entry (inr (late, others)) = omega (arith, late)
 
--- the settings of a course are those of its tracker
+-- The settings of a repaired session are those of its tracker.
 settings_of : (settings : Parameters) (log placed : List Entry) (repaired_session : CurrentState) → HasProgress settings log placed repaired_session → settings ≡ repaired_session.tracker.settings
 settings_of settings log placed repaired_session has = ap (λ (v : View). v.settings) has.run.seen
 
@@ -32,14 +32,14 @@ tracked settings log placed repaired_session has =
     let P : Parameters → Type 0 = λ s. HasView s log repaired_session.tracker in
     subst P (settings_of settings log placed repaired_session has) has.run
 
--- what the tracker says of an entry
+-- The rule that the tracker returns for an entry.
 pub broken_so : (repaired_session : CurrentState) (entry : Entry) (answer : Option Rule) → IsBrokenAfter repaired_session.tracker entry answer
     → ForEachProgress repaired_session (λ settings log placed. IsFirstBroken settings log entry answer)
 broken_so repaired_session entry answer broken settings log placed has =
     let P : Parameters → Type 0 = λ s. IsFirstBroken s log entry answer in
     subst P (sym (settings_of settings log placed repaired_session has)) (broken log (tracked settings log placed repaired_session has))
 
--- a lawful entry is taken in
+-- A valid entry is accepted.
 pub leads : (old new : CurrentState) (entry : Entry) (time : ℕ) → time ≡ entry.time → LeadsTo old.tracker entry new.tracker
     → IsBrokenAfter old.tracker entry None → PlacesLeadTo old.lines old.line entry new.lines
     → PlacesLeadTo old.times time entry new.times → ProgressLeadsTo old entry new
@@ -54,7 +54,7 @@ leads old new entry time is tracker is_valid lines times settings log placed has
       times = by_time log log has.times settings has.run.run broken;
     }
 
--- what an entry closes
+-- The transaction that an entry closes.
 pub closes_one : (repaired_session : CurrentState) (event : Event) (opening : Opening) → ClosesOneOpenedAt repaired_session.lines event opening.line
     → ClosesOneOpenedAt repaired_session.times event opening.time → Closes repaired_session event (Some opening)
 closes_one repaired_session event opening line time settings log placed has = (line log placed has.lines, time log log has.times)
@@ -68,7 +68,7 @@ closes_no_time repaired_session event none settings log placed has = none log lo
 abbrev pub current_state_of : View → View → View → ℕ → CurrentState
 current_state_of tracker lines times line = record { tracker = tracker; lines = lines; times = times; line = line }
 
--- ---- what a judge answers
+-- ---- the results of a check
 
 pub checks_valid : {E : Type 0} (old new : CurrentState) (entry : Entry) (answer : Option Rule) (closed : Option Opening) (r : Result Checked E)
     → r ≡ Ok (Lawful closed) → answer ≡ None → IsBrokenAfter old.tracker entry answer → (answer ≡ None → ProgressLeadsTo old entry new)

@@ -1,11 +1,11 @@
--- How many entries a log has, and of which kind.
+-- The number of entries of a log, by kind.
 use Rattle.std.specs.Prelude.{◌+◌, ℕ, Bool, List, length, count_by, if◌then◌else◌}
 use Rattle.hsms_machine.specs.declared.entry.Entry.{Entry}
 use Rattle.hsms_log.specs.declared.verdict.Summary.{Summary}
 use Rattle.hsms_log.specs.Verdict.{is_sent, is_taken, is_discarded, is_expired}
 use Rattle.cli_explain.specs.FailureGroups.{counted}
 
--- each count of the entries, up to its greatest value
+-- The counts of the entries, each limited to its maximum.
 abbrev pub counts_of : List Entry → Summary
 counts_of log = record {
   entries = counted (length log);
@@ -16,11 +16,11 @@ counts_of log = record {
   waiting = 0;
 }
 
--- a count, and one more where this is so
+-- The count, plus one if the condition holds.
 abbrev pub one_more : ℕ → Bool → ℕ
 one_more count so = if so then counted (count + 1) else count
 
--- the kind of one entry more
+-- The counts by kind, with one more entry.
 abbrev pub with_kind : Summary → Entry → Summary
 with_kind old entry = record {
   entries = old.entries;
@@ -31,6 +31,6 @@ with_kind old entry = record {
   waiting = old.waiting;
 }
 
--- one entry more
+-- The counts with one more entry.
 abbrev pub with_entry : Summary → Entry → Summary
 with_entry old entry = with_kind (record old { entries = counted (old.entries + 1) }) entry

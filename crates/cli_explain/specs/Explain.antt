@@ -1,4 +1,4 @@
--- What `hsms explain` answers to an input, and what it writes at least.
+-- The result of `hsms explain` for an input, and the minimum output.
 use Rattle.std.specs.Prelude.{◌≡◌, ◌++◌, ℕ, List, [], codes, Bool, Option, Some, Result, Ok, Err}
 use Rattle.hsms_frame.specs.Io.{IfRecorded}
 use Rattle.hsms_log.specs.Verdict.{HasAuditVerdict}
@@ -10,29 +10,31 @@ use Rattle.cli_output.specs.Verdict.{is_pass}
 use Rattle.cli_output.specs.IoErrors.{LeavesPart}
 use Rattle.cli_explain.specs.VerdictOutput.{ending_of}
 
--- something was written behind what was there before
+-- Holds if some bytes were appended to the earlier output.
 abbrev pub GrowsBySome : Option (List ℕ) → Option (List ℕ) → Type 0
 GrowsBySome old new = IfRecorded old (λ octets. (shown_line : List ℕ) × (new ≡ Some (octets ++ shown_line)))
 
--- and at last a verdict, in this form
+-- Holds if some bytes were appended to the earlier output, and at last a verdict in this format.
 abbrev pub EndsWithVerdict : OutputFormat → Option (List ℕ) → Option (List ℕ) → Verdict → Type 0
 EndsWithVerdict form old new verdict =
     IfRecorded old (λ octets. (shown_line : List ℕ) × (new ≡ Some (octets ++ shown_line ++ ending_of form verdict)))
 
--- the text has this verdict, which is the last thing that was written, and this says whether it is a pass
+-- Holds if the text has this verdict, the verdict is the last part of the output, and `passes` says whether it is a
+-- pass.
 abbrev pub Concludes : OutputFormat → List ℕ → Bool → Option (List ℕ) → Option (List ℕ) → Type 0
 Concludes form text passes old new =
     (verdict : Verdict) × HasAuditVerdict text verdict × (passes ≡ is_pass verdict) × EndsWithVerdict form old new verdict
 
--- The answers to an input in a form, each with what is left of it, whether its end was found, and what was written
--- before and is now: the log was read to its end and its verdict was told at last, or some of it was told.
+-- The results for an input in an output format. Each has the rest of the input, whether its end was found, and the
+-- output before and after. Either the log was read to its end and its verdict was written last, or part of the output
+-- was written.
 abbrev pub ExplainsTo : OutputFormat → List ℕ → Result Bool ToolFault → Option (List ℕ) → Type 0 → Option (List ℕ) → Option (List ℕ) → Type 0
 ExplainsTo form input (Ok passes) left ended old new = Concludes form input passes old new × (left ≡ Some []) × ended
 ExplainsTo form input (Err (Refused words)) left ended old new = ⊥
 ExplainsTo form input (Err (Device word)) left ended old new = LeavesPart input left × GrowsBySome old new
 ExplainsTo form input (Err Memory) left ended old new = LeavesPart input left × GrowsBySome old new
 
--- a fault of telling: a write failed, or memory is wanting
+-- An error of the output: a write or an allocation failed.
 abbrev pub IsOfExplaining : ToolFault → Type 0
 IsOfExplaining (Device word) = word.now ≡ codes "Write"
 IsOfExplaining (Refused words) = ⊥

@@ -1,4 +1,4 @@
--- What is alike in failures, as a number.
+-- Failure kinds: what similar failures have in common, as a number.
 use Rattle.std.specs.Prelude.{◌≡◌, ◌+◌, ◌*◌, ◌^◌, ℕ}
 use Rattle.hsms_frame.specs.Header.{IsHeader, kind_of}
 use Rattle.hsms_frame.specs.declared.header.Header.{Header}
@@ -25,13 +25,13 @@ kind_number Separate = 7
 kind_number OtherSType = 8
 kind_number OtherPType = 9
 
--- of data the stream with W, and the function
+-- For data, the stream with the W bit, and the function.
 abbrev pub detail_of : Kind → Header → ℕ
 detail_of Primary header = header.byte2 * 256 + header.byte3
 detail_of Reply header = header.byte2 * 256 + header.byte3
 detail_of kind header = 0
 
--- the session ID of a frame, its kind and its detail
+-- The session ID of a frame, its kind and its detail.
 abbrev pub frame_number : Header → ℕ
 frame_number header = (header.session * 16 + kind_number (kind_of header)) * 65536 + detail_of (kind_of header) header
 
@@ -46,7 +46,7 @@ cut_number T7 = 6
 cut_number T8 = 7
 cut_number Length = 8
 
--- which event it is, of a frame with its direction, and which frame
+-- The number of an event; for a frame, of its direction. The frame itself has a number of its own.
 abbrev pub event_number : What → ℕ
 event_number (Frame mark header) = mark_number mark
 event_number Up = 3
@@ -61,18 +61,18 @@ frame_of what = 0
 abbrev pub failure_kind_number : Rule → What → ℕ
 failure_kind_number rule what = ((rule_number rule + 1) * 16 + event_number what) * 2 ^ 36 + frame_of what
 
--- the header of a frame is one of ten octets
+-- Holds if the header of a frame is a header of ten bytes.
 abbrev pub IsInRange : What → Type 0
 IsInRange (Frame mark header) = IsHeader header
 IsInRange what = Unit {0}
 
--- failures of the same sort break the same rule, and have the same event and frame
+-- Failures of the same kind break the same rule, and have the same event and frame.
 abbrev pub SortsAreApart : Type 0
 SortsAreApart =
     (rule other : Rule) (what that : What) → IsInRange what → IsInRange that → failure_kind_number rule what ≡ failure_kind_number other that
     → (rule ≡ other) × (event_number what ≡ event_number that) × (frame_of what ≡ frame_of that)
 
--- frames of the same number have the same session ID, kind and detail
+-- Frames with the same number have the same session ID, kind and detail.
 abbrev pub FramesAreApart : Type 0
 FramesAreApart =
     (header other : Header) → IsHeader header → IsHeader other → frame_number header ≡ frame_number other

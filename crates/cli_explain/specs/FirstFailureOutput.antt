@@ -1,4 +1,4 @@
--- The first failure of a log is told, where its line is one of the excerpt.
+-- Output of the first failure of a log, if its line is within the selected range.
 use Rattle.std.specs.Prelude.{◌≡◌, ◌++◌, ℕ, List, [], true, Option, Some, None}
 use Rattle.hsms_frame.specs.Io.{IfRecorded}
 use Rattle.hsms_log.specs.declared.verdict.Verdict.{Verdict}
@@ -21,26 +21,26 @@ use Rattle.cli_explain.specs.TextOutput.{LineWritten}
 
 -- ---- in words
 
--- Words tell that the line of this number fails so: it stands behind its number, and below it its notes, of which the
--- first that tells a failure whole has this rule.
+-- Holds if the words are a line with this number, followed by its annotations. The first failure written in full among
+-- the annotations has this rule.
 abbrev pub FailureWritten : ℕ → Why → List ℕ → Type 0
 FailureWritten number why words =
     (shown_line : ExplainedLine) × (notes : List Note) × (failing : Failing) × (shown_line.number ≡ number) × (first_whole notes ≡ Some failing) × (failing.why ≡ why)
     × LineWritten shown_line notes words
 
--- such words are among these
+-- Holds if such words are part of these.
 abbrev pub WritesFailure : ℕ → Why → List ℕ → Type 0
 WritesFailure number why all =
     (before : List ℕ) × (words : List ℕ) × (subsequent : List ℕ) × FailureWritten number why words × (all ≡ before ++ words ++ subsequent)
 
--- they tell the first failure, if there is one, where its line is one of the excerpt
+-- Holds if the words contain the first failure, if there is one and its line is within the selected range.
 abbrev pub IsFirstWritten : Excerpt → Option Failed → List ℕ → Type 0
 IsFirstWritten excerpt None all = Unit {0}
 IsFirstWritten excerpt (Some failed) all = is_between excerpt failed.line ≡ true → WritesFailure failed.line failed.why all
 
--- ---- on the page, and written
+-- ---- buffered and written
 
--- of what was told so far the first part is written, and the page has the other
+-- The output so far: its first part is written, and the buffer has the rest.
 pub record ShowsWith (excerpt : Excerpt) (report : Report) (written text : List ℕ) : Type 0 where
   pub asked : report.window.excerpt ≡ excerpt
   pub groups : NoneBefore report.tally report.groups
@@ -50,29 +50,29 @@ pub record ShowsWith (excerpt : Excerpt) (report : Report) (written text : List 
 abbrev pub Shows : Excerpt → Report → List ℕ → Type 0
 Shows excerpt report written = (text : List ℕ) × ShowsWith excerpt report written text
 
--- what was told stays, and more may be told
+-- Holds if the output is kept; more may be appended.
 abbrev pub KeepsShown : Report → Report → Type 0
 KeepsShown old new = (excerpt : Excerpt) (written : List ℕ) → excerpt.form ≡ Text → Shows excerpt old written → Shows excerpt new written
 
--- behind what was there before, what was told is written, but for what the page has
+-- Holds if the output was appended to the earlier output, except for the part in the buffer.
 abbrev pub IsBeingWritten : Excerpt → Option (List ℕ) → Report → Option (List ℕ) → Type 0
 IsBeingWritten excerpt old report now =
     IfRecorded old (λ octets. excerpt.form ≡ Text → (written : List ℕ) × Shows excerpt report written × (now ≡ Some (octets ++ written)))
 
--- the same, and the page is empty
+-- Holds if all of the output was appended to the earlier output, and the buffer is empty.
 abbrev pub IsWritten : Excerpt → Option (List ℕ) → Report → Option (List ℕ) → Type 0
 IsWritten excerpt old report now =
     IfRecorded old (λ octets. excerpt.form ≡ Text → (written : List ℕ) × ShowsWith excerpt report written [] × (now ≡ Some (octets ++ written)))
 
 -- ---- at the end
 
--- the verdict is that of the first failure, if it isn't a pass
+-- Holds if the verdict is a pass, or that of the first failure.
 abbrev pub IsOfFirst : Verdict → Option Failed → Type 0
 IsOfFirst (Pass summary) first = Unit {0}
 IsOfFirst (Fail line why) first = first ≡ Some (record { line = line; why = why })
 
--- Where the text has a line, and its verdict names one of the excerpt, what was written behind what was there before tells
--- this line, and below it the failure.
+-- Holds if the bytes appended to the earlier output contain the line that the verdict names, and below it the failure.
+-- It requires that the text has a line, and that the named line is within the selected range.
 abbrev pub WritesFirstFailure : Excerpt → List ℕ → Option (List ℕ) → Option (List ℕ) → Type 0
 WritesFirstFailure excerpt text old new =
     (line : ℕ) (why : Why) → HasAuditVerdict text (Fail line why) → excerpt.form ≡ Text → (lines_of text ≡ [] → ⊥) → is_between excerpt line ≡ true

@@ -1,4 +1,4 @@
--- The words that stand below a line.
+-- Phrases below a line.
 use Rattle.std.specs.Prelude.{◌≡◌, ◌⊎◌, ℕ, List, [], ◌++◌, codes, decimal, nat_lt, if◌then◌else◌}
 use Rattle.hsms_log.specs.declared.verdict.Why.{Why}
 use Rattle.hsms_log.specs.declared.verdict.Why.TheVariants.{Unreadable, Broken}
@@ -18,28 +18,34 @@ tie_word Answers = codes "answers"
 tie_word Rejects = codes "rejects"
 tie_word Expires = codes "expires"
 
--- the line that opened what an entry closes, and after how many ms
+-- The start of the phrase for an entry that closes a transaction.
+abbrev pub closing_word : Tie → List ℕ
+closing_word Answers = codes "answers"
+closing_word Rejects = codes "rejects"
+closing_word Expires = codes "T3 timeout of"
+
+-- The line that opened the transaction that an entry closes, and the ms since then.
 abbrev pub closing_text : Closing → List ℕ
-closing_text c = tie_word c.tie ++ codes " line " ++ decimal c.line ++ codes " after " ++ decimal c.after ++ codes " ms"
+closing_text c = closing_word c.tie ++ codes " line " ++ decimal c.line ++ codes " after " ++ decimal c.after ++ codes " ms"
 
 abbrev pub concern_text : Concern → List ℕ
-concern_text c = codes "concerns line " ++ decimal c.line
+concern_text c = codes "open transaction: line " ++ decimal c.line
 
 abbrev pub why_name : Why → List ℕ
 why_name Unreadable = codes "unreadable"
 why_name (Broken rule) = rule_name rule
 
--- what is said of a rule, and of a primary of stream 9 with the W bit
+-- Holds if this is the text of a rule, or that of a stream 9 primary with the W bit.
 abbrev pub SaysRule : Rule → List ℕ → Type 0
 SaysRule rule words =
-    (words ≡ sentence_of rule) ⊎ ((rule ≡ WBit) × (words ≡ codes "a primary of stream 9 that asks for a reply"))
+    (words ≡ sentence_of rule) ⊎ ((rule ≡ WBit) × (words ≡ codes "the W bit is set in a stream 9 message"))
 
--- the line by which failures are told, and how many
+-- The line to which similar failures refer, and their number.
 abbrev pub group_text : FailureGroup → List ℕ
 group_text a =
-    codes "FAIL " ++ why_name a.why ++ codes ": like line " ++ decimal a.line ++ (if nat_lt 1 a.times then codes ", " ++ decimal a.times ++ codes " times" else [])
+    codes "FAIL " ++ why_name a.why ++ codes ": same as line " ++ decimal a.line ++ (if nat_lt 1 a.times then codes " (" ++ decimal a.times ++ codes " times)" else [])
 
--- how many more there are, and up to which line
+-- The number of further failures, and the line of the last.
 abbrev pub rest_text : Rest → List ℕ
 rest_text r =
-    why_name r.why ++ codes ": and " ++ decimal r.count ++ codes " more like line " ++ decimal r.line ++ codes ", up to line " ++ decimal r.last
+    why_name r.why ++ codes ": " ++ decimal r.count ++ codes " more like line " ++ decimal r.line ++ codes ", the last at line " ++ decimal r.last

@@ -1,4 +1,4 @@
--- The log that is gone on with behind each failure, line by line.
+-- The repaired log, line by line: the log as it continues after each failure.
 use Rattle.std.specs.Prelude.{◌≡◌, ◌+◌, ◌⊎◌, codes, ℕ, List, [], ◌∷◌, ◌++◌, Option, Some, None, map, length}
 use Rattle.hsms_machine.specs.declared.entry.Entry.{Entry}
 use Rattle.hsms_machine.specs.OpeningLines.{at_place}
@@ -19,34 +19,36 @@ use Rattle.cli_explain.specs.RepairedSession.{CurrentState, HasProgress}
 use Rattle.cli_explain.specs.RepairSteps.{RepairsEntry}
 use Rattle.hsms_log.specs.Step.{entry_by}
 
--- that a line can't be read is noted, and why
+-- Holds if an annotation records that a line is unreadable, and why.
 abbrev pub NotesUnreadable : Reasoned → List Note → List Note → Type 0
 NotesUnreadable reasoned before after =
-    (failing : Failing) × (failing.why ≡ Unreadable) × (failing.sentence.now ≡ codes "it can't be read")
+    (failing : Failing) × (failing.why ≡ Unreadable) × (failing.sentence.now ≡ codes "not a valid log line")
     × (failing.expected ≡ Some (Form reasoned)) × (after ≡ before ++ Fails failing ∷ [])
 
--- the course goes on with what a line carries, and this is noted of it
+-- Holds if the repaired session continues with the content of a line, and these are its annotations.
 abbrev pub RepairsLine : CurrentState → Carried → CurrentState → List Note → Type 0
 RepairsLine old (carried.Entry step text) new notes = RepairsEntry old (entry_by step text.now) [] new notes
 RepairsLine old carried.Nothing new notes = (new ≡ old) × (notes ≡ [])
 RepairsLine old (carried.Unreadable reasoned) new notes = (new ≡ old) × NotesUnreadable reasoned [] notes
 
--- The line puts this behind the log: what stands in place of its entry where the log is repaired, and nothing where it
--- carries no entry or can't be read.
+-- Holds if the line appends these entries to the log: those that replace its entry in the repaired log, and none if it
+-- has no entry or is unreadable.
 abbrev pub LinePuts : Parameters → List Entry → List ℕ → List Entry → Type 0
 LinePuts settings log line put =
     (Carries settings.max line None × (put ≡ []))
     ⊎ (((what : Option Entry) → Carries settings.max line what → ⊥) × (put ≡ []))
     ⊎ ((entry : Entry) × (steps : Steps) × Carries settings.max line (Some entry) × RepairedBy settings log steps entry put)
 
--- the lines, the first of which has this number, put `after` behind the log, each entry at the number of its line
+-- Holds if the lines, the first of which has this number, append `after` to the log, each entry with the number of its
+-- line.
 abbrev pub LinesPut : Parameters → ℕ → List Entry → List (List ℕ) → List Entry → List Entry → Type 0
 LinesPut settings number log [] after placed = (after ≡ []) × (placed ≡ [])
 LinesPut settings number log (line ∷ lines) after placed =
     (put : List Entry) × (rest : List Entry) × (places : List Entry) × LinePuts settings log line put × (after ≡ put ++ rest)
     × (placed ≡ map (at_place (counted number)) put ++ places) × LinesPut settings (number + 1) (log ++ put) lines rest places
 
--- the first of the lines spells the settings, and this is the course of the log that the others put
+-- Holds if the first of the lines encodes the settings, and this is the repaired session of the log that the other
+-- lines append.
 abbrev pub ContinuesWith : Known → List (List ℕ) → Type 0
 ContinuesWith known [] = ⊥
 ContinuesWith known (first ∷ lines) =
@@ -55,7 +57,7 @@ ContinuesWith known (first ∷ lines) =
 
 -- ---- law
 
--- the line carries these entries: one, or none where it is blank or can't be read
+-- Holds if the line has these entries: one, or none if it is blank or unreadable.
 abbrev pub LineCarries : ℕ → List ℕ → List Entry → Type 0
 LineCarries max line entries =
     (Carries max line None × (entries ≡ []))
@@ -67,7 +69,7 @@ LinesCarry max [] entries = entries ≡ []
 LinesCarry max (line ∷ lines) entries =
     (one : List Entry) × (rest : List Entry) × LineCarries max line one × LinesCarry max lines rest × (entries ≡ one ++ rest)
 
--- the log that is gone on with is the one that is read, repaired
+-- The log with which the audit continues is the log that was read, repaired.
 abbrev pub LinesAreRepaired : Type 0
 LinesAreRepaired =
     (settings : Parameters) (number : ℕ) (lines : List (List ℕ)) (after placed : List Entry) → LinesPut settings number [] lines after placed

@@ -1,4 +1,4 @@
--- What became of the primaries that asked for a reply.
+-- Outcomes of the primaries that request a reply.
 use Rattle.std.specs.Prelude.{◌≡◌, ◌+◌, ◌-◌, ◌^◌, ◌&&◌, ℕ, min, Bool, true, false, nat_eq, nat_le, List, [], ◌∷◌, length, Option, Some, None, unwrap_or, if◌then◌else◌}
 use Rattle.indexmap.specs.IndexMap.{IndexMap, get}
 use Rattle.cli_explain.specs.FailureGroups.{counted}
@@ -6,20 +6,20 @@ use Rattle.cli_explain.specs.declared.reply_stats.Counts.{Counts}
 use Rattle.cli_explain.specs.declared.reply_stats.ReplyOutcome.{ReplyOutcome}
 use Rattle.cli_explain.specs.declared.reply_stats.ReplyOutcome.TheVariants.{Answered, Aborted, Expired, Rejected}
 
--- What happened, by numbers: a primary of a kind was opened under a key, of its direction and system bytes; what is open
--- under a key was closed, after so many ms, at a line; each connection before was ended.
+-- An event, in numbers. A primary of a kind is opened under a key, made of its direction and system bytes. The primary
+-- that is open under a key is closed, after a number of ms, at a line. All earlier connections are ended.
 pub data Deed : Type 0 where
   Opened : (key kind : ℕ) → Deed
   Closed : (key : ℕ) (reply_outcome : ReplyOutcome) (after line : ℕ) → Deed
   Ended : Deed
 
--- what was closed, after so many ms, at a line
+-- A closing, after a number of ms, at a line.
 pub record Reply : Type 0 where
   pub reply_outcome : ReplyOutcome
   pub after : ℕ
   pub line : ℕ
 
--- the kind of the primary that is open under the key, behind these deeds, the newest first
+-- The kind of the primary that is open under the key after these events, newest first.
 abbrev pub open_of : ℕ → List Deed → Option ℕ
 open_of key [] = None
 open_of key (Opened other kind ∷ deeds) = if nat_eq other key then Some kind else open_of key deeds
@@ -30,14 +30,14 @@ abbrev pub is_kind : Option ℕ → ℕ → Bool
 is_kind (Some other) kind = nat_eq other kind
 is_kind None kind = false
 
--- how many primaries of a kind were opened
+-- The number of opened primaries of a kind.
 abbrev pub opened_of : ℕ → List Deed → ℕ
 opened_of kind [] = 0
 opened_of kind (Opened key other ∷ deeds) = if nat_eq other kind then opened_of kind deeds + 1 else opened_of kind deeds
 opened_of kind (Closed key reply_outcome after line ∷ deeds) = opened_of kind deeds
 opened_of kind (Ended ∷ deeds) = opened_of kind deeds
 
--- what was closed of a kind, the newest first
+-- The closings of primaries of a kind, newest first.
 abbrev pub replies_of : ℕ → List Deed → List Reply
 replies_of kind [] = []
 replies_of kind (Opened key other ∷ deeds) = replies_of kind deeds
@@ -52,29 +52,29 @@ has Expired Expired = true
 has Rejected Rejected = true
 has reply_outcome other = false
 
--- how many of them have this fate
+-- The number of closings with this outcome.
 abbrev pub count_of : ReplyOutcome → List Reply → ℕ
 count_of reply_outcome [] = 0
 count_of reply_outcome (reply ∷ replies) = if has reply_outcome reply.reply_outcome then count_of reply_outcome replies + 1 else count_of reply_outcome replies
 
--- each of them has one fate
+-- Each closing has exactly one outcome.
 abbrev pub FatesAddUp : Type 0
 FatesAddUp =
     (replies : List Reply)
     → count_of Answered replies + count_of Aborted replies + count_of Expired replies + count_of Rejected replies ≡ length replies
 
--- the least time of those that were answered
+-- The minimum time of the answered ones.
 abbrev pub least_of : List Reply → ℕ
 least_of [] = 2 ^ 64 - 1
 least_of (reply ∷ replies) = if has Answered reply.reply_outcome then min reply.after (least_of replies) else least_of replies
 
--- the greatest one, with the line of the last reply that took it
+-- The maximum time of the answered ones, and the line of the last reply that took that long.
 abbrev pub longest_of : List Reply → ℕ × ℕ
 longest_of [] = (0, 0)
 longest_of (reply ∷ replies) =
     if has Answered reply.reply_outcome && nat_le (longest_of replies).0 reply.after then (reply.after, reply.line) else longest_of replies
 
--- the counts of so many primaries, of which these were closed
+-- The counts of `primaries` primaries, of which these were closed.
 pub record IsCounts (primaries : ℕ) (replies : List Reply) (counts : Counts) : Type 0 where
   pub opened : counts.opened ≡ counted primaries
   pub answered : counts.answered ≡ counted (count_of Answered replies)
@@ -85,14 +85,14 @@ pub record IsCounts (primaries : ℕ) (replies : List Reply) (counts : Counts) :
   pub greatest : counts.greatest ≡ (longest_of replies).0
   pub line : counts.line ≡ (longest_of replies).1
 
--- before any primary
+-- The counts before any primary.
 abbrev pub no_counts : Counts
 no_counts = record { opened = 0; answered = 0; aborted = 0; expired = 0; rejected = 0; least = 2 ^ 64 - 1; greatest = 0; line = 0 }
 
 abbrev pub counts_at : {S : Type 0} → IndexMap ℕ Counts S → ℕ → Counts
 counts_at counts kind = unwrap_or (get nat_eq counts kind) no_counts
 
--- what is open, and the counts of each kind, are those of the deeds, the newest first
+-- Holds if the open primaries, and the counts of each kind, are those of the events, newest first.
 pub record HasReplies {S T : Type 0} (deeds : List Deed) (open_now : IndexMap ℕ ℕ S) (kinds : IndexMap ℕ Counts T) : Type 0 where
   pub still_open : (key : ℕ) → get nat_eq open_now key ≡ open_of key deeds
   pub each_kind : (kind : ℕ) → IsCounts (opened_of kind deeds) (replies_of kind deeds) (counts_at kinds kind)

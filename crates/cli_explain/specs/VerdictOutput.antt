@@ -1,4 +1,4 @@
--- The verdict, as the last thing that is told.
+-- The verdict, the last part of the output.
 use Rattle.std.specs.Prelude.{ℕ, List, ◌++◌, codes, decimal}
 use Rattle.hsms_log.specs.declared.verdict.Summary.{Summary}
 use Rattle.hsms_log.specs.declared.verdict.Why.{Why}
@@ -10,18 +10,18 @@ use Rattle.cli_options.specs.declared.explain_options.OutputFormat.TheVariants.{
 use Rattle.cli_output.specs.Verdict.{verdict_line_of}
 use Rattle.cli_explain.specs.Phrases.{why_name}
 
--- ---- as an object of JSON (RFC 8259), in a line
+-- ---- as a JSON object (RFC 8259) on one line
 
--- a member whose value is a number, behind the name and what stands before it
+-- A member with a number, after its name and the characters before it.
 abbrev pub member_of : List ℕ → ℕ → List ℕ
 member_of name number = name ++ decimal number
 
--- the log passes, and this is what it holds
+-- The object of a pass, with the counts of the log.
 abbrev pub pass_object_of : Summary → List ℕ
 pass_object_of s =
     codes "{\"type\":\"verdict\",\"verdict\":\"pass\"" ++ counts_text (codes ",\"") (codes "\":") s ++ codes "}\n"
 
--- the log fails at a line, which breaks this rule or can't be read
+-- The object of a failure at a line, which breaks this rule or is unreadable.
 abbrev pub fail_object_of : ℕ → Why → List ℕ
 fail_object_of line why =
     codes "{\"type\":\"verdict\",\"verdict\":\"fail\"" ++ member_of (codes ",\"line\":") line
@@ -31,9 +31,9 @@ abbrev pub verdict_object_of : Verdict → List ℕ
 verdict_object_of (Pass summary) = pass_object_of summary
 verdict_object_of (Fail line why) = fail_object_of line why
 
--- ---- as a paragraph of HTML, in which the page ends
+-- ---- as a paragraph of HTML, which ends the page
 
--- what stands before the verdict: a mark of its colour
+-- The markup before the verdict, for its color.
 abbrev pub mark_of : Verdict → List ℕ
 mark_of (Pass summary) = codes "<p id=\"verdict\" class=\"pass\">"
 mark_of (Fail line why) = codes "<p id=\"verdict\" class=\"fail\">"
@@ -41,9 +41,9 @@ mark_of (Fail line why) = codes "<p id=\"verdict\" class=\"fail\">"
 abbrev pub page_end_of : Verdict → List ℕ
 page_end_of verdict = mark_of verdict ++ verdict_line_of verdict ++ codes "</p></section></body></html>\n"
 
--- ---- in each form
+-- ---- in each format
 
--- the verdict, with what stands behind it
+-- The verdict, with what follows it.
 abbrev pub ending_of : OutputFormat → Verdict → List ℕ
 ending_of Text verdict = verdict_line_of verdict
 ending_of Json verdict = verdict_object_of verdict

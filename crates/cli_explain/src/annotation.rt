@@ -1,4 +1,4 @@
-//! What is told of a line besides what it says.
+//! Annotations of a log line.
 
 ghost use Rattle.std.specs.Prelude.{◌≡◌, ◌≤◌, ◌∷◌, [], List, Some, IfOk, IfSome, OnOk, codes, true};
 ghost use Rattle.std.specs.List.{list_any};
@@ -17,22 +17,22 @@ use hsms_log::{Unreadable, Why};
 use hsms_machine::RepairAction;
 use std::alloc::AllocError;
 
-/// The words for a line that can't be read.
-pub const UNREADABLE: &str = "it can't be read";
+/// The text for an unreadable line.
+pub const UNREADABLE: &str = "not a valid log line";
 
-/// What is told of a line besides what it says.
+/// An annotation of a log line.
 #[derive(Clone, Copy)]
 pub enum Note {
-    /// It closes the transaction that another line opened.
+    /// The entry closes the transaction that another line opened.
     Closes(Closing),
-    /// It fails.
+    /// The line fails.
     Fails(Failing),
-    /// It fails as a line before it does.
+    /// The line fails like an earlier line.
     FailsInGroup(FailureGroup),
 }
 
 impl Note {
-    /// Why the line fails, where the note says so and it isn't told by another line.
+    /// Returns why the line fails. `None` if the annotation is no failure, or refers to the line of an earlier one.
     pub fn why(&self) -> Option<Why>
         ensures { result ≡ first_why (self.now ∷ []) }
     {
@@ -43,8 +43,8 @@ impl Note {
     }
 }
 
-/// Why a line fails, in words too, what is alike in such failures, the line that this concerns, what would have been
-/// right, and how the log is gone on with. One that can't be read is left out.
+/// A failure of a line. It has its failure kind (`sort`), rule and rule text, the line of the open transaction
+/// involved, a hint, and the repair. An unreadable line is skipped.
 #[derive(Clone, Copy)]
 pub struct Failing {
     pub sort: u64,
@@ -56,10 +56,10 @@ pub struct Failing {
 }
 
 impl Failing {
-    /// That a line cannot be read, and why.
+    /// Returns the failure of an unreadable line, with the reason.
     pub fn unreadable(unreadable: Unreadable) -> Failing
         ensures why { result.why ≡ CannotBeRead }
-        ensures sentence { result.sentence.now ≡ codes "it can't be read" }
+        ensures sentence { result.sentence.now ≡ codes "not a valid log line" }
         ensures expected { result.expected ≡ Some (Form unreadable) }
     {
         Failing {
@@ -72,23 +72,23 @@ impl Failing {
         }
     }
 
-    /// How the log is gone on with, where with `utc` times are told as dates.
+    /// Returns how the log continues. `utc` selects dates instead of times in ms.
     pub fn continuation(&self, utc: bool) -> Option<Continuation> {
         self.repair_action
             .map(|repair_action| Continuation { repair_action, utc })
     }
 
-    /// The line that what would have been right names.
+    /// Returns the line that the hint names.
     pub fn expected_line(&self) -> Option<u64> {
         self.expected?.line()
     }
 
-    /// What is put before the line, to go on with the log.
+    /// Returns the entry that the repair inserts before the line.
     pub fn put(&self) -> Option<Put> {
         Put::of(self.repair_action?)
     }
 
-    // The failure as it is told: whole, or by this line.
+    // Returns the failure in full, or as a reference to the line `like`.
     fn derived_from(self, like: Option<u64>) -> Note
         ensures { result ≡ failure_by self like }
     {
@@ -103,15 +103,15 @@ impl Failing {
     }
 }
 
-/// Whether the line of these notes fails in a way that is told whole.
+/// Returns whether one of the annotations is a failure written in full.
 pub fn has_failure(notes: &[Note]) -> bool
     ensures { result ≡ list_any is_whole notes.now }
 {
     notes.iter().any(|note| matches!(note, Note::Fails(_)))
 }
 
-/// Puts the notes of a line in the way in which they are told: what fails as failures before it do by the line of the
-/// first of these.
+/// Replaces `grouped` with the annotations of a line as they are written: a failure that is like earlier failures
+/// refers to the line of the first of them.
 pub fn group_notes(
     groups: &mut Groups,
     notes: &[Note],
@@ -132,7 +132,7 @@ pub fn group_notes(
     Ok(())
 }
 
-// The note of a line as it is told. A failure is counted.
+// Returns an annotation as it is written. A failure is counted.
 fn reported_note(groups: &mut Groups, note: Note, line: u64) -> Result<Note, AllocError>
     ensures groups { OnOk result ((faults : List Fault) → HasGroups faults groups.old.items
         → HasGroups (faults_with line (note ∷ []) faults) groups.new.items) }
@@ -150,7 +150,7 @@ fn reported_note(groups: &mut Groups, note: Note, line: u64) -> Result<Note, All
     }
 }
 
-// Puts a note behind those that are told. What is told by the same line as the last one is counted with it.
+// Appends an annotation. If it refers to the same line as the last one, both are counted in one.
 #[tactic(auto, using(crate::proofs::Grouping::puts_first, crate::proofs::Grouping::puts_joined, crate::proofs::Grouping::puts_apart))]
 fn put_note(grouped: &mut Vec<Note>, note: Note) -> Result<(), AllocError>
     ensures { OnOk result (PutsNote grouped.old.items note grouped.new.items) }
@@ -169,7 +169,7 @@ fn put_note(grouped: &mut Vec<Note>, note: Note) -> Result<(), AllocError>
     Ok(())
 }
 
-// Two notes as one, where both tell failures by the same line.
+// Returns both annotations as one if both refer to the line of the same earlier failure.
 fn joined(last: Note, note: Note) -> Option<Note>
     ensures { IfSome result (Joins last note) }
 {
@@ -189,7 +189,7 @@ fn joined(last: Note, note: Note) -> Option<Note>
     None
 }
 
-// Whether failures are told by the same line.
+// Returns whether two failures refer to the same line.
 fn are_same_group(one: FailureGroup, other: FailureGroup) -> bool
     ensures { result ≡ true → (other.why ≡ one.why) × (other.line ≡ one.line) }
 {

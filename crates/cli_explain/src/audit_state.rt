@@ -1,4 +1,4 @@
-//! How far a log is judged.
+//! State of the audit of a log.
 
 ghost use Rattle.std.specs.Prelude.{◌≡◌, ◌≤◌};
 ghost use Rattle.cli_explain.specs.LinesProcessed.{limit_at};
@@ -6,8 +6,8 @@ ghost use Rattle.cli_explain.specs.LinesProcessed.{limit_at};
 use crate::context::Known;
 use crate::explained_line::{SETTINGS_LIMIT, limit_of};
 
-/// Whether a log is judged: not before its first line, and not where that can't be read. The number is that of the lines
-/// so far.
+/// Whether the log is checked. It is not before its first line, or if its first line is unreadable. The number is that
+/// of the lines so far.
 #[derive(Drop)]
 pub enum Stage {
     Unjudged(u64),
@@ -15,7 +15,7 @@ pub enum Stage {
 }
 
 impl Stage {
-    /// The greatest length of the next line, without its end.
+    /// Returns the maximum length of the next line in bytes, without its line ending.
     pub fn limit(&self) -> usize
         ensures value { result ≡ limit_at self.now }
         ensures small { result ≤ 8589934654 }
@@ -26,7 +26,7 @@ impl Stage {
         }
     }
 
-    /// How many lines there were.
+    /// Returns the number of lines so far.
     pub fn lines(&self) -> u64 {
         match self {
             Stage::Unjudged(lines) => *lines,

@@ -1,4 +1,4 @@
-//! Judging a step.
+//! Check of one step.
 
 ghost use Rattle.std.specs.Prelude.{◌≡◌, IfOk, OnOk};
 ghost use Rattle.cli_explain.specs.RepairedSession.{ChecksAs};
@@ -9,7 +9,7 @@ use hsms_log::{Step, What};
 use hsms_machine::{Entry, EntryRef, Event};
 use std::alloc::AllocError;
 
-/// Judges a step, whose frame has this text. Where it is lawful it is taken in; else nothing is changed.
+/// Checks a step whose frame has this text. A valid step is applied to the session; otherwise nothing changes.
 pub fn check_one_step(
     repaired_session: &mut RepairedSession,
     step: Step,

@@ -1,4 +1,4 @@
-//! `hsms explain`: what the lines of a log have to do with each other, and why they fail.
+//! The command `hsms explain`: how the lines of a log are related, and why they fail.
 
 ghost use Rattle.std.specs.Prelude.{◌≡◌, ◌<◌, ◌^◌, List, Option, ℕ, IfOk, IfErr, OnOk, OnErr, codes, length};
 ghost use Rattle.hsms_frame.specs.Io.{IfRecorded};
@@ -19,26 +19,27 @@ use hsms_log::Verdict;
 use hsms_log::laws::each_text_has_one_verdict;
 use std::alloc::Global;
 
-// The octets that one read takes at most.
+// The maximum number of bytes of one read.
 const BLOCK: usize = 4096;
 
-/// Tells each line of a log: its number, its time, and a frame as `hsms show` shows it; below it the line that it
-/// answers, rejects or says to have expired, and each rule that it breaks, with the line that this concerns and the way
-/// in which the log is gone on with. Of failures that are alike the first three are told whole, and the others by the
-/// line of the first. Behind the lines stands how many those were, how often each rule was broken, what became of the
-/// primaries that ask for a reply, and at the end the line of the verdict that `hsms audit` tells. It says whether the
-/// log passes. Lines that the excerpt leaves out are judged and not told.
+/// Checks a log, and writes each of its lines with its number and its time. A frame is written as `hsms show` shows it.
+/// Below a line, it writes the line that the entry answers, rejects or reports as expired. It also writes each rule
+/// that the entry breaks, with the line involved and the repair with which the log continues. Of similar failures, the
+/// first three are written in full, and the others refer to the line of the first. After the lines come the number of
+/// these failures, how often each rule was broken, and the outcomes of the primaries that request a reply. The last
+/// line is the verdict line of `hsms audit`. Returns whether the log passes. Lines that the filter excludes are checked
+/// but not written.
 ///
-/// The log is read once, to its end, in blocks. What is told of a block is written before the next read, which may
-/// wait, so that a line is told when it has come. Of the log no more is held than a block, a line that goes on, the
-/// octets of a frame and the lines that the excerpt wants before a failure; and of what is told, that of a block and of
+/// The log is read once, to its end, in blocks. The output for a block is written before the next read, which may wait,
+/// so a line is written once it has arrived. Memory holds at most a block of the log, an incomplete line, a frame's
+/// bytes and the lines that the filter needs before failures. Of the output, it holds at most that of a block and of
 /// the line that ends in it.
 ///
 /// # Errors
 ///
-/// - `Device`: `Read` or `Write`, where a device failed in this call, and `Endless`, where 4,294,967,295 reads didn't
-///   find the end. What was told before is written; after a failed write a part of it.
-/// - `Memory`. What was told before is written.
+/// - `Device`: `Read` or `Write` if a read or write failed in this call, and `Endless` if 4,294,967,295 reads did not
+///   find the end. The earlier output is written; after a failed write, part of it.
+/// - `Memory`: an allocation failed. The earlier output is written.
 pub fn explain_to<R: Source, W: Sink>(
     alloc: Global,
     excerpt: Excerpt,
@@ -71,7 +72,7 @@ pub fn explain_to<R: Source, W: Sink>(
     Err(ToolFault::Device("Endless"))
 }
 
-// Tells what comes behind the lines, and the verdict.
+// Writes what follows the lines, and the verdict.
 fn conclude<W: Sink>(
     alloc: Global,
     form: OutputFormat,
@@ -104,7 +105,7 @@ fn passes(verdict: Verdict) -> bool
     }
 }
 
-// Writes what is told.
+// Writes the buffered output to the sink.
 fn write_buffered<W: Sink>(sink: &mut W, explainer: &mut Explainer) -> Result<(), ToolFault>
     ensures some { GrowsBySome (W.state sink.old).written (W.state sink.new).written }
     ensures reception { OnOk result ((text : List ℕ) → HasProcessed explainer.old text → HasProcessed explainer.new text) }

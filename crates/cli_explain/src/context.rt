@@ -1,4 +1,4 @@
-//! What is known of a log so far.
+//! Context of a log line: what the earlier lines showed.
 
 ghost use Rattle.std.specs.Prelude.{◌≡◌, []};
 ghost use Rattle.cli_explain.specs.RepairedSession.{HasProgress};
@@ -9,7 +9,7 @@ use crate::repaired_session::RepairedSession;
 use hsms_machine::Settings;
 use std::alloc::Global;
 
-/// The settings of a log, its judge, what its connection showed, and what became of its primaries.
+/// The settings of a log, its repaired session, the history of its connection, and the statistics of its primaries.
 #[derive(Drop)]
 pub struct Known {
     pub settings: Settings,
@@ -19,7 +19,7 @@ pub struct Known {
 }
 
 impl Known {
-    /// What is known of a log of which the first line was read.
+    /// Creates the context after the first line of a log.
     pub fn new(alloc: Global, settings: Settings) -> Known
         ensures settings { result.settings ≡ settings }
         ensures repaired_session { HasProgress settings [] [] result.repaired_session }

@@ -1,4 +1,4 @@
-//! A line of a log, as it is told.
+//! A log line as it is written.
 
 ghost use Rattle.std.specs.Prelude.{◌≡◌, ◌≤◌, ℕ, IfOk, length};
 ghost use Rattle.hsms_log.specs.LineFormat.{line_limit};
@@ -9,10 +9,10 @@ use hsms_frame::HEADER_LENGTH;
 use hsms_log::{Step, Unreadable, is_blank, read_frame_line, read_plain_line, unreadable_entry};
 use std::alloc::AllocError;
 
-/// How many octets the line of the settings has at most, without its end.
+/// The maximum length of the settings line in bytes, without its line ending.
 pub const SETTINGS_LIMIT: usize = 256;
 
-/// A line: its number from 1, its octets without its end, how many of them are told at most, and what it carries.
+/// A line: its number from 1, its bytes without the line ending, the maximum number of bytes written, and its content.
 #[derive(Clone, Copy)]
 pub struct ExplainedLine<'l, 't> {
     pub number: u64,
@@ -22,8 +22,7 @@ pub struct ExplainedLine<'l, 't> {
 }
 
 impl<'l> ExplainedLine<'l, '_> {
-    /// A line of which no more is known than that it carries no entry: the first one, or one behind a first one that
-    /// can't be read.
+    /// Returns a line without an entry: the first line, or a line after an unreadable first line.
     pub fn plain(number: u64, line: &'l [u8]) -> ExplainedLine<'l, 'static>
         ensures { result.number ≡ number }
     {
@@ -35,25 +34,25 @@ impl<'l> ExplainedLine<'l, '_> {
         }
     }
 
-    /// Its octets as far as they are told.
+    /// Returns the bytes that are written.
     pub fn shown(&self) -> &'l [u8] {
         let shown = self.octets.len().min(self.limit);
         &self.octets[..shown]
     }
 }
 
-/// What a line carries.
+/// The content of a line.
 #[derive(Clone, Copy)]
 pub enum Carried<'a> {
     /// An entry, with the text of its frame.
     Entry(Step, &'a [u8]),
-    /// No entry: it is the line of the settings, a comment or empty.
+    /// No entry: the settings line, a comment or an empty line.
     Nothing,
-    /// It cannot be read, for this reason.
+    /// Unreadable, with the reason.
     Unreadable(Unreadable),
 }
 
-/// The greatest length of a line that isn't the first, without its end.
+/// Returns the maximum length in bytes of a line after the first, without its line ending.
 pub fn limit_of(max: u32) -> usize
     ensures value { result ≡ line_limit max }
     ensures small { result ≤ 8589934654 }
@@ -61,7 +60,7 @@ pub fn limit_of(max: u32) -> usize
     2 * max as usize + 64
 }
 
-/// What a line that isn't the first carries. The octets of its frame are put in place of what `octets` holds.
+/// Returns the content of a line after the first. The bytes of its frame replace the content of `octets`.
 pub fn carried_by<'a>(
     line: &[u8],
     max: u32,
@@ -81,7 +80,7 @@ pub fn carried_by<'a>(
     }
 }
 
-// The same of a line in which no frame was found.
+// Returns the content of a line in which no frame was found.
 fn carried_besides(line: &[u8], max: u32) -> Carried<'static>
     requires frame { EncodesNoFrame line.now }
     requires limit { length line.now ≤ line_limit max }

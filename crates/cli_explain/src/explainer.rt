@@ -1,4 +1,4 @@
-//! A log, told line by line, and judged.
+//! A log, explained line by line and checked.
 
 use crate::audit_state::Stage;
 use crate::log_line::emit_line;
@@ -8,7 +8,8 @@ use cli_options::Excerpt;
 use hsms_log::{Verdict, split_at_first, without_carriage_return};
 use std::alloc::{AllocError, Global};
 
-/// Tells a log that comes in pieces, and judges it. Of a line that goes on no more octets are held than make it too long.
+/// Explains and checks a log that arrives in chunks. Of an incomplete line, it buffers no more bytes than make the line
+/// too long.
 pub struct Explainer {
     held: Vec<u8>,
     stage: Stage,
@@ -16,7 +17,7 @@ pub struct Explainer {
     pub report: Report,
 }
 
-// Written out: a proof over one that is dropped has one step for it, not one for each of its parts.
+// Written out so that a proof has one step for a dropped value, not one for each field.
 impl Drop for Explainer {
     fn drop(self) {
         let Explainer {
@@ -40,7 +41,7 @@ impl Explainer {
     ghost use Rattle.cli_explain.specs.FirstFailureOutput.{IsOfFirst, KeepsShown, ShowsWith};
     ghost use Rattle.cli_explain.specs.LinesProcessed.{HasProcessed, ProcessedAfter};
 
-    /// What is told of a log of which nothing was read: nothing.
+    /// Creates an explainer that has read nothing.
     pub fn new(alloc: Global, excerpt: Excerpt) -> Result<Explainer, AllocError>
         ensures reception { IfOk result (λ explainer. HasProcessed explainer []) }
         ensures shown { IfOk result (λ explainer. excerpt.form ≡ Text → ShowsWith excerpt explainer.report [] []) }
@@ -54,7 +55,7 @@ impl Explainer {
         })
     }
 
-    /// Tells the lines that end with these octets.
+    /// Processes the next bytes of the log, and writes each line that ends in them.
     pub fn take(&mut self, alloc: Global, octets: &[u8]) -> Result<(), AllocError>
         ensures reception { OnOk result ((text : List ℕ) → HasProcessed self.old text → HasProcessed self.new (text ++ octets.now)) }
         ensures shown { OnOk result (KeepsShown self.old.report self.new.report) }
@@ -67,7 +68,7 @@ impl Explainer {
         self.hold(rest)
     }
 
-    // Tells the line that ends with this part. Where nothing is held, it is told where it lies.
+    // Writes the line that ends with `part`. If nothing is buffered, the line is not copied.
     fn end_line(&mut self, alloc: Global, part: &[u8]) -> Result<(), AllocError>
         ensures reception { OnOk result ((text : List ℕ) → HasNone 10 part.now → HasProcessed self.old text
             → HasProcessed self.new (text ++ (part.now ++ 10 ∷ []))) }
@@ -86,7 +87,7 @@ impl Explainer {
         self.emit_held(alloc)
     }
 
-    // Tells the line that is held.
+    // Writes the buffered line.
     fn emit_held(&mut self, alloc: Global) -> Result<(), AllocError>
         ensures reception { OnOk result ((text : List ℕ) → HasProcessed self.old text → HasProcessed self.new (text ++ 10 ∷ [])) }
         ensures shown { OnOk result (KeepsShown self.old.report self.new.report) }
@@ -102,7 +103,7 @@ impl Explainer {
         shown_line
     }
 
-    // Holds further octets of a line, and no more than make it too long.
+    // Buffers further bytes of a line, but no more than make the line too long.
     fn hold(&mut self, part: &[u8]) -> Result<(), AllocError>
         ensures reception { OnOk result ((text : List ℕ) → HasNone 10 part.now → HasProcessed self.old text → HasProcessed self.new (text ++ part.now)) }
         ensures report { self.new.report ≡ self.old.report }
@@ -112,8 +113,8 @@ impl Explainer {
         self.held.extend_from_slice(&part[..kept])
     }
 
-    /// Tells the line that the end alone ended, and what comes behind all lines. It says the verdict: that of the first
-    /// failure that was noted of a line, or else that the log passes.
+    /// Writes the line that only the end of the input ended, and what follows all lines. Returns the verdict: the first
+    /// failure of a line, or otherwise that the log passes.
     pub fn finish(&mut self, alloc: Global) -> Result<Verdict, AllocError>
         ensures gives_verdict { IfOk result (λ verdict. (text : List ℕ) → length text < 2 ^ 63 → HasProcessed self.old text → HasAuditVerdict text verdict) }
         ensures first { IfOk result (λ verdict. (text : List ℕ) → HasProcessed self.old text → (lines_of text ≡ [] → ⊥)
@@ -126,7 +127,7 @@ impl Explainer {
         Ok(verdict)
     }
 
-    // Tells what comes behind all lines.
+    // Writes what follows all lines.
     fn emit_rest(&mut self)
         ensures tally { self.new.report.tally ≡ self.old.report.tally }
         ensures shown { KeepsShown self.old.report self.new.report }
@@ -141,7 +142,7 @@ impl Explainer {
         }
     }
 
-    // Tells the line that the end alone ended, if there is one.
+    // Writes the line that only the end of the input ended, if there is one.
     fn end_last(&mut self, alloc: Global) -> Result<(), AllocError>
         ensures shown_line { OnOk result ((text : List ℕ) → HasProcessed self.old text
             → ProcessedAfter self.new.stage self.new.report.tally (lines_of text) × (length (lines_of text) ≤ length text + 1)) }
@@ -153,7 +154,7 @@ impl Explainer {
         self.emit_held(alloc)
     }
 
-    // The verdict on the lines that were told.
+    // Returns the verdict on the processed lines.
     fn verdict(&self) -> Verdict
         ensures gives_verdict { (lines : List (List ℕ)) → length lines ≤ 2 ^ 63 → ProcessedAfter self.now.stage self.now.report.tally lines
             → LinesAudited lines result }

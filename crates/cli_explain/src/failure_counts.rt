@@ -16,15 +16,15 @@ use hsms_machine::Mark;
 use std::alloc::{AllocError, Global};
 use std::fmt;
 
-/// A failure: the number of its line, from 1, and why it fails.
+/// A failure: the number of its line, from 1, and the reason.
 #[derive(Clone, Copy)]
 pub struct Failed {
     pub line: u64,
     pub why: Why,
 }
 
-/// How often lines failed, and why, in the order in which it first happened; the first failure; and how many entries
-/// there were.
+/// How often lines failed for each reason, in the order of their first failures; the first failure; and the number of
+/// entries.
 #[derive(Drop)]
 pub struct Tally {
     failures: Vec<(Why, u64)>,
@@ -44,7 +44,7 @@ impl Failed {
 }
 
 impl Tally {
-    /// No line yet.
+    /// Creates a tally without lines.
     pub fn new(alloc: Global) -> Tally
         ensures first { result.first ≡ None }
         ensures entries { result.entries ≡ counts_of [] }
@@ -56,7 +56,7 @@ impl Tally {
         }
     }
 
-    /// One more entry.
+    /// Counts an entry.
     pub fn count_entry(&mut self, what: What)
         ensures entries { (time : ℕ) (text : List ℕ) → self.new.entries ≡ with_entry self.old.entries (entry_of_what time what text) }
         ensures first { self.new.first ≡ self.old.first }
@@ -69,7 +69,7 @@ impl Tally {
         }
     }
 
-    // One more frame of this mark, which is counted as an entry already.
+    // Counts a frame with this mark. It is already counted as an entry.
     fn count_frame(&mut self, mark: Mark)
         ensures entries { (time : ℕ) (header : Header) (text : List ℕ) → self.new.entries ≡ with_kind self.old.entries (frame_entry time mark header text) }
         ensures first { self.new.first ≡ self.old.first }
@@ -82,7 +82,7 @@ impl Tally {
         }
     }
 
-    /// The failures of a line by its notes.
+    /// Counts the failures among the annotations of a line.
     pub fn count_notes(&mut self, line: u64, notes: &[Note]) -> Result<(), AllocError>
         ensures first { OnOk result (self.new.first ≡ either self.old.first (failed_at line (first_why notes.now))) }
         ensures entries { self.new.entries ≡ self.old.entries }
@@ -95,7 +95,7 @@ impl Tally {
         Ok(())
     }
 
-    // One more failure.
+    // Counts a failure.
     fn count(&mut self, line: u64, why: Why) -> Result<(), AllocError>
         ensures first { self.new.first ≡ either self.old.first (Some (record { line = line; why = why })) }
         ensures entries { self.new.entries ≡ self.old.entries }
@@ -106,8 +106,8 @@ impl Tally {
         count_why(&mut self.failures, why)
     }
 
-    /// The verdict at the end of a log that was judged, in which so many primaries wait for a reply; or that of its first
-    /// failure.
+    /// Returns the verdict at the end of a checked log: its first failure, or a pass in which `waiting` primaries wait
+    /// for a reply.
     pub fn verdict(&self, waiting: u64) -> Verdict
         ensures { result ≡ verdict_by self.now.first self.now.entries waiting }
     {
@@ -120,7 +120,7 @@ impl Tally {
         }
     }
 
-    /// The verdict where nothing was judged: line 1 can't be read, or there is none.
+    /// Returns the verdict on a log that was not checked: line 1 is unreadable, or the log has no lines.
     pub fn unjudged_verdict(&self) -> Verdict
         ensures { result ≡ unjudged_by self.now.first }
     {
@@ -133,17 +133,17 @@ impl Tally {
         }
     }
 
-    /// Whether there was no entry.
+    /// Returns whether there was no entry.
     pub fn is_empty(&self) -> bool {
         self.entries.entries == 0
     }
 
-    /// How often it failed for each reason.
+    /// Returns the number of failures for each reason.
     pub fn counts(&self) -> &[(Why, u64)] {
         &self.failures
     }
 
-    /// How often it failed.
+    /// Returns the number of all failures.
     pub fn all(&self) -> u64 {
         let counts = self.failures.iter().map(|(_, count)| *count);
         counts.fold(0u64, |all, count| all.saturating_add(count))
@@ -162,7 +162,7 @@ impl fmt::Display for Tally {
     }
 }
 
-// One more failure for this reason.
+// Counts a failure for this reason.
 fn count_why(failures: &mut Vec<(Why, u64)>, why: Why) -> Result<(), AllocError> {
     for (found, count) in failures.iter_mut() {
         if *found == why {

@@ -1,4 +1,4 @@
-//! Failures that are alike: the first of them are told whole, and the others are counted.
+//! Groups of similar failures: the first failures of a group are written in full, and the others are counted.
 
 ghost use Rattle.std.specs.Prelude.{◌≡◌, ◌≤◌, ◌<◌, ◌∷◌, [], ℕ, List, None, length, nat_eq, IfOk, OnOk, IfSome, IfNone};
 ghost use Rattle.indexmap.specs.IndexMap.{get, values, index_map_len};
@@ -10,13 +10,13 @@ use indexmap::IndexMap;
 use indexmap::map::Values;
 use std::alloc::{AllocError, Global};
 
-// How many failures that are alike are told whole.
+// The number of failures of a group that are written in full.
 const WHOLE: u64 = 3;
 
-/// How many groups are kept at most. A failure of a further one is told whole.
+/// The maximum number of groups. A failure that would start a further group is written in full.
 pub const MOST: usize = 256;
 
-/// Failures that are alike: why they fail, how many came so far, and the lines of the first and of the last.
+/// Similar failures: their reason, their number so far, and the lines of the first and of the last.
 #[derive(Clone, Copy)]
 pub struct Group {
     pub why: Why,
@@ -25,12 +25,12 @@ pub struct Group {
     pub last: u64,
 }
 
-/// The groups of the failures so far, in the order in which each first came.
+/// The groups of the failures so far, in the order of their first failures.
 pub struct Groups {
     items: IndexMap<u64, Group>,
 }
 
-// Written out: a proof over one that is dropped has one step for it, not one for each of its parts.
+// Written out so that a proof has one step for a dropped value, not one for each field.
 impl Drop for Groups {
     fn drop(self) {
         let Groups { items } = self;
@@ -39,7 +39,7 @@ impl Drop for Groups {
 }
 
 impl Group {
-    // That of the first failure.
+    // Creates the group of a first failure.
     fn of(why: Why, line: u64) -> Group
         ensures { IsGroup (line ∷ []) result }
     {
@@ -51,7 +51,7 @@ impl Group {
         }
     }
 
-    // With one more failure.
+    // Returns the group with one more failure.
     fn with(self, line: u64) -> Group
         ensures { (lines : List ℕ) → IsGroup lines self → IsGroup (line ∷ lines) result }
     {
@@ -62,7 +62,7 @@ impl Group {
         }
     }
 
-    // The line of the first failure, where the last one is told by it.
+    // Returns the line of the first failure if the last failure refers to it.
     fn like(self) -> Option<u64>
         ensures { (groups : ℕ) (lines : List ℕ) → IsGroup lines self → IsReported groups lines result }
     {
@@ -73,7 +73,7 @@ impl Group {
         }
     }
 
-    /// The failures that weren't told whole, if there are such.
+    /// Returns the failures that were not written in full. `None` if all were.
     pub fn rest(self) -> Option<Rest>
         ensures rest { IfSome result (λ rest. (lines : List ℕ) → IsGroup lines self → IsRest lines rest) }
         ensures why { IfSome result (λ rest. rest.why ≡ self.why) }
@@ -92,7 +92,7 @@ impl Group {
 }
 
 impl Groups {
-    /// No failure yet.
+    /// Creates an empty set of groups.
     pub fn new(alloc: Global) -> Groups
         ensures { HasGroups [] result.items }
     {
@@ -101,7 +101,8 @@ impl Groups {
         }
     }
 
-    /// Counts a failure of this sort at a line. Where it isn't told whole, it is told by a line that is.
+    /// Counts a failure of this kind at a line. Returns the line to which it refers, or `None` if it is written in
+    /// full.
     pub fn count(&mut self, sort: u64, why: Why, line: u64) -> Result<Option<u64>, AllocError>
         ensures groups { OnOk result ((faults : List Fault) → HasGroups faults self.old.items
             → HasGroups (fault_at sort line ∷ faults) self.new.items) }
@@ -118,14 +119,14 @@ impl Groups {
         }
     }
 
-    /// The groups.
+    /// Returns an iterator over the groups.
     pub fn iter(&self) -> Values<'_, u64, Group>
         ensures { result ≡ values self.now.items }
     {
         self.items.values()
     }
 
-    // The group of the sort with one more failure, if it has one or there is room for it.
+    // Returns the group of the kind with one more failure. `None` if there is no such group and no space for one.
     fn grown(&self, sort: u64, why: Why, line: u64) -> Option<Group>
         ensures grown { IfSome result (λ group. (faults : List Fault) → HasGroups faults self.now.items
             → IsGroup (lines_of sort (fault_at sort line ∷ faults)) group) }
@@ -139,7 +140,7 @@ impl Groups {
         }
     }
 
-    // The group of a first failure, if there is room for it.
+    // Returns the group of a first failure, if there is space for it.
     fn begun(&self, why: Why, line: u64) -> Option<Group>
         ensures group { IfSome result (λ group. IsGroup (line ∷ []) group) }
         ensures room { IfSome result (λ group. index_map_len self.now.items < 256) }

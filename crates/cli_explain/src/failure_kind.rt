@@ -1,4 +1,4 @@
-//! What is alike in failures.
+//! Failure kinds: what similar failures have in common.
 
 ghost use Rattle.std.specs.Prelude.{◌≡◌, ◌<◌, ◌^◌};
 ghost use Rattle.cli_explain.specs.FailureKind.{event_number as number_of_event, frame_number as number_of_frame, failure_kind_number};
@@ -7,14 +7,15 @@ use hsms_frame::{Header, Kind, kind};
 use hsms_log::What;
 use hsms_machine::Rule;
 
-/// The sort of lines that can't be read. No other failure has it.
+/// The failure kind of unreadable lines. No other failure has it.
 pub const UNREADABLE_SORT: u64 = 0;
 
-// The numbers of frames are below this.
+// The frame numbers are below this.
 const FRAMES: u64 = 1 << 36;
 
-/// The sort of a failure, as a number: the same one where the rule is the same, and what fails. Of a frame that is its
-/// direction, whether it was thrown away, its session ID and its kind, of data with stream, function and W.
+/// Returns the kind of a failure as a number. It is equal if the same rule is broken by the same event. For a frame,
+/// the event includes its direction, whether it was discarded, its session ID and its kind; for data, also the stream,
+/// function and W bit.
 pub fn failure_kind_of(rule: Rule, what: What) -> u64
     ensures { result ≡ failure_kind_number rule what }
 {

@@ -1,4 +1,4 @@
-//! The form in which a log is told.
+//! Output format of an explained log.
 
 ghost use Rattle.std.specs.Prelude.{◌≡◌, ℕ, List};
 ghost use Rattle.cli_options.specs.declared.explain_options.OutputFormat.TheVariants.{Text};
@@ -19,7 +19,7 @@ use hsms_machine::Settings;
 use serde::Serialize;
 use std::fmt;
 
-/// Writes what is told in the form that is asked for, with times as they are or as dates.
+/// Writes the output in the selected format, with times in ms or as dates.
 #[derive(Clone, Copy)]
 pub struct Emitter {
     form: OutputFormat,
@@ -27,7 +27,7 @@ pub struct Emitter {
 }
 
 impl Emitter {
-    /// What writes this excerpt.
+    /// Creates the emitter for these options.
     pub fn new(excerpt: Excerpt) -> Emitter
         ensures { result.form ≡ excerpt.form }
     {
@@ -37,7 +37,7 @@ impl Emitter {
         }
     }
 
-    /// Writes what stands before all lines.
+    /// Writes what precedes all lines.
     pub fn begin(self, page: &mut Page)
         ensures { self.form ≡ Text → page.new ≡ page.old }
     {
@@ -47,7 +47,7 @@ impl Emitter {
         }
     }
 
-    /// Writes which ends these are, before the lines of a log with these settings.
+    /// Writes the roles of the two endpoints, before the lines of a log with these settings.
     pub fn ends(self, page: &mut Page, settings: Settings)
         ensures { self.form ≡ Text → page.new ≡ page.old }
     {
@@ -57,7 +57,7 @@ impl Emitter {
         }
     }
 
-    /// Writes what stands behind all lines.
+    /// Writes what follows all lines.
     pub fn end_lines(self, page: &mut Page, links: &Links)
         ensures { self.form ≡ Text → page.new ≡ page.old }
     {
@@ -67,7 +67,7 @@ impl Emitter {
         }
     }
 
-    /// Writes a line, and what is noted of it.
+    /// Writes a line and its annotations.
     pub fn line(
         self,
         page: &mut Page,
@@ -84,7 +84,7 @@ impl Emitter {
         }
     }
 
-    /// Writes that lines are left out.
+    /// Writes that lines are skipped.
     pub fn gap(self, page: &mut Page, gap: Gap)
         ensures { self.form ≡ Text → Adds page.old page.new gap_text }
     {
@@ -95,7 +95,7 @@ impl Emitter {
         }
     }
 
-    /// Writes that nothing was judged.
+    /// Writes that nothing was checked.
     pub fn unjudged(self, page: &mut Page, unjudged: Unjudged)
         ensures { self.form ≡ Text → AddsSome page.old page.new }
     {
@@ -105,7 +105,7 @@ impl Emitter {
         }
     }
 
-    /// Writes of each group how many failures it has, or how many of them weren't told whole.
+    /// Writes for each group the number of its failures, or the number of those not written in full.
     pub fn groups(self, page: &mut Page, groups: &Groups)
         ensures { self.form ≡ Text → AddsSome page.old page.new }
     {
@@ -115,7 +115,7 @@ impl Emitter {
         }
     }
 
-    // Writes of each group how many failures weren't told whole.
+    // Writes for each group the number of failures not written in full.
     fn rests(self, page: &mut Page, groups: &Groups)
         ensures { self.form ≡ Text → AddsSome page.old page.new }
     {
@@ -134,7 +134,7 @@ impl Emitter {
         }
     }
 
-    /// Writes what became of the primaries of each kind.
+    /// Writes the outcomes of the primaries of each kind.
     pub fn primaries(self, page: &mut Page, links: &Links, primaries: &Primaries)
         ensures { self.form ≡ Text → AddsSome page.old page.new }
     {
@@ -162,7 +162,7 @@ impl Emitter {
         }
     }
 
-    // Writes what stands in a line of its own, as text or as an object.
+    // Writes a remark on a line of its own, as text or as an object.
     fn remark<T: fmt::Display + Serialize>(self, page: &mut Page, remark: &T)
         ensures { self.form ≡ Text → AddsSome page.old page.new }
     {

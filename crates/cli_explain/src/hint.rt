@@ -1,4 +1,4 @@
-//! What would have been right in place of an entry that fails, and what came.
+//! Hints: what was expected instead of an entry that fails, and what came.
 
 use crate::context::Known;
 use crate::history::{Closed, Request, Requests};
@@ -9,7 +9,7 @@ use hsms_machine::{EntryRef, Mark, Rule, Settings};
 use secs_item::{ItemFault, measure_text};
 use std::fmt;
 
-/// A stream and a function of SECS-II.
+/// A SECS-II stream and function.
 #[derive(Clone, Copy)]
 pub struct Function {
     pub stream: u8,
@@ -17,7 +17,7 @@ pub struct Function {
 }
 
 impl Function {
-    /// Those of a data message.
+    /// Returns the stream and function of a data message.
     pub fn of(header: Header) -> Function {
         Function {
             stream: header.stream(),
@@ -25,7 +25,8 @@ impl Function {
         }
     }
 
-    // That of the reply to a primary. Past 255 there is none but 0, which aborts.
+    // Returns the stream and function of the reply to a primary. After function 255 there is only function 0, which
+    // aborts.
     fn of_reply_to(primary: Header) -> Function {
         Function {
             stream: primary.stream(),
@@ -34,26 +35,26 @@ impl Function {
     }
 }
 
-/// What would have been right in place of an entry that fails, as far as that is known, or why it may not stand there.
+/// What was expected instead of an entry that fails, if known, or why the entry is not allowed there.
 #[derive(Clone, Copy)]
 pub enum Expected {
-    /// The open primary of the line, which has its system bytes, awaits another function.
+    /// The open primary at the line has the same system bytes, and expects another function.
     Function {
         line: u64,
         expected: Function,
         came: Function,
     },
-    /// The primary of the line has its system bytes, and no W.
+    /// The primary at the line has the same system bytes, but no W bit.
     NoWait(u64),
-    /// The request of the line has its system bytes, and was thrown away.
+    /// The request at the line has the same system bytes, but was discarded.
     ThrownAway(u64),
-    /// The transaction of the line has its system bytes, and was closed.
+    /// The transaction of the line has the same system bytes, but was closed.
     Closed {
         line: u64,
         tie: Tie,
         by: u64,
     },
-    /// The primary of the line is the only one that was sent and waits, and has other system bytes.
+    /// The primary at the line is the only sent one that waits for a reply, and has other system bytes.
     OnlyOne {
         line: u64,
         expected: Function,
@@ -64,21 +65,21 @@ pub enum Expected {
         expected: u16,
         came: u16,
     },
-    /// The text has this fault, at this place from 0.
+    /// The text has this item error, at this offset from 0.
     Text {
         fault: &'static str,
         at: usize,
     },
-    /// The Select.req of the line wasn't answered with status 0, or there was none.
+    /// The Select.req at the line was not answered with status 0. `None` if there was no Select.req.
     Selected(Option<u64>),
-    /// The session is over since the line.
+    /// The session ended at the line.
     Over(u64),
-    /// The line cannot be read.
+    /// The line is unreadable.
     Form(Unreadable),
 }
 
 impl Expected {
-    /// The line that it names, if it names one.
+    /// Returns the line that the hint names, if it names one.
     pub fn line(self) -> Option<u64> {
         match self {
             Expected::Function { line, .. }
@@ -93,7 +94,7 @@ impl Expected {
     }
 }
 
-/// What is known of why a step breaks a rule, whose frame has this text.
+/// Returns what is known about why a step breaks a rule. `text` is the text of its frame.
 pub fn expected_of(known: &Known, step: Step, text: &[u8], rule: Rule) -> Option<Expected> {
     if rule == Rule::Ended {
         return known.past.over.map(|line| Expected::Over(line));
@@ -135,7 +136,7 @@ fn text_fault(settings: Settings, text: &[u8]) -> Option<Expected> {
     Some(Expected::Text { fault, at })
 }
 
-// Why a frame that has to answer something answers nothing.
+// Returns why a frame that has to close a transaction closes none.
 fn transaction(known: &Known, mark: Mark, header: Header) -> Option<Expected> {
     let (peer, requests) = match mark {
         Mark::Sent => (Mark::Taken, &known.past.received),
@@ -152,7 +153,7 @@ fn transaction(known: &Known, mark: Mark, header: Header) -> Option<Expected> {
     }
 }
 
-// The open request awaits another function, where both are data.
+// Returns that the open request expects another function, if both are data messages.
 fn other_function(open: Option<Request>, header: Header) -> Option<Expected> {
     let request = open?;
     if kind(request.header) != Kind::Primary || kind(header) != Kind::Reply {
@@ -165,7 +166,7 @@ fn other_function(open: Option<Request>, header: Header) -> Option<Expected> {
     })
 }
 
-// Why the request isn't open.
+// Returns why the request is not open.
 fn no_longer_open(requests: &Requests, request: Request) -> Option<Expected> {
     let line = request.line;
     if request.is_discarded {
@@ -178,7 +179,7 @@ fn no_longer_open(requests: &Requests, request: Request) -> Option<Expected> {
     Some(Expected::Closed { line, tie, by })
 }
 
-// A reply that was received, where one primary alone awaits one.
+// Returns a hint for a received reply if exactly one sent primary waits for a reply.
 fn other_system(known: &Known, mark: Mark, header: Header) -> Option<Expected> {
     if mark != Mark::Taken || kind(header) != Kind::Reply {
         return None;
@@ -207,8 +208,8 @@ impl fmt::Display for Expected {
                 expected,
                 came,
             } => write_function(f, line, expected, came),
-            Expected::NoWait(line) => write_namesake(f, line, "asks for no reply"),
-            Expected::ThrownAway(line) => write_namesake(f, line, "was thrown away"),
+            Expected::NoWait(line) => write_namesake(f, line, "but no W bit"),
+            Expected::ThrownAway(line) => write_namesake(f, line, "but was discarded"),
             Expected::Closed { line, tie, by } => write_closed(f, line, tie, by),
             Expected::OnlyOne {
                 line,
@@ -216,15 +217,16 @@ impl fmt::Display for Expected {
                 system,
             } => write_only_one(f, line, expected, system),
             Expected::Session { expected, came } => write_session(f, expected, came),
-            Expected::Text { fault, at } => write!(f, "{fault} at={at} of its text"),
+            Expected::Text { fault, at } => write!(f, "item error: {fault} at={at}"),
             Expected::Selected(request) => write_selected(f, request),
-            Expected::Over(line) => write!(f, "over since line {line}"),
+            Expected::Over(line) => write!(f, "the session ended at line {line}"),
             Expected::Form(unreadable) => write!(f, "{unreadable}"),
         }
     }
 }
 
-// The words of each case in a function of its own: a proof of all in one grows faster than they do.
+// Each case writes its text in a function of its own: the time of one proof of all cases grows faster than their
+// number.
 
 fn write_function<W: fmt::Write>(
     f: &mut fmt::Formatter<W>,
@@ -232,16 +234,16 @@ fn write_function<W: fmt::Write>(
     expected: Function,
     came: Function,
 ) -> fmt::Result {
-    write!(f, "{expected} expected by line {line}, {came} came")
+    write!(f, "line {line} expects {expected}, got {came}")
 }
 
-// The line has its system bytes, and this is the matter with it.
+// Writes that the line has the same system bytes, and why it does not match.
 fn write_namesake<W: fmt::Write>(
     f: &mut fmt::Formatter<W>,
     line: u64,
     matter: &str,
 ) -> fmt::Result {
-    write!(f, "line {line} has its system bytes, and {matter}")
+    write!(f, "line {line} has the same system bytes, {matter}")
 }
 
 fn write_closed<W: fmt::Write>(
@@ -262,7 +264,7 @@ fn write_only_one<W: fmt::Write>(
 ) -> fmt::Result {
     write!(
         f,
-        "line {line} alone awaits a reply: {expected} {system:08x}"
+        "the only open primary is line {line}: it expects {expected} {system:08x}"
     )
 }
 
@@ -271,20 +273,20 @@ fn write_session<W: fmt::Write>(
     expected: u16,
     came: u16,
 ) -> fmt::Result {
-    write!(f, "session {expected:04x} expected, {came:04x} came")
+    write!(f, "expected session ID {expected:04x}, got {came:04x}")
 }
 
 fn write_selected<W: fmt::Write>(f: &mut fmt::Formatter<W>, request: Option<u64>) -> fmt::Result {
     match request {
-        Some(line) => write!(f, "no select.rsp with status 0 answers line {line}"),
-        None => write!(f, "its connection has no select.req yet"),
+        Some(line) => write!(f, "line {line} has no select.rsp with status 0"),
+        None => write!(f, "no select.req yet on this connection"),
     }
 }
 
 fn closed_word(tie: Tie) -> &'static str {
     match tie {
-        Tie::Answers => "was answered by",
-        Tie::Rejects => "was rejected by",
-        Tie::Expires => "expired at",
+        Tie::Answers => "but was already answered by",
+        Tie::Rejects => "but was already rejected by",
+        Tie::Expires => "but already timed out at",
     }
 }

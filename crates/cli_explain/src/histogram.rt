@@ -1,18 +1,18 @@
-//! How often something took how long.
+//! A histogram of times.
 
 ghost use Rattle.std.specs.Prelude.{◌≡◌, ◌<◌, ◌^◌};
 ghost use Rattle.cli_explain.specs.Histogram.{time_at, IsNear};
 
 use std::alloc::{AllocError, Global};
 
-// How many places there are: 256 for the times below 256 ms, and 128 for each further power of two below 2^32 ms.
+// The number of counters: 256 for the times below 256 ms, and 128 for each further power of two below 2^32 ms.
 const PLACES: usize = 3328;
 
-// How many times a time is halved at most until it is below 256.
+// The maximum number of times that a time is halved until it is below 256.
 const HALVINGS: usize = 24;
 
-/// Times in ms, counted by their eight highest binary digits: those that it tells are less than one in 128 below. A time
-/// of 2^32 ms or more is counted as the greatest below.
+/// Times in ms, counted by their eight highest binary digits. A returned time is less than one part in 128 too low. A
+/// time of 2^32 ms or more is counted as the maximum below.
 #[derive(Drop)]
 pub struct Histogram {
     counts: Vec<u64>,
@@ -20,7 +20,7 @@ pub struct Histogram {
 }
 
 impl Histogram {
-    /// No time yet.
+    /// Creates a histogram without times.
     pub fn new(alloc: Global) -> Result<Histogram, AllocError> {
         let counts = vec![in alloc; 0u64; PLACES]?;
         Ok(Histogram { counts, all: 0 })
@@ -34,17 +34,17 @@ impl Histogram {
         }
     }
 
-    /// The least time that at least half of them don't exceed.
+    /// Returns the minimum time that at least half of the times do not exceed.
     pub fn median(&self) -> u64 {
         self.time_at(self.all - self.all / 2)
     }
 
-    /// The least time that at least 99 of 100 don't exceed.
+    /// Returns the minimum time that at least 99 of 100 times do not exceed.
     pub fn most(&self) -> u64 {
         self.time_at(self.all - self.all / 100)
     }
 
-    // The time of this rank, from 1, in rising order.
+    // Returns the time of this rank, from 1, in increasing order.
     fn time_at(&self, rank: u64) -> u64 {
         let mut so_far = 0u64;
         for (place, count) in self.counts.iter().enumerate() {
@@ -57,7 +57,7 @@ impl Histogram {
     }
 }
 
-// The place at which a time is counted.
+// Returns the index of the counter of a time.
 fn place_of(ms: u64) -> usize
     ensures within { result < 3328 }
     ensures near { ms < 2 ^ 32 → IsNear ms (time_at result) }
@@ -72,7 +72,7 @@ fn place_of(ms: u64) -> usize
     128 * HALVINGS + (rest % 256) as usize
 }
 
-// The least time that is counted at a place.
+// Returns the minimum time that a counter counts.
 fn time_of(place: usize) -> u64
     ensures { place < 3328 → result ≡ time_at place }
 {

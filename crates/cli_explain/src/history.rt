@@ -1,4 +1,4 @@
-//! What a connection showed so far that a later failure may have to do with.
+//! History of a connection: earlier events that may explain a later failure.
 
 use crate::phrases::Tie;
 use hsms_frame::{Header, Kind, kind};
@@ -7,10 +7,10 @@ use hsms_machine::Mark;
 use std::alloc::{AllocError, Global};
 use std::collections::VecDeque;
 
-// How many requests of a direction are kept, and how many of their closings.
+// The maximum number of requests of a direction that are kept, and of their closings.
 const KEPT: usize = 256;
 
-/// A primary, a Select.req or a Linktest.req: its line, its header, and whether it was thrown away.
+/// A primary, a Select.req or a Linktest.req: its line, its header, and whether it was discarded.
 #[derive(Clone, Copy)]
 pub struct Request {
     pub line: u64,
@@ -18,7 +18,7 @@ pub struct Request {
     pub is_discarded: bool,
 }
 
-/// That a line closed a transaction of these system bytes.
+/// The closing, at a line, of a transaction with these system bytes.
 #[derive(Clone, Copy)]
 pub struct Closed {
     pub tie: Tie,
@@ -26,15 +26,15 @@ pub struct Closed {
     system: u32,
 }
 
-/// The last requests of a direction, and the last closings of such, each the oldest first.
+/// The last requests of a direction, and the last closings of such requests, each oldest first.
 #[derive(Drop)]
 pub struct Requests {
     opened: VecDeque<Request>,
     closed: VecDeque<Closed>,
 }
 
-/// What is kept of a connection: the last requests of each direction, the line of the last Select.req, and the one since
-/// which the session is over.
+/// The history of a connection: the last requests of each direction, the line of the last Select.req, and the line at
+/// which the session ended.
 pub struct Past {
     pub sent: Requests,
     pub received: Requests,
@@ -42,7 +42,7 @@ pub struct Past {
     pub over: Option<u64>,
 }
 
-// Written out: a proof over one that is dropped has one step for it, not one for each of its parts.
+// Written out so that a proof has one step for a dropped value, not one for each field.
 impl Drop for Past {
     fn drop(self) {
         let Past {
@@ -69,19 +69,19 @@ impl Requests {
         self.closed.clear();
     }
 
-    /// The last request with these system bytes, if it is kept.
+    /// Returns the last request with these system bytes, if it is kept.
     pub fn last_of(&self, system: u32) -> Option<Request> {
         let mut requests = self.opened.iter().rev().copied();
         requests.find(|request| request.header.system == system)
     }
 
-    /// The request that opened a transaction at this line, if it is kept.
+    /// Returns the request that opened a transaction at this line, if it is kept.
     pub fn opened_at(&self, line: u64) -> Option<Request> {
         let mut requests = self.opened.iter().rev().copied();
         requests.find(|request| request.line == line && !request.is_discarded)
     }
 
-    /// What closed the transaction that the request opened, if it is kept.
+    /// Returns what closed the transaction that the request opened, if it is kept.
     pub fn closing_of(&self, request: Request) -> Option<Closed> {
         let mut closings = self.closed.iter().rev().copied();
         closings.find(|closed| {
@@ -91,7 +91,7 @@ impl Requests {
 }
 
 impl Past {
-    /// Nothing was shown yet.
+    /// Creates an empty history.
     pub fn new(alloc: Global) -> Past {
         Past {
             sent: Requests::new(alloc),
@@ -101,7 +101,7 @@ impl Past {
         }
     }
 
-    /// Keeps a lawful step at a line, which closes a transaction or doesn't.
+    /// Records a valid step at a line. `is_closing` says whether it closes a transaction.
     pub fn note(&mut self, line: u64, step: Step, is_closing: bool) -> Result<(), AllocError> {
         match step.what {
             What::Up => {
@@ -121,7 +121,7 @@ impl Past {
         }
     }
 
-    // Begins a connection.
+    // Starts a connection.
     fn begin(&mut self) {
         self.sent.clear();
         self.received.clear();
@@ -192,7 +192,7 @@ impl Past {
     }
 }
 
-// Keeps one more, in place of the oldest where as many are kept as may be.
+// Appends a value. If the maximum number is kept, the oldest is dropped.
 fn keep<T: Drop>(kept: &mut VecDeque<T>, one: T) -> Result<(), AllocError> {
     if kept.len() >= KEPT {
         drop(kept.pop_front());

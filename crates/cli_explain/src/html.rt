@@ -1,7 +1,7 @@
-//! What is told, as a page of HTML: a ladder of the messages between the two ends, and what stands on top of it.
+//! The output as an HTML page: a ladder diagram of the messages between the two endpoints, with a summary on top.
 //!
-//! The page is written as the lines come. What stands on top and is known at the end alone, as the failures and the
-//! verdict, is written last, and the style puts it there.
+//! The page is written as the lines arrive. The part on top that is known only at the end, such as the failures and the
+//! verdict, is written last. The style moves it to the top.
 
 use crate::annotation::{Failing, Note, UNREADABLE};
 use crate::explained_line::{Carried, ExplainedLine};
@@ -21,28 +21,28 @@ use hsms_log::{Step, What, Why};
 use hsms_machine::{GREATEST_DEPTH, Mark, RepairAction, Role, Rule, Settings};
 use std::fmt;
 
-// What stands before the style, and what stands between it and the lines.
+// The markup before the style, and the markup between the style and the lines.
 const HEAD: &str = "<!DOCTYPE html>\n<html lang=\"en\"><head><meta charset=\"utf-8\">\
     <meta name=\"viewport\" content=\"width=device-width, initial-scale=1\"><title>hsms explain</title>\n<style>";
 
 const BODY: &str = "</style></head>\n<body>\n";
 
-// The heads of the columns that tell what became of primaries.
+// The column headings of the outcomes of primaries.
 const COLUMNS: &str = "<table>\n<tr><th>Primaries</th><th>all</th><th>answered</th><th>aborted</th>\
-    <th>expired</th><th>rejected</th><th>ended</th><th>waiting</th><th>least ms</th><th>median</th><th>p99</th>\
-    <th>greatest</th></tr>\n";
+    <th>expired</th><th>rejected</th><th>ended</th><th>waiting</th><th>min ms</th><th>median</th><th>p99</th>\
+    <th>max</th></tr>\n";
 
 fn put(page: &mut Page, markup: &str) {
     page.append_chunk(markup.as_bytes());
 }
 
-// Writes markup, and a number behind it.
+// Writes markup, followed by a number.
 fn put_number(page: &mut Page, markup: &str, number: u64) {
     put(page, markup);
     page.append_number(number, 0);
 }
 
-/// Writes the head of the page, and begins the lines.
+/// Writes the head of the page, and starts the lines.
 pub fn begin(page: &mut Page, utc: bool) {
     put(page, HEAD);
     put(page, STYLE);
@@ -55,7 +55,7 @@ pub fn begin(page: &mut Page, utc: bool) {
     put(page, main);
 }
 
-/// Writes above the ladder which ends these are: left the one whose log it is.
+/// Writes the roles of the two endpoints above the ladder. The endpoint whose log it is comes first, on the left.
 pub fn write_ends(page: &mut Page, settings: Settings) {
     let ends = match settings.role() {
         Role::Host => "<header><b>host</b><b>equipment</b></header>\n",
@@ -64,13 +64,13 @@ pub fn write_ends(page: &mut Page, settings: Settings) {
     put(page, ends);
 }
 
-/// Ends the lines, and begins what stands on top of them.
+/// Ends the lines, and starts the part on top of them.
 pub fn end_lines(page: &mut Page, links: &Links) {
     put(page, "</main>\n<section>\n");
     write_open(page, links);
 }
 
-/// Writes a line of the log and its notes: with `utc` times as dates.
+/// Writes a log line and its annotations. `utc` selects dates instead of times in ms.
 pub fn write_line(
     page: &mut Page,
     links: &mut Links,
@@ -91,7 +91,7 @@ pub fn write_line(
     put(page, "</div>\n");
 }
 
-// Begins the row of a line, and writes its number.
+// Starts the row of a line, and writes its number.
 fn begin_row(page: &mut Page, shown_line: ExplainedLine<'_, '_>, notes: &[Note]) {
     put(page, "<div class=\"row ");
     put(page, class_of(shown_line.carried));
@@ -104,7 +104,7 @@ fn begin_row(page: &mut Page, shown_line: ExplainedLine<'_, '_>, notes: &[Note])
     put(page, "</a>");
 }
 
-// How the row of a line is drawn.
+// Returns the CSS classes of the row of a line.
 fn class_of(carried: Carried<'_>) -> &'static str {
     match carried {
         Carried::Entry(step, _) => match step.what {
@@ -136,7 +136,7 @@ fn is_data(header: Header) -> bool {
     }
 }
 
-// Writes what a line says: a frame as an arrow, the words of another entry, and else the line as it is.
+// Writes the content of a line: a frame as an arrow, the text of another entry, and otherwise the line as it is.
 fn write_said(page: &mut Page, shown_line: ExplainedLine<'_, '_>, utc: bool) {
     let Carried::Entry(step, text) = shown_line.carried else {
         return write_element(page, "pre", shown_line.shown());
@@ -156,7 +156,7 @@ fn write_said(page: &mut Page, shown_line: ExplainedLine<'_, '_>, utc: bool) {
     }
 }
 
-// Writes an element whose text are octets of the log.
+// Writes an element whose text is bytes of the log.
 fn write_element(page: &mut Page, name: &str, octets: &[u8]) {
     put(page, "<");
     put(page, name);
@@ -167,7 +167,7 @@ fn write_element(page: &mut Page, name: &str, octets: &[u8]) {
     put(page, ">");
 }
 
-// Writes a frame: what it is, its system bytes, and folded the line that `hsms show` shows of it.
+// Writes a frame: its name, its system bytes, and, collapsed, the line that `hsms show` writes for it.
 fn write_frame(page: &mut Page, header: Header, text: &[u8]) {
     let line = page.message(header, text, GREATEST_DEPTH);
     put(page, "<details><summary><b>");
@@ -186,7 +186,7 @@ fn write_frame(page: &mut Page, header: Header, text: &[u8]) {
     put(page, "</pre></details>");
 }
 
-// Writes what a control message is: the first word of its line, and what stands behind its system bytes.
+// Writes the name of a control message: the first word of its line, and the word after its system bytes.
 fn write_control(page: &mut Page, line: &str) {
     let mut words = line.split(' ');
     append_text(page, words.next().unwrap_or("").as_bytes());
@@ -196,8 +196,8 @@ fn write_control(page: &mut Page, line: &str) {
     }
 }
 
-// Writes words in a paragraph behind its front, as a link to the line `to`, and with the id to which the link `reply` of
-// the line `closed` leads, where there are such lines.
+// Writes a paragraph: the text `front`, then the words as a link to the line `to`. The link `reply` of the line
+// `closed` leads to its ID. Each is left out if there is no such line.
 fn write_link<D: fmt::Display>(
     page: &mut Page,
     front: &str,
@@ -214,7 +214,7 @@ fn write_link<D: fmt::Display>(
     put(page, "</a></p>");
 }
 
-// Writes an attribute that ends with the number of a line, if there is one.
+// Writes an attribute that ends with a line number, if there is one.
 fn write_line_number(page: &mut Page, front: &str, line: Option<u64>) {
     if let Some(line) = line {
         put_number(page, front, line);
@@ -222,7 +222,7 @@ fn write_line_number(page: &mut Page, front: &str, line: Option<u64>) {
     }
 }
 
-// Writes what a line closes.
+// Writes the transactions that a line closes.
 fn write_closings(page: &mut Page, links: &mut Links, notes: &[Note]) {
     for note in notes {
         if let Note::Closes(closing) = note {
@@ -233,7 +233,8 @@ fn write_closings(page: &mut Page, links: &mut Links, notes: &[Note]) {
     }
 }
 
-// Writes a link to what will close the transaction that a line opens, and where a connection begins what is open.
+// Writes a link to the entry that closes the transaction that a line opens. If a connection starts, writes the open
+// transactions.
 fn write_ahead(
     page: &mut Page,
     links: &mut Links,
@@ -257,7 +258,7 @@ fn write_ahead(
     }
 }
 
-// Writes a link to what will close the transaction that a line opens, where there is room for one more.
+// Writes a link to the entry that closes the transaction that a line opens, if there is space for one more.
 fn write_reply(page: &mut Page, links: &mut Links, line: u64) {
     match links.open(line) {
         Ok(true) => {
@@ -277,7 +278,7 @@ fn asks(header: Header) -> bool {
     }
 }
 
-// Whether a frame with this note is taken in: what failed is what lacks before it, or its time.
+// Returns whether a frame with this annotation is accepted: only an entry before it is missing, or its time is wrong.
 fn accepts_frame(note: &Note) -> bool {
     let why = match note {
         Note::Closes(_) => return true,
@@ -290,13 +291,13 @@ fn accepts_frame(note: &Note) -> bool {
     }
 }
 
-// Writes the lines that no line on the page closes.
+// Writes the lines of the open transactions, which no line on the page closes.
 fn write_open(page: &mut Page, links: &Links) {
     let lines = links.all_open();
     if lines.is_empty() {
         return;
     }
-    put(page, "<p class=\"open\">Not closed by a line here:");
+    put(page, "<p class=\"open\">Open transactions:");
     for line in lines {
         write_line_number(page, " <a id=\"r", Some(*line));
         write_line_number(page, " href=\"#l", links.shown_line(*line));
@@ -339,7 +340,8 @@ fn write_failing(page: &mut Page, links: &mut Links, failing: &Failing, utc: boo
     put(page, "</div>");
 }
 
-// Writes which line a failure concerns. Where that is supposed to have expired, it is closed.
+// Writes the line of the open transaction that a failure involves. If the repair assumes that it expired, it is
+// recorded as closed.
 fn write_concern(page: &mut Page, links: &mut Links, failing: &Failing) {
     let Some(line) = failing.concerns else {
         return;
@@ -352,7 +354,7 @@ fn write_concern(page: &mut Page, links: &mut Links, failing: &Failing) {
     write_link(page, "<p>", to, closed, &Concern { line });
 }
 
-/// Writes that lines are left out.
+/// Writes that lines are skipped.
 pub fn write_gap(page: &mut Page, gap: Gap) {
     put(page, "<div class=\"gap\">");
     if gap.from < gap.to {
@@ -361,17 +363,17 @@ pub fn write_gap(page: &mut Page, gap: Gap) {
     } else {
         put_number(page, "line ", gap.to);
     }
-    put(page, " left out</div>\n");
+    put(page, " not shown</div>\n");
 }
 
-/// Writes words in a paragraph behind its front.
+/// Writes a paragraph with the text `front` and the words.
 pub fn write_words<D: fmt::Display>(page: &mut Page, front: &str, words: &D) {
     put(page, front);
     append_words(page, words);
     put(page, "</p>\n");
 }
 
-/// Writes the groups of the failures, each with a link to the first of them.
+/// Writes the failure groups, each with a link to its first failure.
 pub fn write_groups(page: &mut Page, groups: &Groups) {
     put(page, "<ol>\n");
     let mut count = 0usize;
@@ -383,7 +385,7 @@ pub fn write_groups(page: &mut Page, groups: &Groups) {
     if count >= MOST {
         put(
             page,
-            "<p>Failures of further kinds stand at their lines alone.</p>\n",
+            "<p>Failures of other kinds are shown at their lines only.</p>\n",
         );
     }
 }
@@ -397,21 +399,21 @@ fn write_group(page: &mut Page, group: Group) {
     append_text(page, matter_of(group.why).as_bytes());
     if group.count > 1 {
         put_number(page, "; ", group.count - 1);
-        put_number(page, " more like it, up to line ", group.last);
+        put_number(page, " more like it, the last at line ", group.last);
     }
     put(page, "</li>\n");
 }
 
-// What is the matter with all lines that fail so.
+// Returns the problem that all lines with this failure have.
 fn matter_of(why: Why) -> &'static str {
     match why {
         Why::Unreadable => UNREADABLE,
-        Why::Broken(Rule::WBit) => "it asks for a reply, and may not",
+        Why::Broken(Rule::WBit) => "the W bit must not be set",
         Why::Broken(rule) => sentence(rule),
     }
 }
 
-/// Writes what became of the primaries that ask for a reply.
+/// Writes the outcomes of the primaries that request a reply.
 pub fn write_primaries(page: &mut Page, links: &Links, primaries: &Primaries) {
     if primaries.len() == 0 {
         return;
@@ -425,7 +427,7 @@ pub fn write_primaries(page: &mut Page, links: &Links, primaries: &Primaries) {
     put(page, "</table>\n");
 }
 
-// Writes what became of the primaries of a kind.
+// Writes the outcomes of the primaries of a kind.
 fn write_outcome(page: &mut Page, links: &Links, outcome: Outcome) {
     put(page, "<tr><td>");
     match outcome.function() {

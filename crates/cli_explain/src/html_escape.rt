@@ -1,12 +1,12 @@
-//! Text in a page of HTML.
+//! Text in an HTML page.
 
 use crate::output_buffer::Page;
 use std::fmt;
 
-// U+FFFD, which stands in place of an octet that has no place in a text.
+// U+FFFD, which replaces a byte that is not allowed in a text.
 const REPLACEMENT: &[u8] = b"\xef\xbf\xbd";
 
-// What stands in place of an octet: a reference where it might be markup.
+// Returns the replacement of a byte: a character reference if the byte could be markup.
 fn reference(octet: u8) -> Option<&'static [u8]> {
     match octet {
         b'<' => Some(b"&lt;"),
@@ -20,7 +20,7 @@ fn reference(octet: u8) -> Option<&'static [u8]> {
     }
 }
 
-/// Lays UTF-8 as text, none of which is markup.
+/// Appends UTF-8 as text without markup.
 pub fn append_text(page: &mut Page, octets: &[u8]) {
     for octet in octets {
         match reference(*octet) {
@@ -30,13 +30,13 @@ pub fn append_text(page: &mut Page, octets: &[u8]) {
     }
 }
 
-/// Lays words as text.
+/// Appends words as text.
 pub fn append_words<D: fmt::Display>(page: &mut Page, words: &D) {
     let words = page.words(words);
     append_text(page, words.as_bytes());
 }
 
-/// Lays octets of the log as text. What isn't UTF-8 in them is replaced by U+FFFD, as are control characters.
+/// Appends bytes of the log as text. Bytes that are not UTF-8, and control characters, are replaced by U+FFFD.
 pub fn append_octets(page: &mut Page, octets: &[u8]) {
     let text = page.text(octets);
     for character in text.chars() {

@@ -1,26 +1,26 @@
-//! What the lines of a page have links to.
+//! Link targets of the lines of a page.
 
 use std::alloc::{AllocError, Global};
 use std::collections::VecDeque;
 
-// How many runs of lines are kept, and how many lines that may be closed yet.
+// The maximum number of runs of lines, and of open lines, that are kept.
 const KEPT: usize = 1024;
 
-// Lines of the log, one behind the other: the first of them and the last.
+// Consecutive log lines: the first and the last.
 #[derive(Clone, Copy)]
 struct Run {
     from: u64,
     to: u64,
 }
 
-/// The lines that are told, and those of them with a link to the line that will close what they opened. Of both the
-/// last ones are kept, so that a page of any length can be written.
+/// The written lines, and those of them with a link to the line that will close their transaction. Only the last ones
+/// of both are kept, so that a page of any length can be written.
 pub struct Links {
     runs: VecDeque<Run>,
     open: Vec<u64>,
 }
 
-// Written out: a proof over one that is dropped has one step for it, not one for each of its parts.
+// Written out so that a proof has one step for a dropped value, not one for each field.
 impl Drop for Links {
     fn drop(self) {
         let Links { runs, open } = self;
@@ -30,7 +30,7 @@ impl Drop for Links {
 }
 
 impl Links {
-    /// No line is told yet.
+    /// Creates links without written lines.
     pub fn new(alloc: Global) -> Links {
         Links {
             runs: VecDeque::new(alloc),
@@ -38,7 +38,7 @@ impl Links {
         }
     }
 
-    /// Notes that a line is told, behind those before it.
+    /// Records that a line is written, after the earlier ones.
     pub fn note(&mut self, line: u64) -> Result<(), AllocError> {
         if let Some(last) = self.runs.back_mut() {
             if last.to.saturating_add(1) == line {
@@ -57,14 +57,14 @@ impl Links {
         Ok(())
     }
 
-    /// The line, if it is known to be told.
+    /// Returns the line if it is known to be written.
     pub fn shown_line(&self, line: u64) -> Option<u64> {
         let mut runs = self.runs.iter();
         runs.any(|run| run.from <= line && line <= run.to)
             .then_some(line)
     }
 
-    /// Notes that a line may be closed, where there is room for it. It says whether there is.
+    /// Records an open line, if there is space for it. Returns whether there is.
     pub fn open(&mut self, line: u64) -> Result<bool, AllocError> {
         if self.open.len() >= KEPT {
             return Ok(false);
@@ -73,7 +73,7 @@ impl Links {
         Ok(true)
     }
 
-    /// Notes that a line is closed. It is answered, if it was noted that it may be.
+    /// Records that a line is closed. Returns the line if it was recorded as open.
     pub fn close(&mut self, line: u64) -> Option<u64> {
         for place in 0..self.open.len() {
             if self.open[place] == line {
@@ -84,12 +84,12 @@ impl Links {
         None
     }
 
-    /// The lines that may be closed, in the order in which they were told.
+    /// Returns the open lines, in the order in which they were written.
     pub fn all_open(&self) -> &[u64] {
         &self.open
     }
 
-    /// Notes that no line will be closed any more.
+    /// Records that no open line will be closed.
     pub fn close_all(&mut self) {
         self.open.clear();
     }

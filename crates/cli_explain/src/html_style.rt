@@ -1,6 +1,6 @@
-//! How the page is drawn.
+//! Style of the HTML page.
 
-/// The style of the page. What stands on top is written last; `order` puts it there.
+/// The style of the page. The part on top is written last; `order` moves it there.
 pub const STYLE: &str = "\
     :root{color-scheme:light dark;--paper:#fff;--ink:#1d2430;--faint:#657084;--rule:#c9d0da;--sent:#1457a8;\
     --taken:#0b6e55;--control:#6b5b95;--bad:#b3121d;--badpaper:#fdecec;--good:#17713a;--goodpaper:#e8f6ec;\

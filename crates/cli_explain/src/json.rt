@@ -1,4 +1,4 @@
-//! What is told, as JSON (RFC 8259): an object a line.
+//! The output as JSON (RFC 8259): one object per line.
 
 use crate::annotation::{Failing, Note};
 use crate::explained_line::{Carried, ExplainedLine};
@@ -16,14 +16,14 @@ use hsms_machine::{GREATEST_DEPTH, Mark};
 use serde::{Described, Serialize, Serializer};
 use std::fmt;
 
-// An object of members, by their names.
+// An object: its members with their names.
 #[derive(Clone, Copy)]
 struct Object<'m, 'a>(&'m [(&'static str, Member<'a>)]);
 
-// What a member of an object holds.
+// The value of a member of an object.
 #[derive(Clone, Copy)]
 enum Member<'a> {
-    // Nothing: the object has no such member.
+    // No value: the object has no such member.
     Nothing,
     Number(u64),
     Truth(bool),
@@ -45,7 +45,7 @@ impl Serialize for Object<'_, '_> {
     }
 }
 
-// Sends members of an object, one after the other.
+// Sends the members of an object in order.
 fn send_members<S: Serializer>(
     out: &mut S,
     members: &[(&'static str, Member<'_>)],
@@ -79,11 +79,11 @@ impl Member<'_> {
     }
 }
 
-// A line of the log, with what is noted of it.
+// A log line with its annotations.
 #[derive(Clone, Copy)]
 struct LineObject<'a> {
     shown_line: ExplainedLine<'a, 'a>,
-    // Of a frame the line in which `hsms show` shows it, of a line that carries no entry its text.
+    // For a frame, the line that `hsms show` writes for it; for a line without an entry, its text.
     shown: &'a str,
     notes: &'a [Note],
     utc: bool,
@@ -101,7 +101,7 @@ impl Serialize for LineObject<'_> {
 }
 
 impl LineObject<'_> {
-    // Sends what the line is, and what it says.
+    // Sends the type, number and content of the line.
     fn send_line<S: Serializer>(&self, out: &mut S) -> Result<(), S::Error> {
         send_text(out, "type", "line")?;
         send_number(out, "line", self.shown_line.number)?;
@@ -139,7 +139,7 @@ impl LineObject<'_> {
         }
     }
 
-    // Sends a frame by the words of its line: its kind, session ID and system bytes, and what stands behind them.
+    // Sends the words of the line of a frame: its kind, session ID and system bytes, and what follows them.
     fn send_frame<S: Serializer>(
         &self,
         out: &mut S,
@@ -161,7 +161,7 @@ impl LineObject<'_> {
     }
 }
 
-// Sends what a control message that has a text says behind its system bytes.
+// Sends the numbers and the message text of a control message that has a text.
 fn send_control<S: Serializer>(out: &mut S, header: Header, rest: &str) -> Result<(), S::Error> {
     send_numbers(out, header)?;
     send_text(out, "octets", rest.rsplit(' ').next().unwrap_or(""))
@@ -182,7 +182,7 @@ fn send_truth<S: Serializer>(out: &mut S, name: &str, truth: bool) -> Result<(),
     out.bool(truth)
 }
 
-// Sends words, if there are such.
+// Sends words, if there are any.
 fn send_words<S: Serializer, D: fmt::Display>(
     out: &mut S,
     name: &str,
@@ -197,7 +197,7 @@ fn send_words<S: Serializer, D: fmt::Display>(
     }
 }
 
-// Sends how often each rule was broken, as an object: by the name of the rule.
+// Sends how often each rule was broken, as an object with a member for each rule name.
 fn send_rules<S: Serializer>(out: &mut S, name: &str, tally: &Tally) -> Result<(), S::Error> {
     out.key(name)?;
     out.begin_map(None)?;
@@ -207,13 +207,13 @@ fn send_rules<S: Serializer>(out: &mut S, name: &str, tally: &Tally) -> Result<(
     out.end_map()
 }
 
-// Sends the time of an entry, and with `utc` its date.
+// Sends the time of an entry, and its date if `utc` is set.
 fn send_time<S: Serializer>(out: &mut S, time: u64, utc: bool) -> Result<(), S::Error> {
     send_number(out, "time", time)?;
     send_words(out, "utc", &Moment { time, utc }.date())
 }
 
-// Sends what a data message says behind its system bytes.
+// Sends the stream, function, W bit and notation of a data message.
 fn send_data<S: Serializer>(out: &mut S, header: Header, notation: &str) -> Result<(), S::Error> {
     send_members(
         out,
@@ -240,7 +240,7 @@ fn send_numbers<S: Serializer>(out: &mut S, header: Header) -> Result<(), S::Err
     }
 }
 
-// Sends what a line closes, and its failures, if there are any.
+// Sends the line that an entry closes, and its failures, if there are any.
 fn send_notes<S: Serializer>(out: &mut S, notes: &[Note], utc: bool) -> Result<(), S::Error> {
     let mut fails = false;
     for note in notes {
@@ -262,7 +262,7 @@ fn send_closing<S: Serializer>(out: &mut S, closing: Closing) -> Result<(), S::E
     send_number(out, "after", after)
 }
 
-// The failures among the notes of a line.
+// The failures among the annotations of a line.
 #[derive(Clone, Copy)]
 struct Failures<'a> {
     notes: &'a [Note],
@@ -285,7 +285,7 @@ impl Serialize for Failures<'_> {
     }
 }
 
-// Sends a failure that is told whole.
+// Sends a failure in full.
 fn send_failing<S: Serializer>(out: &mut S, failing: &Failing, utc: bool) -> Result<(), S::Error> {
     let members = [
         ("rule", Member::Text(name_of(failing.why))),
@@ -301,7 +301,7 @@ fn send_failing<S: Serializer>(out: &mut S, failing: &Failing, utc: bool) -> Res
     Object(&members).serialize(out)
 }
 
-// The column at which a line cannot be read.
+// Returns the column at which a line is unreadable.
 fn column_of(expected: Option<Expected>) -> Member<'static> {
     match expected {
         Some(Expected::Form(unreadable)) => Member::Number(unreadable.column as u64),
@@ -309,7 +309,7 @@ fn column_of(expected: Option<Expected>) -> Member<'static> {
     }
 }
 
-// Why a line cannot be read.
+// Returns why a line is unreadable.
 fn reason_of(expected: Option<Expected>) -> Member<'static> {
     match expected {
         Some(Expected::Form(unreadable)) => Member::Text(unreadable.reason.words()),
@@ -317,7 +317,7 @@ fn reason_of(expected: Option<Expected>) -> Member<'static> {
     }
 }
 
-// What was expected: of a line that cannot be read, the form.
+// Returns what was expected: for an unreadable line, the form.
 fn expected_of(expected: Option<Expected>) -> Member<'static> {
     match expected {
         Some(Expected::Form(unreadable)) => Member::Text(unreadable.form.words()),
@@ -325,7 +325,7 @@ fn expected_of(expected: Option<Expected>) -> Member<'static> {
     }
 }
 
-// Sends a failure that is told by the line of one.
+// Sends a failure that refers to the line of an earlier one.
 fn send_group<S: Serializer>(out: &mut S, failure_group: &FailureGroup) -> Result<(), S::Error> {
     let members = [
         ("rule", Member::Text(name_of(failure_group.why))),
@@ -343,7 +343,7 @@ fn mark_word(mark: Mark) -> &'static str {
     }
 }
 
-/// Writes an object in a line.
+/// Writes an object as a line.
 pub fn write_object<T: Serialize>(page: &mut Page, object: &T) {
     match serde_json::to_vec(page.alloc(), object) {
         Ok(octets) => {
@@ -354,8 +354,8 @@ pub fn write_object<T: Serialize>(page: &mut Page, object: &T) {
     }
 }
 
-/// Writes a line of the log and its notes: with `utc` the date of its time besides. What isn't UTF-8 in a line that
-/// carries no entry is replaced by U+FFFD.
+/// Writes a log line and its annotations. `utc` adds the date of its time. If a line has no entry, bytes that are not
+/// UTF-8 are replaced by U+FFFD.
 pub fn write_line(page: &mut Page, shown_line: ExplainedLine<'_, '_>, notes: &[Note], utc: bool) {
     let shown = shown(page, shown_line);
     let object = LineObject {
@@ -367,7 +367,7 @@ pub fn write_line(page: &mut Page, shown_line: ExplainedLine<'_, '_>, notes: &[N
     write_object(page, &object);
 }
 
-// The line in which `hsms show` shows a frame, without its end, and of another line its octets.
+// Returns the line that `hsms show` writes for a frame, without its line ending, or the bytes of another line.
 fn shown(page: &mut Page, shown_line: ExplainedLine<'_, '_>) -> String {
     if let Carried::Entry(step, text) = shown_line.carried {
         if let What::Frame(_, header) = step.what {
@@ -377,7 +377,7 @@ fn shown(page: &mut Page, shown_line: ExplainedLine<'_, '_>) -> String {
     page.text(shown_line.shown())
 }
 
-// That lines are left out.
+// Skipped lines.
 impl Described for Gap {}
 
 impl Serialize for Gap {
@@ -391,7 +391,7 @@ impl Serialize for Gap {
     }
 }
 
-// That nothing was judged.
+// Why nothing was checked.
 impl Described for Unjudged {}
 
 impl Serialize for Unjudged {
@@ -404,7 +404,7 @@ impl Serialize for Unjudged {
     }
 }
 
-// How many failures of a group weren't told whole.
+// The number of failures of a group that were not written in full.
 impl Described for Rest {}
 
 impl Serialize for Rest {
@@ -434,7 +434,7 @@ impl Serialize for Tally {
     }
 }
 
-// What became of the primaries of a kind.
+// The outcomes of the primaries of a kind.
 impl Described for Outcome {}
 
 impl Serialize for Outcome {
@@ -449,7 +449,7 @@ impl Serialize for Outcome {
     }
 }
 
-// Sends of which kind primaries are, and how many there are.
+// Sends the kind of primaries, and their number.
 fn send_kind<S: Serializer>(out: &mut S, outcome: &Outcome) -> Result<(), S::Error> {
     let function = outcome.function();
     let stream = function.map(|it| u64::from(it.stream));
@@ -464,7 +464,7 @@ fn send_kind<S: Serializer>(out: &mut S, outcome: &Outcome) -> Result<(), S::Err
     send_members(out, &members)
 }
 
-// Sends numbers by their names.
+// Sends numbers with their names.
 fn send_named<S: Serializer>(out: &mut S, numbers: &[(&'static str, u64)]) -> Result<(), S::Error> {
     for (name, number) in numbers {
         send_number(out, name, *number)?;

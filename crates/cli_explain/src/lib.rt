@@ -1,8 +1,8 @@
-//! `hsms explain`: from a verdict on a session log to its cause.
+//! `hsms explain`: the cause of a verdict on a session log.
 //!
-//! [`explain_to`] reads a log once, and tells each line with its number, a frame as `hsms show` shows it; below it what
-//! it has to do with lines before it, and each rule that it breaks, with the way in which the log is gone on with. Its
-//! last line is the verdict of the audit:
+//! [`explain_to`] reads a log once and writes each line with its number. A frame is written as `hsms show` shows it.
+//! Below a line come the earlier line that the entry closes, each rule that it breaks, and the repair with which the
+//! log continues. The last line is the verdict of the audit:
 //!
 //! ```
 //! let passes = explain_to(alloc, excerpt, &mut source, &mut sink)?;

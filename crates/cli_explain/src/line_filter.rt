@@ -1,4 +1,4 @@
-//! Which lines of a log are told, and when.
+//! Filter of log lines: which lines are written, and when.
 
 use crate::annotation::{Note, has_failure};
 use crate::explained_line::{Carried, ExplainedLine, carried_by};
@@ -10,21 +10,21 @@ use cli_options::{Excerpt, Lines};
 use std::alloc::{AllocError, Global};
 use std::collections::VecDeque;
 
-/// The lines of an excerpt. Where failures alone are told, the lines before the next one are held, no more of them than
-/// are told around it.
+/// The filter of an excerpt. If only failures are written, it buffers the lines before the next failure, at most as
+/// many as are written around a failure.
 pub struct Window {
     excerpt: Excerpt,
     held: VecDeque<Held>,
-    // How many lines are told behind the last failure yet.
+    // The number of lines that are still to be written after the last failure.
     subsequent: u32,
-    // The number of the last line that was told.
+    // The number of the last line written.
     last: u64,
     links: Links,
-    // The octets of a frame.
+    // The bytes of a frame.
     octets: Vec<u8>,
 }
 
-// A line that is held: its number, its octets as far as they are told, whether they are an entry, and its notes.
+// A buffered line: its number, the bytes that are written, whether it is an entry, and its annotations.
 #[derive(Drop)]
 struct Held {
     number: u64,
@@ -33,7 +33,7 @@ struct Held {
     notes: Vec<Note>,
 }
 
-// Written out: a proof over one that is dropped has one step for it, not one for each of its parts.
+// Written out so that a proof has one step for a dropped value, not one for each field.
 impl Drop for Window {
     fn drop(self) {
         let Window {
@@ -60,7 +60,7 @@ impl Held {
         }
     }
 
-    // What the line carries. The octets of its frame are put in place of what `octets` holds.
+    // Returns the content of the line. The bytes of its frame replace the content of `octets`.
     fn carried<'a>(&self, max: u32, octets: &'a mut Vec<u8>) -> Result<Carried<'a>, AllocError> {
         if !self.is_entry {
             return Ok(Carried::Nothing);
@@ -78,7 +78,7 @@ impl Window {
     ghost use Rattle.cli_explain.specs.OutputBuffer.{Adds, AddsSome};
     ghost use Rattle.cli_explain.specs.LineFilter.{TakesLine, WritesNext, further_lines_after, is_written_at_once, left_out};
 
-    /// No line was told yet.
+    /// Creates a filter that has written no line.
     pub fn new(alloc: Global, excerpt: Excerpt) -> Window
         ensures { result.excerpt ≡ excerpt }
     {
@@ -92,21 +92,21 @@ impl Window {
         }
     }
 
-    /// What writes it.
+    /// Returns the emitter of the selected format.
     pub fn emitter(&self) -> Emitter
         ensures { result.form ≡ self.now.excerpt.form }
     {
         Emitter::new(self.excerpt)
     }
 
-    /// Whether the line is one of the excerpt.
+    /// Returns whether the line is within the selected range.
     pub fn has_line(&self, number: u64) -> bool
         ensures { result ≡ is_between self.now.excerpt number }
     {
         self.excerpt.has_line(number)
     }
 
-    /// Tells a line of the excerpt, of a log whose frames have at most `max` octets, or holds it.
+    /// Writes or buffers a line within the selected range. Frames of the log have at most `max` bytes.
     pub fn take(
         &mut self,
         alloc: Global,
@@ -131,7 +131,7 @@ impl Window {
         }
     }
 
-    // Whether the line of these notes is told at once.
+    // Returns whether the line with these annotations is written at once.
     fn is_reported(&mut self, notes: &[Note]) -> bool
         ensures shown_line { result ≡ is_written_at_once self.old.excerpt.lines self.old.subsequent notes.now }
         ensures subsequent { self.new.subsequent
@@ -145,7 +145,7 @@ impl Window {
         }
     }
 
-    // The same where failures alone are told, and lines around them.
+    // Returns whether the line is written at once, if only failures and the lines around them are written.
     fn is_near(&mut self, notes: &[Note]) -> bool
         ensures shown_line { result ≡ (list_any is_whole notes.now || nat_lt 0 self.old.subsequent) }
         ensures subsequent { self.new.subsequent
@@ -162,7 +162,7 @@ impl Window {
         is_beyond
     }
 
-    // Tells a line, behind those that were told.
+    // Writes a line after the lines already written.
     fn submit(&mut self, page: &mut Page, shown_line: ExplainedLine<'_, '_>, notes: &[Note])
         ensures shown_line { self.old.excerpt.form ≡ Text → WritesNext self.old.last page.old page.new shown_line.entry notes.now }
         ensures subsequent { self.new.subsequent ≡ self.old.subsequent }
@@ -174,7 +174,7 @@ impl Window {
             .line(page, &mut self.links, shown_line, notes);
     }
 
-    // Holds a line in place of the oldest one that is held.
+    // Buffers a line in place of the oldest buffered one.
     fn hold(
         &mut self,
         alloc: Global,
@@ -198,7 +198,7 @@ impl Window {
         Ok(())
     }
 
-    // The oldest line that is held, where as many are as are told before a failure.
+    // Returns the oldest buffered line if the buffer is full, and otherwise a new one.
     fn vacant(&mut self, alloc: Global) -> Held
         ensures subsequent { self.new.subsequent ≡ self.old.subsequent }
         ensures excerpt { self.new.excerpt ≡ self.old.excerpt }
@@ -212,7 +212,7 @@ impl Window {
         }
     }
 
-    // Tells the lines that are held, in their order, and holds none any more.
+    // Writes the buffered lines in order, and empties the buffer.
     fn emit_held(&mut self, page: &mut Page, max: u32)
         ensures shown_line { self.old.excerpt.form ≡ Text → AddsSome page.old page.new }
         ensures subsequent { self.new.subsequent ≡ self.old.subsequent }
@@ -244,7 +244,7 @@ impl Window {
         emitter.line(page, &mut self.links, shown_line, &held.notes);
     }
 
-    // Tells that lines are left out before this one, where it doesn't follow the last one that was told.
+    // Writes that lines are skipped before this one, if it does not follow the last line written.
     fn go_to(&mut self, page: &mut Page, number: u64)
         ensures shown_line { self.old.excerpt.form ≡ Text → Adds page.old page.new (left_out self.old.last number) }
         ensures last { self.new.last ≡ number }
@@ -256,7 +256,7 @@ impl Window {
         self.last = number;
     }
 
-    // Tells which lines are left out behind the last one that was told, up to this one.
+    // Writes which lines are skipped after the last line written, up to line `to`.
     fn leave_out(&self, page: &mut Page, to: u64)
         ensures { self.now.excerpt.form ≡ Text → Adds page.old page.new (left_out self.now.last (to + 1)) }
     {
@@ -267,7 +267,7 @@ impl Window {
         self.emitter().gap(page, Gap { from, to });
     }
 
-    /// Tells that no line follows, and which are left out behind the last one that was told: the log has so many lines.
+    /// Ends a log of `lines` lines, and writes which lines are skipped after the last line written.
     pub fn finish(&self, page: &mut Page, lines: u64)
         ensures { self.now.excerpt.form ≡ Text → AddsSome page.old page.new }
     {
@@ -275,7 +275,7 @@ impl Window {
         self.emitter().end_lines(page, &self.links);
     }
 
-    /// The lines to which links may lead.
+    /// Returns the lines that links may name.
     pub fn links(&self) -> &Links {
         &self.links
     }

@@ -1,4 +1,4 @@
-//! A line of a log, judged and told.
+//! Check and output of one log line.
 
 ghost use Rattle.std.specs.Prelude.{◌<◌, ◌++◌, ◌∷◌, [], ℕ, List, OnOk, IfOk};
 ghost use Rattle.hsms_log.specs.LineFormat.{line_limit, settings_limit};
@@ -12,8 +12,8 @@ use crate::report::Report;
 use hsms_log::{read_settings, unreadable_settings};
 use std::alloc::{AllocError, Global};
 
-/// Tells a line, of which as much is given as is told. `octets` is memory for the octets of its frame, used again from
-/// line to line.
+/// Checks and writes a line. A line that is too long may be passed in part. `octets` is memory for the bytes of its
+/// frame, reused from line to line.
 pub fn emit_line(
     alloc: Global,
     stage: &mut Stage,
@@ -34,7 +34,7 @@ pub fn emit_line(
     }
 }
 
-// Tells the first line, or one behind a first line that can't be read.
+// Writes the first line, or a line after an unreadable first line.
 fn unjudged_line(
     alloc: Global,
     report: &mut Report,
@@ -52,7 +52,7 @@ fn unjudged_line(
     }
 }
 
-// Tells a line behind a first line that can't be read.
+// Writes a line after an unreadable first line.
 fn further_line(
     alloc: Global,
     report: &mut Report,
@@ -69,7 +69,7 @@ fn further_line(
     Ok(Stage::Unjudged(number))
 }
 
-// Tells the first line.
+// Writes the first line.
 fn first_line(alloc: Global, report: &mut Report, line: &[u8]) -> Result<Stage, AllocError>
     ensures shown_line { IfOk result (λ stage. (before : List (List ℕ)) (real : List ℕ) → IsShown settings_limit real line.now
         → UnjudgedAfter 0 report.old.tally before → ProcessedAfter stage report.new.tally (before ++ real ∷ [])) }
@@ -90,7 +90,7 @@ fn first_line(alloc: Global, report: &mut Report, line: &[u8]) -> Result<Stage, 
     }
 }
 
-// Tells a line that isn't the first.
+// Checks and writes a line after the first.
 fn later_line(
     alloc: Global,
     known: &mut Known,

@@ -1,4 +1,4 @@
-//! What is told, until it is written.
+//! Output that is not yet written.
 
 ghost use Rattle.std.specs.Prelude.{◌≡◌, ◌≤◌, ℕ, List, [], IfOk, IfSome, replicate, decimal};
 ghost use Rattle.cli_output.specs.Line.{LineOf};
@@ -11,7 +11,7 @@ use secs_text::{Block, Output};
 use std::alloc::{AllocError, Global};
 use std::fmt;
 
-/// Octets in memory, as an output. Where memory was refused it takes nothing any more.
+/// Bytes in memory, as an output. After a failed allocation it drops its input.
 #[derive(Drop)]
 struct Memory {
     octets: Vec<u8>,
@@ -41,19 +41,19 @@ impl Output for Memory {
     }
 }
 
-/// What is told and not written yet: in memory, and behind it in a block. Once memory was wanting for something that
-/// had to be told, the page is refused: it takes more, as if nothing had happened, and hands nothing on.
+/// Output that is not yet written: in memory, followed by a block. After a failed allocation it accepts more output
+/// without an error, but returns none.
 #[derive(Drop)]
 pub struct Page {
     alloc: Global,
     shown_line: Memory,
     block: Block,
-    // What is made of a message, to be written in another way.
+    // The line of a message, to be written in another form.
     aside: Memory,
 }
 
 impl Page {
-    /// An empty page.
+    /// Creates an empty buffer.
     pub fn new(alloc: Global) -> Result<Page, AllocError>
         ensures { IfOk result (λ page. HasEmitted page []) }
     {
@@ -66,14 +66,14 @@ impl Page {
         })
     }
 
-    /// Lays octets.
+    /// Appends bytes.
     pub fn append_chunk(&mut self, octets: &[u8])
         ensures { Adds self.old self.new octets.now }
     {
         self.block.append_chunk(&mut self.shown_line, octets);
     }
 
-    /// Lays so many blanks.
+    /// Appends `count` spaces.
     pub fn append_blanks(&mut self, count: usize)
         ensures { Adds self.old self.new (replicate count 32) }
     {
@@ -82,7 +82,7 @@ impl Page {
         }
     }
 
-    /// Lays a number in decimal, behind blanks where it has fewer digits than this.
+    /// Appends a number in decimal, padded on the left with spaces to `width`.
     pub fn append_number(&mut self, number: u64, width: usize)
         ensures { Adds self.old self.new (padded width (decimal number)) }
     {
@@ -92,7 +92,7 @@ impl Page {
         self.append_chunk(digits.as_bytes());
     }
 
-    /// Lays the words of a value.
+    /// Appends the text of a value.
     pub fn append_words<D: fmt::Display>(&mut self, words: &D)
         ensures { (said : List ℕ) × IfSome (D.output words.now) (λ output. said ≡ output) × Adds self.old self.new said }
     {
@@ -102,7 +102,7 @@ impl Page {
         }
     }
 
-    /// Lays the line of a message, with its end, as `hsms show` shows it.
+    /// Appends the line of a message, with its line ending, as `hsms show` shows it.
     pub fn append_message_line(&mut self, header: Header, text: &[u8], depth: u8)
         requires { depth ≤ 100 }
         ensures { (line : List ℕ) × LineOf depth (record { header = header; text = text.now }) line × Adds self.old self.new line }
@@ -110,7 +110,7 @@ impl Page {
         give_line(&mut self.shown_line, &mut self.block, header, text, depth);
     }
 
-    /// The line of a message, without its end, as `hsms show` shows it. It isn't laid.
+    /// Returns the line of a message, without its line ending, as `hsms show` shows it. It is not appended.
     pub fn message(&mut self, header: Header, text: &[u8], depth: u8) -> String
         requires { depth ≤ 100 }
     {
@@ -126,7 +126,7 @@ impl Page {
         self.made(line)
     }
 
-    /// The words of a value, to be laid.
+    /// Returns the text of a value, to be appended.
     pub fn words<D: fmt::Display>(&mut self, words: &D) -> String
         ensures { AddsSome self.old self.new }
     {
@@ -134,13 +134,13 @@ impl Page {
         self.made(words)
     }
 
-    /// Octets of the log as text. What isn't UTF-8 in them is replaced by U+FFFD.
+    /// Returns bytes of the log as text. Bytes that are not UTF-8 are replaced by U+FFFD.
     pub fn text(&mut self, octets: &[u8]) -> String {
         let text = String::from_utf8_lossy(self.alloc, octets);
         self.made(text)
     }
 
-    // A text that was made, to be laid. Where memory was wanting for it, it is empty, and the page refused.
+    // Returns the text. If its allocation failed, records that and returns an empty text.
     fn made(&mut self, text: Result<String, AllocError>) -> String
         ensures { AddsSome self.old self.new }
     {
@@ -153,7 +153,7 @@ impl Page {
         }
     }
 
-    /// Refuses the page: memory was wanting for something that had to be told.
+    /// Records that an allocation for the output failed. The buffer then returns no more output.
     pub fn refuse(&mut self)
         ensures { (words : List ℕ) → Adds self.old self.new words }
     {
@@ -161,12 +161,12 @@ impl Page {
         self.shown_line.is_refused = true;
     }
 
-    /// The memory in which texts are made.
+    /// Returns the allocator for texts.
     pub fn alloc(&self) -> Global {
         self.alloc
     }
 
-    /// Puts all that is told into memory.
+    /// Moves all output into memory.
     pub fn buffer_pending(&mut self)
         ensures shown_line { (text : List ℕ) → HasEmitted self.old text → HasEmitted self.new text }
         ensures collected { self.new.block ≡ [] }
@@ -174,11 +174,11 @@ impl Page {
         self.block.give_all(&mut self.shown_line);
     }
 
-    /// All that was gathered.
+    /// Returns all buffered output.
     ///
     /// # Errors
     ///
-    /// Where memory was refused to it.
+    /// Returns `AllocError` if an allocation for the output failed.
     pub fn octets(&self) -> Result<&[u8], AllocError>
         ensures { IfOk result (λ octets. (text : List ℕ) → self.now.block ≡ [] → HasEmitted self.now text → octets.now ≡ text) }
     {
@@ -188,7 +188,7 @@ impl Page {
         Ok(&self.shown_line.octets)
     }
 
-    /// Lets all go that is told.
+    /// Drops all buffered output.
     pub fn clear(&mut self)
         ensures { self.old.block ≡ [] → HasEmitted self.new [] }
     {

@@ -1,7 +1,7 @@
-//! The words that stand below a line.
+//! Phrases below a line.
 
 ghost use Rattle.std.specs.Prelude.{◌≡◌, Some};
-ghost use Rattle.cli_explain.specs.Phrases.{group_text, closing_text, concern_text, rest_text, tie_word, why_name};
+ghost use Rattle.cli_explain.specs.Phrases.{group_text, closing_text, closing_word, concern_text, rest_text, tie_word, why_name};
 
 use crate::timestamp::Moment;
 use hsms_frame::{Kind, kind};
@@ -9,7 +9,7 @@ use hsms_log::{What, Why, cause_word};
 use hsms_machine::{Cause, RepairAction};
 use std::fmt;
 
-/// What an entry is to the transaction that it closes.
+/// The relation of an entry to the transaction that it closes.
 #[derive(Clone, Copy)]
 pub enum Tie {
     Answers,
@@ -18,7 +18,8 @@ pub enum Tie {
 }
 
 impl Tie {
-    /// What an entry is to the one that it closes: a reject, an answer, or, as a `t3`, an expiry.
+    /// Returns the relation of an entry to the transaction that it closes: a reject, an answer, or, for a `t3`, an
+    /// expiry.
     pub fn of(what: What) -> Tie {
         match what {
             What::Frame(_, header) => {
@@ -33,7 +34,7 @@ impl Tie {
     }
 }
 
-/// The word that tells what an entry is to the one that it closes.
+/// Returns the word for the relation.
 pub fn word_of(tie: Tie) -> &'static str
     ensures { result.now ≡ tie_word tie }
 {
@@ -44,7 +45,17 @@ pub fn word_of(tie: Tie) -> &'static str
     }
 }
 
-/// That an entry closes the transaction which a line opened, so many ms after it.
+// Returns the start of the phrase for an entry that closes a transaction.
+fn closing_phrase(tie: Tie) -> &'static str
+    ensures { result.now ≡ closing_word tie }
+{
+    match tie {
+        Tie::Expires => "T3 timeout of",
+        Tie::Answers | Tie::Rejects => word_of(tie),
+    }
+}
+
+/// An entry that closes the transaction opened by a line, `after` ms later.
 #[derive(Clone, Copy)]
 pub struct Closing {
     pub tie: Tie,
@@ -56,14 +67,14 @@ impl fmt::Display for Closing {
     ghost output = { λ closing. Some (closing_text closing) };
 
     fn fmt<W: fmt::Write>(&self, f: &mut fmt::Formatter<W>) -> fmt::Result {
-        let tie = word_of(self.tie);
+        let tie = closing_phrase(self.tie);
         let line = self.line;
         let after = self.after;
         write!(f, "{tie} line {line} after {after} ms")
     }
 }
 
-/// That a failure concerns a line.
+/// The line of an open transaction that a failure involves.
 #[derive(Clone, Copy)]
 pub struct Concern {
     pub line: u64,
@@ -74,11 +85,11 @@ impl fmt::Display for Concern {
 
     fn fmt<W: fmt::Write>(&self, f: &mut fmt::Formatter<W>) -> fmt::Result {
         let line = self.line;
-        write!(f, "concerns line {line}")
+        write!(f, "open transaction: line {line}")
     }
 }
 
-/// That a line fails as another one before it does, so many times.
+/// One or more failures like that of an earlier line. `times` is their number.
 #[derive(Clone, Copy)]
 pub struct FailureGroup {
     pub why: Why,
@@ -94,14 +105,14 @@ impl fmt::Display for FailureGroup {
         let line = self.line;
         let times = self.times;
         if times > 1 {
-            write!(f, "FAIL {name}: like line {line}, {times} times")
+            write!(f, "FAIL {name}: same as line {line} ({times} times)")
         } else {
-            write!(f, "FAIL {name}: like line {line}")
+            write!(f, "FAIL {name}: same as line {line}")
         }
     }
 }
 
-/// That so many more lines fail as a line does, up to the last one.
+/// The number of further failures like that of `line`, up to the line `last`.
 #[derive(Clone, Copy)]
 pub struct Rest {
     pub why: Why,
@@ -120,31 +131,31 @@ impl fmt::Display for Rest {
         let last = self.last;
         write!(
             f,
-            "{name}: and {count} more like line {line}, up to line {last}"
+            "{name}: {count} more like line {line}, the last at line {last}"
         )
     }
 }
 
-/// Lines that are left out: the first of them, and the last.
+/// Skipped lines: the first and the last.
 #[derive(Clone, Copy)]
 pub struct Gap {
     pub from: u64,
     pub to: u64,
 }
 
-/// Why nothing of a log was judged.
+/// Why nothing of a log was checked.
 #[derive(Clone, Copy)]
 pub enum Unjudged {
-    /// It has no line.
+    /// The log has no lines.
     Empty,
-    /// Its first line can't be read.
+    /// Its first line is unreadable.
     Unreadable,
-    /// It has no entry.
+    /// The log has no entries.
     NoEntry,
 }
 
 impl Unjudged {
-    /// Returns why nothing was judged of a log of so many lines, without settings.
+    /// Returns why a log of `lines` lines without settings was not checked.
     pub fn without_settings(lines: u64) -> Unjudged {
         if lines == 0 {
             Unjudged::Empty
@@ -153,12 +164,12 @@ impl Unjudged {
         }
     }
 
-    /// The same in words.
+    /// Returns the reason as text.
     pub fn words(self) -> &'static str {
         match self {
-            Unjudged::Empty => "nothing was judged: the log is empty",
-            Unjudged::Unreadable => "nothing was judged: line 1 can't be read",
-            Unjudged::NoEntry => "nothing was judged: the log has no entry",
+            Unjudged::Empty => "not audited: the log is empty",
+            Unjudged::Unreadable => "not audited: line 1 is unreadable",
+            Unjudged::NoEntry => "not audited: the log has no entries",
         }
     }
 }
@@ -181,7 +192,7 @@ impl fmt::Display for System {
     }
 }
 
-/// The name of the rule that is broken, or `unreadable`.
+/// Returns the name of the broken rule, or `unreadable`.
 pub fn name_of(why: Why) -> &'static str
     ensures { result.now ≡ why_name why }
 {
@@ -191,14 +202,14 @@ pub fn name_of(why: Why) -> &'static str
     }
 }
 
-/// How the log is gone on with behind a failure, where with `utc` a time is told as a date.
+/// How the log continues after a failure. `utc` selects a date instead of a time in ms.
 #[derive(Clone, Copy)]
 pub struct Continuation {
     pub repair_action: RepairAction,
     pub utc: bool,
 }
 
-/// An entry that is put before a line, as it would stand in the log.
+/// An entry that is inserted before a line, as the log would have it.
 #[derive(Clone, Copy)]
 pub enum Put {
     T3(u64, u32),
@@ -207,7 +218,7 @@ pub enum Put {
 }
 
 impl Put {
-    /// What the remedy puts before the line, if it does that.
+    /// Returns the entry that the repair inserts before the line, if it inserts one.
     pub fn of(repair_action: RepairAction) -> Option<Put> {
         match repair_action {
             RepairAction::ExpireFirst(time, system) => Some(Put::T3(time, system)),
@@ -234,7 +245,7 @@ impl fmt::Display for Put {
 impl fmt::Display for Continuation {
     fn fmt<W: fmt::Write>(&self, f: &mut fmt::Formatter<W>) -> fmt::Result {
         if let Some(put) = Put::of(self.repair_action) {
-            return write!(f, "goes on as if `{put}` stood before it");
+            return write!(f, "continues as if `{put}` were logged before it");
         }
         match self.repair_action {
             RepairAction::Raise(time) => {
@@ -242,10 +253,10 @@ impl fmt::Display for Continuation {
                     time,
                     utc: self.utc,
                 };
-                write!(f, "goes on as if its time were {moment}")
+                write!(f, "continues as if its time were {moment}")
             }
-            RepairAction::Discard => write!(f, "goes on as if it were thrown away"),
-            _ => write!(f, "goes on without it"),
+            RepairAction::Discard => write!(f, "continues as if it were discarded"),
+            _ => write!(f, "continues without it"),
         }
     }
 }

@@ -1,4 +1,4 @@
-//! What became of each primary of a log that asks for a reply, by stream, function and direction.
+//! Statistics of the primaries of a log that request a reply, by stream, function and direction.
 
 ghost use Rattle.std.specs.Prelude.{◌<◌};
 
@@ -13,7 +13,7 @@ use indexmap::IndexMap;
 use std::alloc::{AllocError, Global};
 use std::fmt;
 
-// Which way a primary went.
+// The direction of a primary.
 #[derive(Clone, Copy)]
 enum Direction {
     Sent,
@@ -31,27 +31,27 @@ impl Direction {
     }
 }
 
-// The number of the messages beyond those that are kept apart. That of a stream and a function is less.
+// The number of the messages beyond those that are counted separately. The number of a stream and function is less.
 const OTHERS: u16 = 1 << 15;
 
-/// What became of the primaries of each kind, and the times of the replies.
+/// The outcomes of the primaries of each kind, and the times of the replies.
 pub struct Primaries {
     replies: Replies,
     times: IndexMap<u32, Histogram>,
 }
 
-/// What became of the primaries of a kind, and the times of their replies, if there are such.
+/// The outcomes of the primaries of a kind, and the times of their replies, if there are any.
 #[derive(Clone, Copy)]
 pub struct Outcome {
     kind: u32,
     pub counts: Counts,
-    /// How many wait.
+    /// The number of primaries that wait for a reply.
     pub waiting: u64,
     pub times: Option<Times>,
 }
 
-/// Of the times of replies in ms the least, the median, what 99 of 100 don't exceed, and the greatest, with the line of
-/// the last reply that took it.
+/// The times of replies in ms: the minimum, the median, the time that 99 of 100 do not exceed, and the maximum. `line`
+/// is that of the last reply that took the maximum time.
 #[derive(Clone, Copy)]
 pub struct Times {
     pub least: u64,
@@ -77,19 +77,19 @@ impl Times {
         }
     }
 
-    /// The same, each with its name.
+    /// Returns the times and the line with their names.
     pub fn named(&self) -> [(&'static str, u64); 5] {
         [
-            ("least", self.least),
+            ("min", self.least),
             ("median", self.median),
             ("p99", self.most),
-            ("greatest", self.greatest),
+            ("max", self.greatest),
             ("line", self.line),
         ]
     }
 }
 
-// Written out: a proof over one that is dropped has one step for it, not one for each of its parts.
+// Written out so that a proof has one step for a dropped value, not one for each field.
 impl Drop for Primaries {
     fn drop(self) {
         let Primaries { replies, times } = self;
@@ -99,7 +99,7 @@ impl Drop for Primaries {
 }
 
 impl Primaries {
-    /// No primary yet.
+    /// Creates statistics without primaries.
     pub fn new(alloc: Global) -> Primaries {
         Primaries {
             replies: Replies::new(alloc),
@@ -107,7 +107,7 @@ impl Primaries {
         }
     }
 
-    /// Notes a lawful step at a line, and where the transaction was opened that it closes.
+    /// Records a valid step at a line. `closed` is the opening of the transaction that it closes, if it closes one.
     pub fn note(
         &mut self,
         alloc: Global,
@@ -124,7 +124,7 @@ impl Primaries {
         }
     }
 
-    // Notes a step that closes nothing.
+    // Records a step that closes no transaction.
     fn note_opening(&mut self, what: What) -> Result<(), AllocError> {
         match what {
             What::Up => {
@@ -136,7 +136,7 @@ impl Primaries {
         }
     }
 
-    // Notes a frame that closes nothing.
+    // Records a frame that closes no transaction.
     fn note_primary(&mut self, mark: Mark, header: Header) -> Result<(), AllocError> {
         if kind(header) != Kind::Primary || !header.wait() {
             return Ok(());
@@ -156,7 +156,7 @@ impl Primaries {
             .note_opened(key(direction, header.system), kind)
     }
 
-    // Notes what closes a transaction so many ms after it was opened.
+    // Records a step that closes a transaction `after` ms after it was opened.
     fn note_closing(
         &mut self,
         alloc: Global,
@@ -186,12 +186,12 @@ impl Primaries {
         Ok(())
     }
 
-    /// How many kinds there were.
+    /// Returns the number of kinds.
     pub fn len(&self) -> usize {
         self.replies.len()
     }
 
-    /// What became of the primaries of the kind that came at this place, from 0.
+    /// Returns the outcome of the kind at this index, from 0, in the order of first occurrence.
     pub fn outcome(&self, place: usize) -> Option<Outcome> {
         let (kind, counts) = self.replies.at(place)?;
         let waiting = self.replies.waiting(kind) as u64;
@@ -208,17 +208,17 @@ impl Primaries {
     }
 }
 
-// The kind of the primaries of a message that went in a direction: twice its number, and one more if they were received.
+// Returns the kind of the primaries of a message in a direction: twice its number, plus one if they were received.
 fn kind_of(message: u16, direction: Direction) -> u32 {
     u32::from(message) * 2 + direction.number()
 }
 
-// The direction and the system bytes of a primary.
+// Returns the key of a primary: its direction and its system bytes.
 fn key(direction: Direction, system: u32) -> u64 {
     u64::from(direction.number()) * (1 << 32) + u64::from(system)
 }
 
-// What a closing step closes, and how.
+// Returns the key of the primary that a closing step closes, and the outcome.
 fn closing_of(what: What) -> Option<(u64, ReplyOutcome)> {
     match what {
         What::Frame(Mark::Sent, header) => Some((
@@ -245,7 +245,7 @@ fn reply_outcome_by(header: Header) -> ReplyOutcome {
 }
 
 impl Outcome {
-    /// Which way they went: `sent` or `received`.
+    /// Returns the direction of the primaries: `sent` or `received`.
     pub fn way(&self) -> &'static str {
         if self.kind % 2 == 0 {
             "sent"
@@ -254,7 +254,7 @@ impl Outcome {
         }
     }
 
-    /// Their stream and function, where they are of one kind and not those beyond the kinds that are kept apart.
+    /// Returns the stream and function of the primaries. `None` for those beyond the kinds that are counted separately.
     pub fn function(&self) -> Option<Function> {
         let message = self.kind / 2;
         if message >= u32::from(OTHERS) {
@@ -264,7 +264,7 @@ impl Outcome {
         Some(Function { stream, function })
     }
 
-    /// Those that the end of their connection left open.
+    /// Returns the number of primaries that were open when their connection ended.
     pub fn ended(&self) -> u64 {
         let counts = self.counts;
         let closed = [
@@ -279,7 +279,7 @@ impl Outcome {
         left.saturating_sub(self.waiting)
     }
 
-    /// What became of them, and how many became so.
+    /// Returns the number of primaries with each outcome.
     pub fn fates(&self) -> [(&'static str, u64); 6] {
         [
             ("answered", self.counts.answered),
@@ -291,7 +291,7 @@ impl Outcome {
         ]
     }
 
-    // The stream and the function, and how many went in which direction.
+    // Writes the stream and function, and the number of primaries with their direction.
     fn write_kind<W: fmt::Write>(&self, f: &mut fmt::Formatter<W>) -> fmt::Result {
         let way = self.way();
         let opened = self.counts.opened;
@@ -302,7 +302,7 @@ impl Outcome {
     }
 }
 
-// Writes numbers behind their names.
+// Writes numbers, each after its name.
 fn write_named<W: fmt::Write>(
     f: &mut fmt::Formatter<W>,
     numbers: &[(&'static str, u64)],

@@ -1,4 +1,4 @@
-//! An entry of the log, judged again and again until it is taken in or left out.
+//! Repair of one log entry: it is checked again until it is accepted or skipped.
 
 ghost use Rattle.std.specs.Prelude.{◌≡◌, ◌∷◌, ℕ, List, [], None, Some, OnOk};
 ghost use Rattle.hsms_machine.specs.Repair.{change_by, entry_of_event, thrown_away as without_taking};
@@ -24,10 +24,10 @@ use hsms_log::{Step, What, Why};
 use hsms_machine::{Mark, RepairAction, Rule};
 use std::alloc::{AllocError, Global};
 
-// How many judgements of an entry follow the first at most, besides two for each primary that waits.
+// The maximum number of checks of an entry after the first, in addition to two for each primary that waits.
 const STEPS: u128 = 7;
 
-/// Judges the entry of a line, notes what it closes and each failure, and goes on by the remedies.
+/// Checks the entry of a line, records the transaction that it closes and each failure, and applies the repairs.
 pub fn check_next_entry(
     alloc: Global,
     known: &mut Known,
@@ -57,8 +57,8 @@ pub fn check_next_entry(
     }
 }
 
-// Goes on by the remedy of an entry's first failure, and by those of what is judged then. What becomes of the entry is
-// noted.
+// Applies the repair of an entry's first failure, and the repairs of the entries checked then. Records the outcome of
+// the entry.
 fn repair_broken(
     alloc: Global,
     known: &mut Known,
@@ -86,7 +86,7 @@ fn repair_broken(
     Ok(())
 }
 
-// Judges a step, behind which others are pending, and goes on by its remedy where it fails.
+// Checks a step before other pending ones, and applies its repair if it fails.
 fn check_next(
     alloc: Global,
     known: &mut Known,
@@ -109,7 +109,7 @@ fn check_next(
     }
 }
 
-// Notes what became of a step, where none is pending: it is the entry of a line, as it is gone on with.
+// Records the outcome of a step if no other step is pending: then it is the entry of the line, as repaired.
 fn note_last(
     known: &Known,
     step: Step,
@@ -127,7 +127,7 @@ fn note_last(
     Ok(())
 }
 
-// Notes a lawful step where primaries and requests are kept.
+// Records a valid step in the history and in the primary statistics.
 fn take_in(
     alloc: Global,
     known: &mut Known,
@@ -142,7 +142,7 @@ fn take_in(
     known.primaries.note(alloc, line, step, closed)
 }
 
-// Notes what became of the entry of a line.
+// Records the outcome of the entry of a line.
 fn note(
     known: &Known,
     step: Step,
@@ -162,7 +162,7 @@ fn note(
     }
 }
 
-// Notes which line opened the transaction that a step closes, where it closes one.
+// Records the line that opened the transaction that a step closes, if it closes one.
 fn note_closing(
     step: Step,
     closed: Option<Opening>,
@@ -206,14 +206,15 @@ fn failing(known: &Known, step: Step, text: &[u8], failure: Failure) -> Failing
     }
 }
 
-// The rule in a few words. Besides replies those primaries may ask for no reply by which equipment tells of errors.
+// Returns the rule text. Primaries by which equipment reports errors (stream 9) must not request a reply, as replies
+// must not.
 fn sentence_of(what: What, rule: Rule) -> &'static str
     ensures { SaysRule rule result.now }
 {
     match what {
         What::Frame(_, header) => {
             if rule == Rule::WBit && kind(header) == Kind::Primary {
-                "a primary of stream 9 that asks for a reply"
+                "the W bit is set in a stream 9 message"
             } else {
                 sentence(rule)
             }
@@ -222,7 +223,7 @@ fn sentence_of(what: What, rule: Rule) -> &'static str
     }
 }
 
-// What is judged next: the step as it is changed, or what is put before it, and then the step again.
+// Pushes what is checked next: the changed step, or the inserted entry and then the step again.
 fn go_on(pending: &mut Vec<Step>, step: Step, repair_action: RepairAction) -> Result<(), AllocError>
     ensures { OnOk result ((text : List ℕ) → entries_of text pending.new.items
         ≡ changed (change_by repair_action (entry_by step text)) (entry_by step text) (entries_of text pending.old.items)) }

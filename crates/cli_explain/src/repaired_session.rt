@@ -1,17 +1,17 @@
-//! A session as it is gone on with.
+//! A session as repaired.
 
 use hsms_machine::{EntryRef, Places, RepairAction, Rule, Settings, Tracker};
 use std::alloc::{AllocError, Global};
 use std::marker::Model;
 
-/// Where an open transaction was opened: the number of its line, and its time in ms.
+/// The opening of a transaction: the number of its line, and its time in ms.
 #[derive(Clone, Copy)]
 pub struct Opening {
     pub line: u64,
     pub time: u64,
 }
 
-/// A rule that an entry breaks, the line that it concerns, and how the log is gone on with.
+/// A rule that an entry breaks, the line of the open transaction involved, and the repair with which the log continues.
 #[derive(Clone, Copy)]
 pub struct Failure {
     pub rule: Rule,
@@ -19,15 +19,16 @@ pub struct Failure {
     pub repair_action: RepairAction,
 }
 
-/// What became of an entry: it is taken in, and closes the transaction that was opened there, or it breaks a rule.
+/// The result of the check of an entry: it is accepted, and closes the transaction with this opening; or it breaks a
+/// rule.
 #[derive(Clone, Copy)]
 pub enum Checked {
     Lawful(Option<Opening>),
     Broken(Failure),
 }
 
-/// The judge of a log that is gone on with behind each failure: a tracker, and for what is open the lines and the times
-/// of its opening. It is told the entries of a line, and then that the next line follows.
+/// The state of the check of a log that continues after each failure: a tracker, and the lines and times at which the
+/// open transactions were opened. It receives the entries of a line, and then a call for the next line.
 pub struct RepairedSession {
     tracker: Tracker,
     lines: Places,
@@ -35,7 +36,7 @@ pub struct RepairedSession {
     line: u64,
 }
 
-// Written out: a proof over one that is dropped has one step for it, not one for each of its parts.
+// Written out so that a proof has one step for a dropped value, not one for each field.
 impl Drop for RepairedSession {
     fn drop(self) {
         let RepairedSession {
@@ -70,7 +71,7 @@ impl RepairedSession {
     ghost use Rattle.hsms_machine.specs.OpeningLines.{IsNotInUse};
     ghost use Rattle.cli_explain.specs.RepairedSession.{HasProgress, ProgressLeadsTo, Closes, Concerns, ChecksAs};
 
-    /// The course of a log of which the first line was read.
+    /// Creates the session after the first line of a log.
     pub fn new(alloc: Global, settings: Settings) -> RepairedSession
         ensures repaired_session { HasProgress settings [] [] result }
         ensures line { result.line ≡ 1 }
@@ -83,28 +84,28 @@ impl RepairedSession {
         }
     }
 
-    /// The number of the line, from 1.
+    /// Returns the number of the current line, from 1.
     pub fn line(&self) -> u64
         ensures { result ≡ self.now.line }
     {
         self.line
     }
 
-    /// How many sent primaries with the W bit wait for a reply.
+    /// Returns the number of sent primaries with the W bit that wait for a reply.
     pub fn waiting(&self) -> usize
         ensures { result ≡ waiting_of self.now.tracker }
     {
         self.tracker.waiting()
     }
 
-    /// Goes to the next line.
+    /// Advances to the next line.
     pub fn next_line(&mut self)
         ensures { self.new ≡ record self.old { line = min (self.old.line + 1) (2 ^ 64 - 1) } }
     {
         self.line = self.line.saturating_add(1);
     }
 
-    /// Judges an entry of the line. Where it is lawful it is taken in; else nothing is changed.
+    /// Checks an entry of the current line. A valid entry is accepted; otherwise nothing changes.
     pub fn judge(&mut self, entry: &EntryRef<'_>) -> Result<Checked, AllocError>
         ensures check_result { IfOk result (ChecksAs self.old entry.now self.new) }
         ensures line { OnOk result (self.new.line ≡ self.old.line) }
@@ -120,7 +121,7 @@ impl RepairedSession {
         }
     }
 
-    /// Where the transaction was opened that the entry closes.
+    /// Returns the opening of the transaction that the entry closes.
     fn closed_by(&self, entry: &EntryRef<'_>) -> Option<Opening>
         ensures { Closes self.now entry.now.event result }
     {
@@ -130,7 +131,7 @@ impl RepairedSession {
         }
     }
 
-    /// The line of an open transaction that the failure of an entry concerns.
+    /// Returns the line of the open transaction that the failure of an entry involves.
     fn concerned(&self, rule: Rule, entry: &EntryRef<'_>) -> Option<u64>
         ensures { IfSome result (Concerns self.now entry.now.event rule) }
     {
@@ -143,7 +144,7 @@ impl RepairedSession {
         }
     }
 
-    /// The line of the open transaction that has the direction and the system bytes of this sent or taken frame.
+    /// Returns the line of the open transaction with the direction and the system bytes of this sent or received frame.
     pub fn in_use(&self, entry: &EntryRef<'_>) -> Option<u64>
         ensures concerns { IfSome result (Concerns self.now entry.now.event SystemInUse) }
         ensures none { IfNone result (IsNotInUse self.now.lines entry.now.event) }
@@ -151,7 +152,7 @@ impl RepairedSession {
         self.lines.in_use(entry)
     }
 
-    /// The line of the sent primary with the W bit that waits for a reply, where one alone does.
+    /// Returns the line of the sent primary with the W bit that waits for a reply, if there is exactly one.
     pub fn only_primary(&self) -> Option<u64>
         ensures concerns { IfSome result (λ line. (event : Event) → Concerns self.now event T3Overdue line) }
         ensures alone { IsSome result → waiting_of self.now.tracker ≡ 1 }
@@ -162,7 +163,7 @@ impl RepairedSession {
         }
     }
 
-    /// Takes an entry in, or says which rule it breaks first.
+    /// Accepts an entry, or returns the first rule that it breaks.
     fn step(&mut self, entry: &EntryRef<'_>) -> Result<Option<Rule>, AllocError>
         ensures answer { IfOk result (λ answer. IsBrokenAfter self.old.tracker entry.now answer) }
         ensures broken { IfOk result (λ answer. (rule : Rule) → answer ≡ Some rule → self.new ≡ self.old) }

@@ -1,4 +1,4 @@
-//! What became of the primaries that asked for a reply, and how long the replies took.
+//! Outcomes of the primaries that request a reply, and the times of the replies.
 
 ghost use Rattle.std.specs.Prelude.{◌≡◌, ◌<◌, ◌+◌, ◌⊎◌, ◌∷◌, [], ℕ, List, nat_eq, count_by, slice_get, is_some, IsTrue, IfOk, OnOk};
 ghost use Rattle.indexmap.specs.IndexMap.{get, values, index_map_len};
@@ -8,7 +8,7 @@ ghost use Rattle.cli_explain.specs.ReplyStats.{Deed, Opened, Closed, Ended, Repl
 use indexmap::IndexMap;
 use std::alloc::{AllocError, Global};
 
-// How many kinds are kept apart at most.
+// The maximum number of kinds that are counted separately.
 const MOST: usize = 64;
 
 /// What ended the wait for a reply.
@@ -20,8 +20,8 @@ pub enum ReplyOutcome {
     Rejected,
 }
 
-/// How many primaries of a kind there were, and what became of them; of the times after which they were answered the
-/// least and the greatest, and the line at which this one's reply stands.
+/// The number of primaries of a kind, and of each outcome; the minimum and maximum time until the reply, and the line
+/// of the reply with the maximum time.
 #[derive(Clone, Copy)]
 pub struct Counts {
     pub opened: u64,
@@ -34,13 +34,13 @@ pub struct Counts {
     pub line: u64,
 }
 
-/// What is open, by direction and system bytes, and the counts of each kind, in the order in which each first came.
+/// The open primaries, by direction and system bytes, and the counts of each kind, in the order of first occurrence.
 pub struct Replies {
     open: IndexMap<u64, u32>,
     counts: IndexMap<u32, Counts>,
 }
 
-// Written out: a proof over one that is dropped has one step for it, not one for each of its parts.
+// Written out so that a proof has one step for a dropped value, not one for each field.
 impl Drop for Replies {
     fn drop(self) {
         let Replies { open, counts } = self;
@@ -65,7 +65,7 @@ impl Counts {
         }
     }
 
-    // With one more that was opened.
+    // Returns the counts with one more opened primary.
     fn with_opened(self) -> Counts
         ensures { (opened : ℕ) (replies : List Reply) → IsCounts opened replies self → IsCounts (opened + 1) replies result }
     {
@@ -75,7 +75,7 @@ impl Counts {
         }
     }
 
-    // With one more that was closed after so many ms, at a line.
+    // Returns the counts with one more primary, closed after `after` ms, at a line.
     fn with_closed(self, reply_outcome: ReplyOutcome, after: u64, line: u64) -> Counts
         ensures { (opened : ℕ) (replies : List Reply) → IsCounts opened replies self
             → IsCounts opened (record { reply_outcome = reply_outcome; after = after; line = line } ∷ replies) result }
@@ -113,7 +113,7 @@ impl Counts {
 }
 
 impl Replies {
-    /// No primary yet.
+    /// Creates statistics without primaries.
     pub fn new(alloc: Global) -> Replies
         ensures { HasReplies [] result.open result.counts }
     {
@@ -123,7 +123,7 @@ impl Replies {
         }
     }
 
-    /// Notes a primary of a kind, which is open under the key.
+    /// Records a primary of a kind, which is open under the key.
     pub fn note_opened(&mut self, key: u64, kind: u32) -> Result<(), AllocError>
         ensures { OnOk result ((deeds : List Deed) → HasReplies deeds self.old.open self.old.counts
             → HasReplies (Opened key kind ∷ deeds) self.new.open self.new.counts) }
@@ -134,8 +134,8 @@ impl Replies {
         Ok(())
     }
 
-    /// Notes that the primary which is open under the key, if one is, was closed after so many ms, at a line. It says of
-    /// which kind it was.
+    /// Records that the primary open under the key, if there is one, was closed after `after` ms, at a line. Returns
+    /// its kind.
     pub fn note_closed(
         &mut self,
         key: u64,
@@ -155,7 +155,7 @@ impl Replies {
         Ok(Some(kind))
     }
 
-    /// Notes that a connection begins: what was open before is closed no more.
+    /// Records that a connection starts: primaries that were open before will not be closed.
     pub fn note_ended(&mut self)
         ensures { (deeds : List Deed) → HasReplies deeds self.old.open self.old.counts
             → HasReplies (Ended ∷ deeds) self.new.open self.new.counts }
@@ -163,7 +163,7 @@ impl Replies {
         self.open.truncate(0);
     }
 
-    // The counts of a kind.
+    // Returns the counts of a kind.
     fn counts_of(&self, kind: u32) -> Counts
         ensures { result ≡ counts_at self.now.counts kind }
     {
@@ -173,7 +173,7 @@ impl Replies {
         }
     }
 
-    /// The kind, where it was counted before or there is room for it, and else the other one.
+    /// Returns `kind` if it is counted or there is space for it, and otherwise `other`.
     pub fn kept_kind(&self, kind: u32, other: u32) -> u32
         ensures kept { (result ≡ kind) ⊎ (result ≡ other) }
         ensures room { index_map_len self.now.counts < 64 → result ≡ kind }
@@ -186,14 +186,14 @@ impl Replies {
         }
     }
 
-    /// How many kinds there are.
+    /// Returns the number of kinds.
     pub fn len(&self) -> usize
         ensures { result ≡ index_map_len self.now.counts }
     {
         self.counts.len()
     }
 
-    /// The kind that came at this place, from 0, and its counts.
+    /// Returns the kind at this index, from 0, in the order of first occurrence, and its counts.
     pub fn at(&self, place: usize) -> Option<(u32, Counts)>
         ensures { result ≡ slice_get self.now.counts.entries place }
     {
@@ -203,7 +203,7 @@ impl Replies {
         }
     }
 
-    /// How many primaries of a kind are open.
+    /// Returns the number of open primaries of a kind.
     pub fn waiting(&self, kind: u32) -> usize
         ensures { result ≡ count_by (λ other. nat_eq other kind) (values self.now.open) }
     {

@@ -1,4 +1,4 @@
-//! What is told of a log, and what is noted of the line at hand.
+//! Output for a log, and the annotations of the current line.
 
 ghost use Rattle.std.specs.Prelude.{◌≡◌, [], OnOk, IfOk, Some, None};
 ghost use Rattle.hsms_log.specs.declared.verdict.Why.TheVariants.{Unreadable as CannotBeRead};
@@ -26,7 +26,8 @@ use hsms_log::Unreadable;
 use hsms_machine::Settings;
 use std::alloc::{AllocError, Global};
 
-/// What is told, which lines are, the failures so far, and what is noted of the line at hand, also as it is told.
+/// The buffered output, the failure counts, the line filter, the failure groups, and the annotations of the current
+/// line, also as they are written.
 #[derive(Drop)]
 pub struct Report {
     pub page: Page,
@@ -38,7 +39,7 @@ pub struct Report {
 }
 
 impl Report {
-    /// What is told before all lines.
+    /// Creates a report with the output that precedes all lines.
     pub fn new(alloc: Global, excerpt: Excerpt) -> Result<Report, AllocError>
         ensures first { IfOk result (λ report. report.tally.first ≡ None) }
         ensures entries { IfOk result (λ report. report.tally.entries ≡ counts_of []) }
@@ -59,7 +60,7 @@ impl Report {
         })
     }
 
-    /// Tells which ends a log with these settings is of.
+    /// Writes the roles of the two endpoints, for a log with these settings.
     pub fn emit_ends(&mut self, settings: Settings)
         ensures shown { KeepsShown self.old self.new }
         ensures tally { self.new.tally ≡ self.old.tally }
@@ -70,7 +71,7 @@ impl Report {
         self.window.emitter().ends(&mut self.page, settings);
     }
 
-    /// Tells that lines are left out at the end of so many.
+    /// Writes which lines are skipped at the end of a log of `lines` lines.
     pub fn emit_gap(&mut self, lines: u64)
         ensures tally { self.new.tally ≡ self.old.tally }
         ensures shown { KeepsShown self.old self.new }
@@ -78,7 +79,7 @@ impl Report {
         self.window.finish(&mut self.page, lines);
     }
 
-    /// Tells that nothing was judged.
+    /// Writes that nothing was checked.
     pub fn emit_unjudged(&mut self, unjudged: Unjudged)
         ensures tally { self.new.tally ≡ self.old.tally }
         ensures shown { KeepsShown self.old self.new }
@@ -86,7 +87,7 @@ impl Report {
         self.window.emitter().unjudged(&mut self.page, unjudged);
     }
 
-    /// Tells the failures behind a log that was judged, and what became of its primaries.
+    /// Writes the failures of a checked log, and the outcomes of its primaries.
     pub fn emit_end(&mut self, primaries: &Primaries)
         ensures tally { self.new.tally ≡ self.old.tally }
         ensures shown { KeepsShown self.old self.new }
@@ -98,7 +99,7 @@ impl Report {
         emitter.primaries(&mut self.page, self.window.links(), primaries);
     }
 
-    // Tells that there was no entry, where there was none.
+    // Writes that there was no entry, if there was none.
     fn emit_emptiness(&mut self)
         ensures tally { self.new.tally ≡ self.old.tally }
         ensures shown { KeepsShown self.old self.new }
@@ -108,7 +109,7 @@ impl Report {
         }
     }
 
-    /// Tells a line, and what is noted of it, in a log whose frames have at most so many octets. Its failures are counted.
+    /// Writes a line and its annotations, and counts its failures. Frames of the log have at most `max` bytes.
     pub fn submit(
         &mut self,
         alloc: Global,
@@ -140,7 +141,7 @@ impl Report {
             .take(alloc, &mut self.page, shown_line, &self.grouped, max)
     }
 
-    /// Judges what a line carries, and notes what it closes and why it fails.
+    /// Checks the content of a line, and records the transaction that it closes and why it fails.
     pub fn judge(
         &mut self,
         alloc: Global,
@@ -168,7 +169,7 @@ impl Report {
         }
     }
 
-    /// Notes that a line cannot be read, and why.
+    /// Records that a line is unreadable, and why.
     pub fn note_unreadable(&mut self, unreadable: Unreadable) -> Result<(), AllocError>
         ensures notes { OnOk result (first_why self.new.notes.items ≡ either (first_why self.old.notes.items) (Some CannotBeRead)) }
         ensures adds { OnOk result (NotesUnreadable unreadable self.old.notes.items self.new.notes.items) }

@@ -1,4 +1,4 @@
-//! A line and its notes, as text.
+//! A line and its annotations, as text.
 
 ghost use Rattle.std.specs.Prelude.{◌≡◌, ◌++◌, ℕ, List, IfSome, codes};
 ghost use Rattle.cli_explain.specs.OutputBuffer.{Adds, AddsSome};
@@ -15,14 +15,14 @@ use hsms_log::{What, split_at_first};
 use hsms_machine::{GREATEST_DEPTH, Mark};
 use std::fmt;
 
-// How wide the number of a line is, its time, and its time as a date.
+// The widths of the number of a line, of its time in ms, and of its time as a date.
 const NUMBER: usize = 6;
 
 const TIME: usize = 7;
 
 const DATE: usize = 24;
 
-/// Writes a line, and below it the notes: with `utc` times as dates.
+/// Writes a line, and below it the annotations. `utc` selects dates instead of times in ms.
 pub fn write_line(page: &mut Page, shown_line: ExplainedLine<'_, '_>, notes: &[Note], utc: bool)
     ensures { (words : List ℕ) × LineWritten shown_line.entry notes.now words × Adds page.old page.new words }
 {
@@ -34,14 +34,14 @@ pub fn write_line(page: &mut Page, shown_line: ExplainedLine<'_, '_>, notes: &[N
     }
 }
 
-/// Writes that lines are left out.
+/// Writes that lines are skipped.
 pub fn write_gap(page: &mut Page)
     ensures { Adds page.old page.new gap_text }
 {
     page.append_chunk(b"       ..\n");
 }
 
-/// Writes words in a line of their own.
+/// Writes words on a line of their own.
 pub fn write_words<D: fmt::Display>(page: &mut Page, words: &D)
     ensures { (said : List ℕ) × IfSome (D.output words.now) (λ output. said ≡ output)
         × Adds page.old page.new (said ++ codes "\n") }
@@ -50,7 +50,7 @@ pub fn write_words<D: fmt::Display>(page: &mut Page, words: &D)
     page.append_chunk(b"\n");
 }
 
-// Writes what a line carries, or the line as it is.
+// Writes the content of a line, or the line as it is.
 fn write_carried(page: &mut Page, shown_line: ExplainedLine<'_, '_>, utc: bool)
     ensures { (words : List ℕ) × CarriedSaid shown_line.entry.carried words × Adds page.old page.new words }
 {
@@ -78,7 +78,7 @@ fn write_time(page: &mut Page, time: u64, utc: bool)
     page.append_chunk(words.as_bytes());
 }
 
-// Writes what happened: a frame as `hsms show` shows it, the words of another entry.
+// Writes the event of an entry: a frame as `hsms show` shows it, the text of another entry.
 fn write_what(page: &mut Page, shown_line: ExplainedLine<'_, '_>, what: What, text: &[u8])
     ensures { (words : List ℕ) × WhatSaid what text.now words × Adds page.old page.new words }
 {
@@ -94,7 +94,7 @@ fn write_what(page: &mut Page, shown_line: ExplainedLine<'_, '_>, what: What, te
     }
 }
 
-// Writes what a line says behind its time, as it stands there.
+// Writes the part of a line after its time, unchanged.
 fn write_rest(page: &mut Page, shown_line: ExplainedLine<'_, '_>)
     ensures { AddsSome page.old page.new }
 {
@@ -112,7 +112,7 @@ fn mark_word(mark: Mark) -> &'static [u8]
     }
 }
 
-/// What a line says behind its time.
+/// Returns the part of a line after its time.
 pub fn after_time(line: &[u8]) -> &[u8] {
     match split_at_first(line, b' ') {
         Some((_, words)) => words,
@@ -120,7 +120,7 @@ pub fn after_time(line: &[u8]) -> &[u8] {
     }
 }
 
-// Writes a line where other lines have their entries: as it is, but for control characters, which are escaped.
+// Writes a line in the column of the entries, unchanged except for control characters, which are escaped.
 fn write_plain(page: &mut Page, shown_line: ExplainedLine<'_, '_>, utc: bool)
     ensures { (words : List ℕ) × PlainSaid words × Adds page.old page.new words }
 {
@@ -168,7 +168,7 @@ fn write_below<D: fmt::Display>(page: &mut Page, words: &D)
     write_words(page, words);
 }
 
-// Writes words below those of a failure, where there are such.
+// Writes words below the rule text of a failure, if there are any.
 fn write_further<D: fmt::Display + Drop>(page: &mut Page, words: Option<D>)
     ensures { AddsSome page.old page.new }
 {

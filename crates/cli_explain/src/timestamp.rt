@@ -1,10 +1,10 @@
-//! A time of a log, as it is told.
+//! A time of a log, as it is written.
 
 use jiff::Timestamp;
 use std::fmt;
 
-/// A time in ms: told as it is, or with `utc` as the date so long after the beginning of 1970, in UTC and to the
-/// millisecond, up to the end of the year 9999.
+/// A time in ms. It is written as it is, or, if `utc` is set, as a date. The date is in UTC, counted from the start of
+/// 1970, to the millisecond, up to the end of the year 9999.
 #[derive(Clone, Copy)]
 pub struct Moment {
     pub time: u64,
@@ -12,7 +12,7 @@ pub struct Moment {
 }
 
 impl Moment {
-    /// The date, where it is told as one.
+    /// Returns the date. `None` if the time is written in ms.
     pub fn date(self) -> Option<Date> {
         if !self.utc {
             return None;

@@ -1,4 +1,4 @@
-//! The verdict, as the last thing that is told.
+//! The verdict, the last part of the output.
 
 ghost use Rattle.std.specs.Prelude.{◌≡◌, ◌++◌, IfOk, OnOk, string_bytes};
 ghost use Rattle.cli_explain.specs.VerdictOutput.{ending_of, fail_object_of, mark_of, member_of, page_end_of, pass_object_of, verdict_object_of};
@@ -9,7 +9,7 @@ use cli_output::verdict_line;
 use hsms_log::{Summary, Verdict, Why};
 use std::alloc::{AllocError, Global};
 
-/// The verdict, in the form in which the log is told, with what stands behind it there.
+/// Returns the verdict in the output format, with what follows it there.
 pub fn ending(alloc: Global, form: OutputFormat, verdict: Verdict) -> Result<String, AllocError>
     ensures { IfOk result (λ ending. string_bytes ending ≡ ending_of form verdict) }
 {
@@ -20,7 +20,7 @@ pub fn ending(alloc: Global, form: OutputFormat, verdict: Verdict) -> Result<Str
     }
 }
 
-// The verdict as an object of JSON, in a line.
+// Returns the verdict as a JSON object on one line.
 fn verdict_object(alloc: Global, verdict: Verdict) -> Result<String, AllocError>
     ensures { IfOk result (λ object. string_bytes object ≡ verdict_object_of verdict) }
 {
@@ -57,7 +57,7 @@ fn push_member(object: &mut String, name: &str, number: u64) -> Result<(), Alloc
     write!(object, "{number}")
 }
 
-// The verdict as a paragraph of HTML, and the end of the page.
+// Returns the verdict as a paragraph of HTML, and the end of the page.
 fn page_end(alloc: Global, verdict: Verdict) -> Result<String, AllocError>
     ensures { IfOk result (λ end. string_bytes end ≡ page_end_of verdict) }
 {
@@ -68,7 +68,7 @@ fn page_end(alloc: Global, verdict: Verdict) -> Result<String, AllocError>
     Ok(end)
 }
 
-// What stands before a verdict in HTML.
+// Returns the markup before a verdict in HTML.
 fn mark(verdict: Verdict) -> &'static str
     ensures { result.now ≡ mark_of verdict }
 {

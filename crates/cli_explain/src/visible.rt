@@ -1,4 +1,4 @@
-//! Octets of the log in text, without control characters.
+//! Bytes of the log as text, without control characters.
 
 ghost use Rattle.std.specs.Prelude.{◌≡◌, ◌<◌, true, length};
 ghost use Rattle.std.specs.List.{list_all};
@@ -6,8 +6,8 @@ ghost use Rattle.cli_explain.specs.Visible.{AddsVisible, HasNoControl, is_visibl
 
 use crate::output_buffer::Page;
 
-/// Writes octets of the log with an escape in place of each control character: `\x1b`, by the octets that encode it.
-/// These are 00 to 1F and 7F, U+0080 to U+009F in UTF-8, and 80 to 9F if it is not part of UTF-8.
+/// Writes bytes of the log with an escape in place of each control character: `\x1b`, by the bytes that encode it.
+/// These are 00 to 1F and 7F, U+0080 to U+009F in UTF-8, and 80 to 9F if they are not part of UTF-8.
 pub fn append_visible(page: &mut Page, octets: &[u8])
     ensures { AddsVisible page.old page.new }
 {
@@ -18,7 +18,7 @@ pub fn append_visible(page: &mut Page, octets: &[u8])
     }
 }
 
-// Writes octets of which some may be escaped.
+// Writes bytes of which some may be escaped.
 fn append_chunks(page: &mut Page, octets: &[u8])
     ensures { AddsVisible page.old page.new }
 {
@@ -37,7 +37,7 @@ fn append_text(page: &mut Page, text: &[u8])
     }
 }
 
-// Writes octets that are no UTF-8.
+// Writes bytes that are not UTF-8.
 fn write_other(page: &mut Page, octets: &[u8])
     ensures { AddsVisible page.old page.new }
 {
@@ -46,7 +46,7 @@ fn write_other(page: &mut Page, octets: &[u8])
     }
 }
 
-// Writes an octet, or an escape in its place.
+// Writes a byte, or an escape in its place.
 fn append_octet(page: &mut Page, octet: u8, is_escaped: bool)
     ensures { AddsVisible page.old page.new }
 {
@@ -63,7 +63,7 @@ fn is_shown(octet: u8, is_escaped: bool) -> bool
     is_visible(octet) && !is_escaped
 }
 
-// Writes an octet as `\x` and two hexadecimal digits.
+// Writes a byte as `\x` and two hexadecimal digits.
 fn append_escape(page: &mut Page, octet: u8)
     ensures { AddsVisible page.old page.new }
 {
@@ -72,7 +72,7 @@ fn append_escape(page: &mut Page, octet: u8)
     page.append_chunk(&[digit(octet & 15)]);
 }
 
-// The hexadecimal digit of a value below 16.
+// Returns the hexadecimal digit of a value below 16.
 fn digit(value: u8) -> u8
     ensures { is_visible_octet result ≡ true }
 {
@@ -96,28 +96,28 @@ fn digit(value: u8) -> u8
     }
 }
 
-// Checks whether the octets are printable ASCII.
+// Returns whether the bytes are printable ASCII.
 fn is_plain(octets: &[u8]) -> bool
     ensures { result ≡ true → HasNoControl octets.now }
 {
     has_no_control(octets) && octets.is_ascii()
 }
 
-// Checks whether no octet is a control character of ASCII.
+// Returns whether no byte is an ASCII control character.
 fn has_no_control(octets: &[u8]) -> bool
     ensures { result ≡ list_all is_visible_octet octets.now }
 {
     octets.iter().all(|octet| is_visible(*octet))
 }
 
-// Checks whether an octet is no control character of ASCII.
+// Returns whether a byte is not an ASCII control character.
 fn is_visible(octet: u8) -> bool
     ensures { result ≡ is_visible_octet octet }
 {
     octet > 31 && octet != 127
 }
 
-// Checks whether the octet at a place of UTF-8 is one of the two that encode U+0080 to U+009F.
+// Returns whether the byte at this index of UTF-8 is one of the two that encode U+0080 to U+009F.
 fn encodes_control(text: &[u8], at: usize) -> bool
     requires { at < length text.now }
 {

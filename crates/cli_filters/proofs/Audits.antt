@@ -1,4 +1,4 @@
--- Where an audit stops.
+-- How an audit stops.
 use Rattle.std.proofs.Common.{◌≡◌, ◌≢◌, ℕ, Bool, List, Ok, Err, inl, inr, codes, sym, ◌∙◌, ap, subst, arith, get_or}
 use Rattle.std.specs.Prelude.{IfErr, Option, Result}
 use Rattle.std.specs.Bool.{OnTrue}
@@ -16,14 +16,14 @@ use Rattle.cli_output.specs.IoErrors.{CountsFailure, IsReadWriteOrEndless, IsRea
 use Rattle.cli_output.specs.Verdict.{verdict_line_of}
 use Rattle.cli_output.proofs.Devices.{counts_as}
 
--- words that differ by their first letter
+-- Words that differ in their first letter.
 write_is_no_endless : (given : List ℕ) → given ≡ codes "Write" → given ≢ codes "Endless"
 write_is_no_endless given w e = let first : ◌≡◌ {A = ℕ} 87 69 = ap (λ xs. get_or xs 0 0) (sym w ∙ e) in absurd (omega arith)
 
 write_is_no_read : (given : List ℕ) → given ≡ codes "Write" → given ≢ codes "Read"
 write_is_no_read given w e = let first : ◌≡◌ {A = ℕ} 87 82 = ap (λ xs. get_or xs 0 0) (sym w ∙ e) in absurd (omega arith)
 
--- there is no verdict, and nothing was written
+-- There is no verdict, and nothing was written.
 pub stops_unjudged : (input : List ℕ) (fault : ToolFault) (left : Option (List ℕ)) (ended : Type 0) (written : Option (List ℕ)) → Checked input (Err fault) left ended
     → AuditsTo input (Err fault) left ended written written
 stops_unjudged input (Refused words) left ended written why = absurd why
@@ -31,7 +31,7 @@ stops_unjudged input (Device word) left ended written (inl read) = inl (read.0, 
 stops_unjudged input (Device word) left ended written (inr endless) = inr (inl (endless.0, endless.1, (λ octets known_input. known_input)))
 stops_unjudged input Memory left ended written why = λ octets known_input. known_input
 
--- the line of a verdict was not written whole
+-- The line of a verdict was not written completely.
 pub stops_unwritten : (input : List ℕ) (verdict : Verdict) (line : List ℕ) (fault : ToolFault) (left : Option (List ℕ)) (ended : Type 0) (old new : Option (List ℕ))
     → AuditsAs input (Ok verdict) left ended → IsWrite fault → line ≡ verdict_line_of verdict → GrowsByFront old new line
     → AuditsTo input (Err fault) left ended old new
@@ -41,7 +41,7 @@ stops_unwritten input verdict line (Device given) left ended old new audits word
     inr (inr (word, verdict, audits, subst P is grows))
 stops_unwritten input verdict line Memory left ended old new audits word is grows = absurd word
 
--- it was
+-- The line of a verdict was written completely.
 pub answers_written : (input : List ℕ) (verdict : Verdict) (line : List ℕ) (passes : Bool) (left : Option (List ℕ)) (ended : Type 0) (old new : Option (List ℕ))
     → AuditsAs input (Ok verdict) left ended → passes ≡ is_pass verdict → line ≡ verdict_line_of verdict → Grows old new line
     → AuditsTo input (Ok passes) left ended old new
@@ -90,7 +90,7 @@ counts_written verdict passes old new c is =
     let P : Bool → Type 0 = λ b. OnTrue b (HasEnded old.ends new.ends) in
     record { pass = subst P (sym is) c.pass; endless = tt; pulls = c.pulls; empty_pulls = c.empty_pulls; reads = c.reads }
 
--- ---- a fault of the audit that is told
+-- ---- an error of the audit that is returned
 
 other_word : (given : List ℕ) → given ≡ codes "Endless" → given ≢ codes "Read"
 other_word given e w = let first : ◌≡◌ {A = ℕ} 69 82 = ap (λ xs. get_or xs 0 0) (sym e ∙ w) in absurd (omega arith)

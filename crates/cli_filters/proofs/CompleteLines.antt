@@ -1,4 +1,4 @@
--- An input that is read piece by piece.
+-- An input that is read chunk by chunk.
 use Rattle.std.proofs.Common.{◌≡◌, ◌≤◌, ◌<◌, ◌+◌, ◌++◌, ℕ, List, [], length, take, drop, Some, Ok, Err, refl, sym, ◌∙◌, ap, codes, arith}
 use Rattle.std.specs.Prelude.{Option}
 use Rattle.std.proofs.lemmas.List.{append-nil, append_assoc, length-append, take-append-drop, take_at}
@@ -10,7 +10,7 @@ use Rattle.cli_filters.specs.Encode.{IsReadPast, IsPartOfInput}
 use Rattle.cli_output.specs.IoErrors.{CountsFailure, HasWord}
 use Rattle.cli_options.specs.Status.{IsRefusedAs}
 
--- these octets were read, and the others are left
+-- Holds if these bytes were read, and the others are left.
 abbrev pub ReadSoFar : Option (List ℕ) → Option (List ℕ) → List ℕ → Type 0
 ReadSoFar initial left octets =
     (input : List ℕ) → initial ≡ Some input → (rest : List ℕ) × (input ≡ octets ++ rest) × (left ≡ Some rest)
@@ -30,7 +30,7 @@ reads_more initial mid left octets buffer new n so_far takes added input known_i
       t.2,
     )
 
--- the end was found, within the limit
+-- The end was found, within the limit.
 pub reads_whole : (initial left : Option (List ℕ)) (octets : List ℕ) (limit : ℕ) → ReadSoFar initial left octets → IsAtEnd left → length octets ≤ limit
     → IfRecorded initial (IsReadPast limit octets)
 reads_whole initial left octets limit so_far end within input known_input =
@@ -39,7 +39,7 @@ reads_whole initial left octets limit so_far end within input known_input =
     let same : octets ≡ input = sym (a.1 ∙ ap (λ xs. octets ++ xs) none ∙ append-nil octets) in
     ((λ fits. same), (λ past. absurd (omega (arith, past, within))))
 
--- the limit was passed
+-- The limit was passed.
 pub reads_past : (initial left : Option (List ℕ)) (octets : List ℕ) (limit : ℕ) → ReadSoFar initial left octets → limit < length octets
     → IfRecorded initial (IsReadPast limit octets)
 reads_past initial left octets limit so_far past input known_input =
@@ -47,22 +47,22 @@ reads_past initial left octets limit so_far past input known_input =
     let size : length input ≡ length octets + length a.0 = ap length a.1 ∙ length-append octets a.0 in
     ((λ fits. absurd (omega (arith, past, fits))), (λ longer. omega (arith, size, past)))
 
--- what was read past the limit is refused
+-- What was read past the limit is rejected.
 pub refused : (limit : ℕ) (input octets : List ℕ) (fault : ToolFault) (left : Option (List ℕ)) → IsReadPast limit octets input
     → limit < length octets → IsRefusedAs (codes "Input") fault → IsPartOfInput limit input fault left
 refused limit input octets (Refused words) left read past reported_as = (read.1 past, reported_as)
 refused limit input octets (Device word) left read past reported_as = absurd reported_as
 refused limit input octets Memory left read past reported_as = tt
 
--- a vector whose whole slice was written
+-- A vector whose complete slice was written.
 pub rewritten : (len : ℕ) (part old : List ℕ) → length part ≡ len → take len (part ++ drop (length part) old) ≡ part
 rewritten len part old size = take_at part (drop (length part) old) len size
 
--- a read that gave something didn't find the end
+-- A read that returned something did not find the end.
 pub not_at_end : (room n ends new : ℕ) → (n ≡ 0 → ⊥) → new ≡ ends_after room (Ok n) ends → new ≡ ends
 not_at_end room n ends new some step = grind (arith, nat_tests, step, some)
 
--- a refusal is no failure of a device
+-- An invalid input is not a failure of a reader or writer.
 pub counted : (T : Type 0) (words word : List ℕ) (fault : ToolFault) (old new : ℕ) → IsRefusedAs words fault → new ≡ old
     → CountsFailure {T = T} word (Err fault) old new
 counted T words word (Refused given) old new reported_as same = same

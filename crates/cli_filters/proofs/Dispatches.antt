@@ -1,4 +1,4 @@
--- The answers of the command to a request.
+-- The results of the command for a request.
 use Rattle.std.proofs.Common.{◌≡◌, ◌≢◌, ℕ, Bool, List, Ok, Err, inl, inr, codes, refl, sym, ◌∙◌, ap, subst, arith, get_or}
 use Rattle.std.specs.Prelude.{Option, Result, IfErr, OnOk, OnErr}
 use Rattle.hsms_frame.specs.CallCounts.{count_failure, next_count}
@@ -38,21 +38,21 @@ is_done : (r : Result (Unit {0}) ToolFault) (old new : SourceState) → OnOk r (
 is_done (Ok _) old new end = (refl, end)
 is_done (Err fault) old new end = tt
 
--- messages were shown
+-- Messages were shown.
 pub shows_all : (form : Form) (max depth : ℕ) (r : Result (Unit {0}) ToolFault) (old new : SourceState) (before after : Option (List ℕ))
     → OnOk r (new.ends ≡ next_count old.ends) → IfRecorded old.left (λ input. ShowsForm form max depth input r new.left before after)
     → IsDone (well r) old new × IfRecorded old.left (λ input. ShowsForm form max depth input (well r) new.left before after)
 shows_all form max depth r old new before after end shows =
     (is_done r old new end, (λ input known_input. shows_well form max depth input r new.left before after (shows input known_input)))
 
--- messages were encoded
+-- Messages were encoded.
 pub encodes_all : (device max depth : ℕ) (hex : Bool) (system : ℕ) (r : Result (Unit {0}) ToolFault) (old new : SourceState) (before after : Option (List ℕ))
     → OnOk r (new.ends ≡ next_count old.ends) → IfRecorded old.left (λ input. EncodesAll device max depth hex system input r new.left before after)
     → IsDone (well r) old new × IfRecorded old.left (λ input. EncodesAll device max depth hex system input (well r) new.left before after)
 encodes_all device max depth hex system r old new before after end encodes =
     (is_done r old new end, (λ input known_input. encodes_well device max depth hex system input r new.left before after (encodes input known_input)))
 
--- a text was printed
+-- A text was printed.
 pub prints : (text octets : List ℕ) (r : Result (Unit {0}) ToolFault) (old new : Option (List ℕ)) → octets ≡ text → OnOk r (Grows old new octets)
     → OnErr r (GrowsByFront old new octets) → IfErr r IsWrite → Prints text (well r) old new
 prints text octets (Ok _) old new is ok err word =

@@ -19,11 +19,11 @@ next_system-suc : (system n : ℕ) → next_system (system_after system n) ≡ s
 next_system-suc system zero = refl
 next_system-suc system (suc n) = next_system-suc (next_system system) n
 
--- the system bytes after n messages, and then after one more
+-- The system bytes after n messages, and then after one more.
 pub next_system-system_after : (system n : ℕ) → next_system (system_after system n) ≡ system_after system (n + 1)
 next_system-system_after system n = next_system-suc system n ∙ ap (λ k. system_after system k) (sym (add-one n))
 
--- one more message
+-- One more message.
 pub Encodes-push : (device max : ℕ) (hex : Bool) (system : ℕ) (ms : List Content) (output : List ℕ) (m : Content) (f : Frame)
     → Encodes device max hex system ms output → FrameOf device max (system_after system (length ms)) m f
     → Encodes device max hex system (ms ++ m ∷ []) (output ++ output_of hex f)
@@ -37,9 +37,10 @@ Encodes-push device max hex system (x ∷ xs) output m f (g, rest, one, others, 
   ap (λ ys. ys ++ output_of hex f) parts ∙ append_assoc (output_of hex g) rest (output_of hex f),
 )
 
--- ---- octets and lines
+-- ---- bytes and lines
 
--- octets that were made of messages are those of frames, of which the same messages make lines
+-- Bytes that were made of messages are those of frames, and the lines of the same messages are the lines of these
+-- frames.
 pub frames_of : (device max system : ℕ) (hex : Bool) (ms : List Content) (octets : List ℕ) → max < 2 ^ 32 → Encodes device max false system ms octets
     → (fs : List Frame) × AreFrames fs octets × Encodes device max hex system ms (outputs_of hex fs)
 frames_of device max system hex [] octets bound none = ([], none, refl)
@@ -48,12 +49,12 @@ frames_of device max system hex (m ∷ ms) octets bound (f, rest, one, others, p
     let within : 10 + length f.text ≤ max = one.within in
     (f ∷ more.0, (rest, omega (arith, within, bound), more.1, parts), (f, outputs_of hex more.0, one, more.2, refl))
 
--- frames that are written as octets
+-- Frames that are written as bytes.
 pub octets_are : (fs : List Frame) (octets : List ℕ) → AreFrames fs octets → outputs_of false fs ≡ octets
 octets_are [] octets none = sym none
 octets_are (f ∷ fs) octets (rest, fits, others, parts) = ap (λ o. frame_octets f ++ o) (octets_are fs rest others) ∙ sym parts
 
--- the first message without a frame is the same, whatever is written of those before
+-- The first message without a frame does not depend on what is written of those before.
 none_of : (device max : ℕ) (hex : Bool) (system : ℕ) (ms : List Content) (words : List ℕ) → max < 2 ^ 32 → FirstWithoutFrame device max false system ms words
     → FirstWithoutFrame device max hex system ms words
 none_of device max hex system ms words bound h =
@@ -69,14 +70,14 @@ none_of device max hex system ms words bound h =
 
 -- ---- where the command stops
 
--- what was read is the notation of these messages
+-- What was read is the notation of these messages.
 encodes_to : (depth : ℕ) (octets input : List ℕ) (ms : List Content) → IsWholeInput input_limit octets input
     → Notations ms octets × AllWithin depth ms → ParsesMessages depth input ms
 encodes_to depth octets input ms whole noted =
     let P : List ℕ → Type 0 = λ text. Notations ms text in
     (whole.1, subst P whole.0 noted.0, noted.1)
 
--- all were encoded, and their frames were written, or a write failed, or there was no memory for lines
+-- All were encoded, and their frames were written; or a write failed, or an allocation for the lines failed.
 pub answers_written : (device max depth : ℕ) (hex : Bool) (system : ℕ) (octets input : List ℕ) (ms : List Content) (fs : List Frame) (r : Result (Unit {0}) ToolFault)
     (left old written : Option (List ℕ)) → IsWholeInput input_limit octets input → Notations ms octets × AllWithin depth ms → Encodes device max hex system ms (outputs_of hex fs)
     → WritesOut (outputs_of hex fs) r old written → EncodesAll device max depth hex system input r left old written
@@ -87,14 +88,14 @@ answers_written device max depth hex system octets input ms fs (Err (Device give
     inr (word, ms, outputs_of hex fs, encodes_to depth octets input ms whole noted, encoded, grows)
 answers_written device max depth hex system octets input ms fs (Err Memory) left old written whole noted encoded stays = stays
 
--- an input that was not read whole
+-- An input that was not read completely.
 pub stops_reading : (device max depth : ℕ) (hex : Bool) (system : ℕ) (input : List ℕ) (fault : ToolFault) (left old : Option (List ℕ))
     → IsPartOfInput input_limit input fault left → EncodesAll {T = Unit {0}} device max depth hex system input (Err fault) left old old
 stops_reading device max depth hex system input (Refused words) left old part = (inl part, (λ octets known_input. known_input))
 stops_reading device max depth hex system input (Device word) left old part = inl (part.0, part.1, (λ octets known_input. known_input))
 stops_reading device max depth hex system input Memory left old part = λ octets known_input. known_input
 
--- an input that was not encoded
+-- An input that was not encoded.
 pub stops_encoding : (device max depth : ℕ) (hex : Bool) (system : ℕ) (octets input : List ℕ) (fault : ToolFault) (left old written : Option (List ℕ))
     → max < 2 ^ 32 → IsWholeInput input_limit octets input → IsNotEncoded device max depth system octets fault → Stays old written
     → EncodesAll {T = Unit {0}} device max depth hex system input (Err fault) left old written
@@ -106,9 +107,9 @@ stops_encoding device max depth hex system octets input (Refused words) left old
 stops_encoding device max depth hex system octets input (Device word) left old written bound whole why stays = absurd why
 stops_encoding device max depth hex system octets input Memory left old written bound whole why stays = stays
 
--- ---- frames that were gathered
+-- ---- frames that were buffered
 
--- what was made of all messages
+-- What was made of all messages.
 pub all_framed : (device max system next : ℕ) (refusal : Option Refusal) (output made : List ℕ) (ms : List Content)
     → Frames device max system next refusal made ms → (refusal ≡ None) × (output ≡ made) → Encodes device max false system ms output
 all_framed device max system next None output made ms h e = let P : List ℕ → Type 0 = λ o. Encodes device max false system ms o in subst P (sym e.1) h.0

@@ -13,13 +13,13 @@ use Rattle.cli_filters.specs.declared.encode_error.Refusal.TheVariants.{TooLarge
 use Rattle.cli_filters.specs.Encode.{Encodes, FrameOf, Frames, TextOf, next_system, system_after}
 use Rattle.cli_filters.proofs.Encodings.{Encodes-push, next_system-system_after}
 
--- the text that a message is told to have is its text
+-- The text that is given for a message is its text.
 text_is : (item : Option Value) (text : List ℕ) → text_of item ≡ Some text → TextOf item text
 text_is None text e = (let is : [] ≡ text = cc in sym is)
 text_is (Some v) text e = e
 
 module _ (device max system next : ℕ) (output : List ℕ) (given : List Content) where
-  -- the first refusal stays
+  -- The first error is kept.
   pub stays_refused : (refusal : Option Refusal) (m : Content) → is_some refusal ≡ true → Frames device max system next refusal output given → Frames device max system next refusal output (given ++ m ∷ [])
   stays_refused None m some h = cc
   stays_refused (Some refusal) m some h = record {
@@ -32,7 +32,7 @@ module _ (device max system next : ℕ) (output : List ℕ) (given : List Conten
     refused = h.refused;
   }
 
-  -- an item that has no octets
+  -- An item that has no bytes.
   pub too_large : (refusal : Option Refusal) (head : Head) (item : Option Value) → is_some refusal ≡ false → text_of item ≡ None → Frames device max system next refusal output given
       → Frames device max system next (Some TooLarge) output (given ++ headed_by head item ∷ [])
   too_large (Some refusal) head item none e h = cc
@@ -47,7 +47,7 @@ module _ (device max system next : ℕ) (output : List ℕ) (given : List Conten
     refused = inl (v, refl, e, refl);
   }
 
-  -- a text that is too long
+  -- A text that is too long.
   pub too_long : (refusal : Option Refusal) (head : Head) (item : Option Value) (text : List ℕ) (n : ℕ) → is_some refusal ≡ false → text_of item ≡ Some text → n ≡ 10 + length text → max < n
       → Frames device max system next refusal output given → Frames device max system next (Some (TooLong n)) output (given ++ headed_by head item ∷ [])
   too_long (Some refusal) head item text n none e is long h = cc
@@ -63,7 +63,7 @@ module _ (device max system next : ℕ) (output : List ℕ) (given : List Conten
         refused = inr (text, text_is item text e, omega arith, refl);
       })
 
-  -- one more frame
+  -- One more frame.
   pub one_framed : (refusal : Option Refusal) (head : Head) (item : Option Value) (text new : List ℕ) (header : Header) (after : ℕ) → is_some refusal ≡ false → text_of item ≡ Some text → 10 + length text ≤ max
       → header ≡ data_header_of device head.stream head.function head.wait next → new ≡ output ++ frame_octets (record { header = header; text = text }) → after ≡ next_system next
       → Frames device max system next refusal output given → Frames device max system after refusal new (given ++ headed_by head item ∷ [])

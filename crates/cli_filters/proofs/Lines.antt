@@ -17,17 +17,17 @@ use Rattle.cli_options.specs.declared.fault.ToolFault.TheVariants.{Refused, Devi
 use Rattle.cli_show.proofs.Runs.{holding_front, holding_out, holding_then}
 use Rattle.cli_filters.specs.Encode.{AreFrames, WritesOut, outputs_of}
 
--- ---- the front of frames
+-- ---- the start of frames
 
--- the fourteen octets before a text
+-- The fourteen bytes before a text.
 abbrev before_text : Frame → List ℕ
 before_text f = to_be_bytes w32 (10 + length f.text) ++ header_octets f.header
 
--- fourteen octets are there, with these behind them
+-- Holds if there are fourteen bytes, and these follow them.
 abbrev pub IsParted : List ℕ → List ℕ → List ℕ → Type 0
 IsParted octets front subsequent = (front ≡ take 14 octets) × (subsequent ≡ drop 14 octets) × (length subsequent + 14 ≡ length octets)
 
--- they stand before the text of the first frame, and count it
+-- Holds if they come before the text of the first frame, and count it.
 abbrev pub IsAtFront : List Frame → List ℕ → List ℕ → Type 0
 IsAtFront fs front subsequent =
     (others : List Frame) × (10 ≤ length_field front) × (length_field front - 10 ≤ length subsequent)
@@ -57,7 +57,7 @@ at_front (f ∷ fs) octets front subsequent (rest, fits, others, is) parted =
       ap (λ o. hex_line o ++ outputs_of true fs) (ap (λ o. before_text f ++ o) (sym text) ∙ ap (λ o. o ++ take n subsequent) (sym one)),
     )
 
--- where fewer are there, no frame is
+-- If there are fewer, there is no frame.
 pub none_at_front : (fs : List Frame) (octets : List ℕ) → AreFrames fs octets → length octets < 14 → outputs_of true fs ≡ []
 none_at_front [] octets none short = refl
 none_at_front (f ∷ fs) octets (rest, fits, others, is) short =
@@ -65,15 +65,15 @@ none_at_front (f ∷ fs) octets (rest, fits, others, is) short =
     let size : length octets ≡ length (frame_octets f) + length rest = ap length is ∙ length-append (frame_octets f) rest in
     absurd (omega (arith, whole, size, short))
 
--- ---- lines that are laid
+-- ---- lines that are appended
 
--- the lines of the frames that were passed are written or held, and the octets of the others are left
+-- Holds if the lines of the frames that were passed are written or buffered, and the bytes of the others are left.
 abbrev pub LinesSoFar : List ℕ → List ℕ → Option (List ℕ) → List ℕ → Option (List ℕ) → List ℕ → Type 0
 LinesSoFar octets rest old held new now =
     (fs : List Frame) → AreFrames fs octets → (appended_text : List ℕ) × (others : List Frame) × AreFrames others rest
     × (outputs_of true fs ≡ appended_text ++ outputs_of true others) × GrowsHolding old held new now appended_text
 
--- one more line
+-- One more line.
 pub appends_more : (octets rest front subsequent text after : List ℕ) (size : ℕ) (old : Option (List ℕ)) (held : List ℕ) (mid : Option (List ℕ)) (then : List ℕ) (new : Option (List ℕ)) (now : List ℕ)
     → LinesSoFar octets rest old held mid then → IsParted rest front subsequent → size ≡ length_field front - 10 → text ≡ take size subsequent
     → after ≡ drop size subsequent → GrowsHolding mid then new now (hex_line (front ++ text)) → LinesSoFar octets after old held new now
@@ -92,7 +92,7 @@ appends_more octets rest front subsequent text after size old held mid then new 
       holding_then old held mid then new now s.0 line s.4 grows,
     )
 
--- a write failed
+-- A write failed.
 pub appends_part : (octets rest front subsequent text : List ℕ) (size : ℕ) (old : Option (List ℕ)) (held : List ℕ) (mid : Option (List ℕ)) (then : List ℕ) (new : Option (List ℕ))
     → LinesSoFar octets rest old held mid then → IsParted rest front subsequent → size ≡ length_field front - 10 → text ≡ take size subsequent
     → GrowsByFront mid new (then ++ hex_line (front ++ text)) → (fs : List Frame) → AreFrames fs octets → GrowsByFront old new (held ++ outputs_of true fs)
@@ -108,7 +108,7 @@ appends_part octets rest front subsequent text size old held mid then new so_far
     ∙ ap (λ o. held ++ o) (ap (λ o. s.0 ++ o) (ap (λ o. hex_line (front ++ o) ++ others) text_is ∙ sym a.4) ∙ sym s.3) in
     subst P whole (front_of_first old new (held ++ s.0 ++ line) others (holding_front old held mid then new s.0 line s.4 front_only))
 
--- all lines were laid
+-- All lines were appended.
 stored_all : (octets rest : List ℕ) (old : Option (List ℕ)) (held : List ℕ) (mid : Option (List ℕ)) (then : List ℕ) → LinesSoFar octets rest old held mid then → length rest < 14
     → (fs : List Frame) → AreFrames fs octets → GrowsHolding old held mid then (outputs_of true fs)
 stored_all octets rest old held mid then so_far short fs are =
@@ -116,7 +116,7 @@ stored_all octets rest old held mid then so_far short fs are =
     let P : List ℕ → Type 0 = λ o. GrowsHolding old held mid then o in
     subst P (sym (s.3 ∙ ap (λ o. s.0 ++ o) (none_at_front s.1 rest s.2 short) ∙ append-nil s.0)) s.4
 
--- what is held at the end is written
+-- What is buffered at the end is written.
 pub appends_all : (r : Result (Unit {0}) ToolFault) (octets rest : List ℕ) (old : Option (List ℕ)) (held : List ℕ) (mid : Option (List ℕ)) (then : List ℕ) (new : Option (List ℕ))
     → LinesSoFar octets rest old held mid then → length rest < 14 → OnOk r (Grows mid new then) → (fs : List Frame) → AreFrames fs octets
     → OnOk r (Grows old new (held ++ outputs_of true fs))
@@ -124,7 +124,7 @@ appends_all (Ok _) octets rest old held mid then new so_far short grows = λ fs 
     holding_out old held mid then new (outputs_of true fs) (stored_all octets rest old held mid then so_far short fs are) grows
 appends_all (Err _) octets rest old held mid then new so_far short grows = λ fs are. tt
 
--- a write failed at the end
+-- A write failed at the end.
 pub appends_not_all : (r : Result (Unit {0}) ToolFault) (octets rest : List ℕ) (old : Option (List ℕ)) (held : List ℕ) (mid : Option (List ℕ)) (then : List ℕ) (new : Option (List ℕ))
     → LinesSoFar octets rest old held mid then → length rest < 14 → OnErr r (GrowsByFront mid new then) → (fs : List Frame) → AreFrames fs octets
     → OnErr r (GrowsByFront old new (held ++ outputs_of true fs))
@@ -136,9 +136,9 @@ appends_not_all (Err _) octets rest old held mid then new so_far short grows = �
     subst Q (append-nil (held ++ all))
     (holding_front old held mid then new all [] (stored_all octets rest old held mid then so_far short fs are) (subst P (sym (append-nil then)) grows))
 
--- ---- the answers
+-- ---- the results
 
--- the octets or the lines were written
+-- The bytes or the lines were written.
 pub writes_out : (r : Result (Unit {0}) ToolFault) (octets output : List ℕ) (old new : Option (List ℕ)) → octets ≡ output → OnOk r (Grows old new octets)
     → OnErr r (GrowsByFront old new octets) → IfErr r IsWrite → WritesOut output r old new
 writes_out (Ok _) octets output old new is ok err word = let P : List ℕ → Type 0 = λ o. Grows old new o in subst P is ok

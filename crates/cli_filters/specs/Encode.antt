@@ -1,4 +1,4 @@
--- What `hsms encode` writes of an input.
+-- What `hsms encode` writes for an input.
 use Rattle.std.specs.Prelude.{◌≡◌, ◌<◌, ◌≤◌, ◌+◌, ◌%◌, ◌^◌, ◌⊎◌, ◌++◌, ℕ, zero, suc, Bool, false, List, [], ◌∷◌, length, codes, decimal, string_bytes, if◌then◌else◌, Option, Some, None, Result, Ok, Err}
 use Rattle.hex.specs.Hex.{encode_lower}
 use Rattle.secs_item.specs.Item.{Value}
@@ -16,28 +16,29 @@ use Rattle.cli_filters.specs.declared.encode_error.Refusal.TheVariants.{TooLarge
 use Rattle.cli_options.specs.declared.fault.ToolFault.{ToolFault}
 use Rattle.cli_options.specs.declared.fault.ToolFault.TheVariants.{Refused, Device, Memory}
 
--- the longest input, in octets
+-- The maximum length of the input, in bytes.
 abbrev pub input_limit : ℕ
 input_limit = 67108864
 
 -- ---- one message
 
--- the text of a message: nothing, or the shortest spelling of its item
+-- The text of a message: nothing, or the shortest encoding of its item.
 abbrev pub TextOf : Option Value → List ℕ → Type 0
 TextOf None text = text ≡ []
 TextOf (Some v) text = short v ≡ Some text
 
--- the frame of a message, for a device and with system bytes, whose header and text are within the limit
+-- The frame of a message with the session ID of a device and with system bytes. Its header and text are within the
+-- limit.
 pub record FrameOf (device max system : ℕ) (m : Content) (f : Frame) : Type 0 where
   pub header : f.header ≡ data_header_of device m.stream m.function m.wait system
   pub text : TextOf m.item f.text
   pub within : 10 + length f.text ≤ max
 
--- what is written of a frame: its octets, or a line of hexadecimal
+-- What is written of a frame: its bytes, or a line of hexadecimal.
 abbrev pub output_of : Bool → Frame → List ℕ
 output_of hex f = if hex then encode_lower (frame_octets f) ++ 10 ∷ [] else frame_octets f
 
--- why a message has no frame within the limit, in words: its item has no spelling, or the shortest is too long
+-- The text for why a message has no frame within the limit: its item has no encoding, or the shortest is too long.
 abbrev pub HasNoFrame : ℕ → Content → List ℕ → Type 0
 HasNoFrame max m words =
     ((v : Value) × (m.item ≡ Some v) × (short v ≡ None) × (words ≡ codes "TooLarge"))
@@ -45,7 +46,7 @@ HasNoFrame max m words =
 
 -- ---- messages
 
--- the system bytes after these: one more, and after the greatest 0
+-- The system bytes after these: one more, and 0 after the maximum.
 abbrev pub next_system : ℕ → ℕ
 next_system system = (system + 1) % 2 ^ 32
 
@@ -53,14 +54,14 @@ abbrev pub system_after : ℕ → ℕ → ℕ
 system_after system zero = system
 system_after system (suc n) = system_after (next_system system) n
 
--- what is written of messages, with system bytes counted up from the first
+-- What is written of messages, with system bytes counted up from the first.
 abbrev pub Encodes : ℕ → ℕ → Bool → ℕ → List Content → List ℕ → Type 0
 Encodes device max hex system [] output = output ≡ []
 Encodes device max hex system (m ∷ ms) output =
     (f : Frame) × (rest : List ℕ) × FrameOf device max system m f × Encodes device max hex (next_system system) ms rest
     × (output ≡ output_of hex f ++ rest)
 
--- the first message that has no frame within the limit: those before it have one
+-- The first message that has no frame within the limit. Those before it have one.
 pub record FirstWithoutFrame (device max : ℕ) (hex : Bool) (system : ℕ) (ms : List Content) (words : List ℕ) : Type 0 where
   pub before : List Content
   pub message : Content
@@ -70,49 +71,48 @@ pub record FirstWithoutFrame (device max : ℕ) (hex : Bool) (system : ℕ) (ms 
   pub encoded : Encodes device max hex system before output
   pub refused : HasNoFrame max message words
 
--- ---- frames, one behind another
+-- ---- consecutive frames
 
--- these are the octets of frames, one behind another: the first four of each count the others
+-- Holds if these are the bytes of consecutive frames. The first four of each count the others.
 abbrev pub AreFrames : List Frame → List ℕ → Type 0
 AreFrames [] octets = octets ≡ []
 AreFrames (f ∷ fs) octets =
     (rest : List ℕ) × (10 + length f.text < 2 ^ 32) × AreFrames fs rest × (octets ≡ frame_octets f ++ rest)
 
--- what is written of frames
+-- What is written of frames.
 abbrev pub outputs_of : Bool → List Frame → List ℕ
 outputs_of hex [] = []
 outputs_of hex (f ∷ fs) = output_of hex f ++ outputs_of hex fs
 
--- a text is written, or a part of it where the write fails, or nothing where memory is wanting
+-- Holds if a text is written, or a part of it if the write fails, or nothing if an allocation fails.
 abbrev pub WritesOut : {T : Type 0} → List ℕ → Result T ToolFault → Option (List ℕ) → Option (List ℕ) → Type 0
 WritesOut output (Ok _) old new = Grows old new output
 WritesOut output (Err (Refused words)) old new = ⊥
 WritesOut output (Err (Device word)) old new = (word.now ≡ codes "Write") × GrowsByFront old new output
 WritesOut output (Err Memory) old new = Stays old new
 
--- ---- frames that are gathered
+-- ---- frames that are buffered
 
--- why a message has no frame, in words
+-- The text for why a message has no frame.
 abbrev pub refusal_words : Refusal → List ℕ
 refusal_words TooLarge = codes "TooLarge"
 refusal_words (TooLong length) = codes "TooLong length=" ++ decimal length
 
--- the octets that were made of messages, and which system bytes are next; or why the first one that has no frame has
--- none
+-- The bytes that were made of messages, and the next system bytes; or why the first message without a frame has none.
 abbrev pub Frames : ℕ → ℕ → ℕ → ℕ → Option Refusal → List ℕ → List Content → Type 0
 Frames device max system next None octets ms = Encodes device max false system ms octets × (next ≡ system_after system (length ms))
 Frames device max system next (Some refusal) octets ms = FirstWithoutFrame device max false system ms (refusal_words refusal)
 
--- this is the fault for a refusal, unless memory is wanting
+-- Holds if this is the error for a message without a frame, unless an allocation failed.
 abbrev pub HasRefused : Option Refusal → ToolFault → Type 0
 HasRefused (Some refusal) (Refused words) = string_bytes words ≡ refusal_words refusal
 HasRefused None (Refused words) = ⊥
 HasRefused refusal (Device word) = ⊥
 HasRefused refusal Memory = Unit {0}
 
--- ---- the answers
+-- ---- the results
 
--- the words for a fault of notation
+-- The text for an error of notation.
 abbrev pub text_fault_text : TextFault → List ℕ
 text_fault_text (text.Syntax at) = codes "Syntax at=" ++ decimal at
 text_fault_text (text.Number at) = codes "Number at=" ++ decimal at
@@ -120,22 +120,22 @@ text_fault_text (text.Count at) = codes "Count at=" ++ decimal at
 text_fault_text (text.Deep at) = codes "Deep at=" ++ decimal at
 text_fault_text text.Memory = codes "Memory"
 
--- the input is no longer than it may be, and is the notation of these messages within the depth
+-- Holds if the input is within the maximum length, and is the notation of these messages within the depth.
 abbrev pub ParsesMessages : ℕ → List ℕ → List Content → Type 0
 ParsesMessages depth input ms = (length input ≤ input_limit) × Notations ms input × AllWithin depth ms
 
--- why an input is refused, in words: it is too long; it isn't messages; a message has no frame within the limit
+-- The text for an invalid input: it is too long; it is not messages; or a message has no frame within the limit.
 abbrev pub IsRefusedInput : ℕ → ℕ → ℕ → Bool → ℕ → List ℕ → List ℕ → Type 0
 IsRefusedInput device max depth hex system input words =
     ((input_limit < length input) × (words ≡ codes "Input"))
     ⊎ ((fault : TextFault) × (length input ≤ input_limit) × NotesFault input depth fault × (words ≡ text_fault_text fault))
     ⊎ ((ms : List Content) × ParsesMessages depth input ms × FirstWithoutFrame device max hex system ms words)
 
--- at most so many octets of an input were taken, and the others are left
+-- Holds if at most `limit` bytes of an input were consumed, and the others are left.
 abbrev pub TakesAtMost : ℕ → List ℕ → Option (List ℕ) → Type 0
 TakesAtMost limit input left = (taken rest : List ℕ) × (length taken ≤ limit) × (input ≡ taken ++ rest) × (left ≡ Some rest)
 
--- the answers to an input, each with what is left of it, and with what was written before and is now
+-- The results for an input, each with what is left of it, and with what was written before and is now.
 abbrev pub EncodesAll : {T : Type 0} → ℕ → ℕ → ℕ → Bool → ℕ → List ℕ → Result T ToolFault → Option (List ℕ) → Option (List ℕ)
     → Option (List ℕ) → Type 0
 EncodesAll device max depth hex system input (Ok _) left old new =
@@ -151,35 +151,35 @@ EncodesAll device max depth hex system input (Err Memory) left old new = Stays o
 
 -- ---- the steps
 
--- these octets are the input, which is no longer than the limit
+-- Holds if these bytes are the input, which is no longer than the limit.
 abbrev pub IsWholeInput : ℕ → List ℕ → List ℕ → Type 0
 IsWholeInput limit octets input = (octets ≡ input) × (length input ≤ limit)
 
--- these octets are the input, or, where they are past the limit, its front
+-- Holds if these bytes are the input, or a prefix of it if they are past the limit.
 abbrev pub IsReadPast : ℕ → List ℕ → List ℕ → Type 0
 IsReadPast limit octets input = (length octets ≤ limit → octets ≡ input) × (limit < length octets → limit < length input)
 
--- why an input was not read whole: it is longer than the limit; a read failed, and the limit was not passed before; or
--- memory is wanting
+-- Why an input was not read completely: it is longer than the limit; a read failed, and the limit was not passed
+-- before; or an allocation failed.
 abbrev pub IsPartOfInput : ℕ → List ℕ → ToolFault → Option (List ℕ) → Type 0
 IsPartOfInput limit input (Refused words) left = (limit < length input) × (string_bytes words ≡ codes "Input")
 IsPartOfInput limit input (Device word) left = (word.now ≡ codes "Read") × TakesAtMost limit input left
 IsPartOfInput limit input Memory left = Unit {0}
 
--- why a text was not read as messages
+-- Why a text was not read as messages.
 abbrev pub IsNotRead : ℕ → List ℕ → ToolFault → Type 0
 IsNotRead depth input (Refused words) = (fault : TextFault) × NotesFault input depth fault × (string_bytes words ≡ text_fault_text fault)
 IsNotRead depth input (Device word) = ⊥
 IsNotRead depth input Memory = Unit {0}
 
--- this is a text's fault, in words
+-- Holds if this is the error of a text, with its text.
 abbrev pub IsReportedText : TextFault → ToolFault → Type 0
 IsReportedText text.Memory (Refused words) = ⊥
 IsReportedText fault (Refused words) = string_bytes words ≡ text_fault_text fault
 IsReportedText fault (Device word) = ⊥
 IsReportedText fault Memory = Unit {0}
 
--- why a text was not encoded: it isn't messages, or one of them has no frame
+-- Why a text was not encoded: it is not messages, or one of them has no frame.
 abbrev pub IsNotEncoded : ℕ → ℕ → ℕ → ℕ → List ℕ → ToolFault → Type 0
 IsNotEncoded device max depth system input (Refused words) =
     ((fault : TextFault) × NotesFault input depth fault × (string_bytes words ≡ text_fault_text fault))

@@ -13,12 +13,12 @@ use hsms_frame::{Sink, Source};
 use hsms_log::{AuditFault, Verdict, audit};
 use std::alloc::Global;
 
-/// Writes the line of the verdict on a log, and says whether it passes: exactly where its octets spell a run of the
-/// session machine. Otherwise the line names the first line that continues no run, and why.
+/// Writes the line of the verdict on a log, and returns whether it passes. It passes exactly if its bytes encode a run
+/// of the session machine. Otherwise the line names the first line that continues no run, and why.
 ///
 /// # Errors
 ///
-/// - `Device`: `Read` or `Write`, where a device failed in this call, and `Endless`, where 4,294,967,295 reads found
+/// - `Device`: `Read` or `Write`, if a read or write failed in this call. `Endless`, if 4,294,967,295 reads found
 ///   neither the end nor a failing line. After a failed write a part of the line may be written.
 /// - `Memory`. Nothing is written.
 pub fn audit_to<R: Source, W: Sink>(
@@ -40,7 +40,7 @@ pub fn audit_to<R: Source, W: Sink>(
 ///
 /// # Errors
 ///
-/// Those of [`audit_to`].
+/// Returns those of [`audit_to`].
 pub fn verdict_to<R: Source, W: Sink>(
     alloc: Global,
     source: &mut R,
@@ -70,7 +70,7 @@ fn passes(verdict: Result<Verdict, ToolFault>) -> Result<bool, ToolFault>
     }
 }
 
-// The verdict on a log.
+// Returns the verdict on a log.
 fn check_result<R: Source>(alloc: Global, source: &mut R) -> Result<Verdict, ToolFault>
     ensures answer { IfRecorded (R.state source.old).left (λ input. Checked input result (R.state source.new).left
         (HasEnded (R.state source.old).ends (R.state source.new).ends)) }

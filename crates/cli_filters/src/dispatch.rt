@@ -15,7 +15,7 @@ use cli_show::{show, show_hex};
 use hsms_frame::{Sink, Source};
 use std::alloc::Global;
 
-/// Does a task with an input and an output, and says whether all is well: it is, unless a log fails its audit.
+/// Performs a task with an input and an output. Returns true unless a log fails its audit.
 pub fn perform<R: Source, W: Sink>(
     alloc: Global,
     task: Task,
@@ -39,7 +39,7 @@ pub fn perform<R: Source, W: Sink>(
     }
 }
 
-// Shows the messages of an input, by the form in which they stand.
+// Shows the messages of an input, according to their form.
 fn show_form<R: Source, W: Sink>(
     alloc: Global,
     source: &mut R,

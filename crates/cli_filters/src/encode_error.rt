@@ -3,8 +3,8 @@
 /// Why a message has no frame.
 #[derive(Clone, Copy)]
 pub enum Refusal {
-    /// Its item has no spelling.
+    /// Its item has no encoding.
     TooLarge,
-    /// Its header and text have so many octets, which are too many.
+    /// Its header and text have this number of bytes, which is too many.
     TooLong(u64),
 }

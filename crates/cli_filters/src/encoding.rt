@@ -1,4 +1,4 @@
-//! `hsms encode`: messages in notation, as octets.
+//! `hsms encode`: messages in notation, as bytes.
 
 ghost use Rattle.std.specs.Prelude.{◌≡◌, ◌≤◌, List, false, IfOk, IfErr, OnOk, codes};
 ghost use Rattle.secs_text.specs.Content.{Content, AllWithin};
@@ -17,22 +17,22 @@ use hsms_frame::{Sink, Source};
 use secs_text::{Message, TextFault, encode_texts, read_all};
 use std::alloc::Global;
 
-/// The longest input, in octets.
+/// The maximum length of the input, in bytes.
 pub const INPUT_LIMIT: usize = 67_108_864;
 
-/// Reads the whole input as messages in notation, and writes their frames in order, for a device, with system bytes
-/// counted up from `system` and wrapping: as octets, or with `hex` as a line of hexadecimal each. Nothing is written
-/// before all are encoded.
+/// Reads the complete input as messages in notation, and writes their frames in order. They have the session ID of a
+/// device, and system bytes that are counted up from `system` and wrap. A frame is written as bytes, or with `hex` as a
+/// line of hexadecimal. Nothing is written before all messages are encoded.
 ///
-/// `max` is the greatest count of octets of header and text of a message, and `depth` the deepest nesting of lists.
+/// `max` is the maximum number of bytes of header and text of a message, and `depth` the maximum nesting of lists.
 ///
 /// # Errors
 ///
-/// - `Refused`: the input has more than 67,108,864 octets (`Input`), or isn't messages within the depth (`Syntax`,
-///   `Number`, `Count`, `Deep`), or a message of it has no frame (`TooLarge`, `TooLong`). The first refusal is told,
-///   and nothing is written.
-/// - `Device`: `Read` or `Write`, where a device failed in this call. A failed read is told only where at most 67,108,864
-///   octets were taken before it. After a failed write a part of the frames may be written.
+/// - `Refused`: the input has more than 67,108,864 bytes (`Input`), or is not messages within the depth (`Syntax`,
+///   `Number`, `Count`, `Deep`), or a message of it has no frame (`TooLarge`, `TooLong`). The first of these errors is
+///   returned, and nothing is written.
+/// - `Device`: `Read` or `Write`, if a read or write failed in this call. A failed read is returned only if at most
+///   67,108,864 bytes were consumed before it. After a failed write a part of the frames may be written.
 /// - `Memory`. Nothing is written.
 pub fn encode_all<R: Source, W: Sink>(
     alloc: Global,
@@ -47,7 +47,7 @@ pub fn encode_all<R: Source, W: Sink>(
     requires { depth ≤ 100 }
     ensures frames { IfRecorded (R.state source.old).left (λ input. EncodesAll device max depth hex system input result
         (R.state source.new).left (W.state sink.old).written (W.state sink.new).written) }
-    // Where the source doesn't tell its octets, its end was found once all the same.
+    // If the source does not record its bytes, its end was still found once.
     ensures end { OnOk result ((R.state source.new).ends ≡ next_count (R.state source.old).ends) }
     ensures word { IfErr result IsReadOrWrite }
     ensures reads { CountsFailure (codes "Read") result (R.state source.old).failures (R.state source.new).failures }
@@ -65,7 +65,7 @@ pub fn encode_all<R: Source, W: Sink>(
     put_frames(alloc, sink, &octets, hex)
 }
 
-/// The messages that an input is the notation of.
+/// Returns the messages whose notation the input is.
 pub fn messages_of(alloc: Global, input: &[u8], depth: u8) -> Result<Vec<Message>, ToolFault>
     requires { depth ≤ 100 }
     ensures ok { IfOk result (λ messages. Notations (contents messages.items) input.now × AllWithin depth (contents messages.items)) }
@@ -77,7 +77,7 @@ pub fn messages_of(alloc: Global, input: &[u8], depth: u8) -> Result<Vec<Message
     }
 }
 
-// The octets of the frames of the messages that an input is the notation of.
+// Returns the bytes of the frames of the messages whose notation the input is.
 fn encoded(alloc: Global, input: &[u8], encoding: Encoding) -> Result<Vec<u8>, ToolFault>
     requires { encoding.depth ≤ 100 }
     ensures ok { IfOk result (λ octets. (ms : List Content) × Notations ms input.now × AllWithin encoding.depth ms
@@ -91,7 +91,7 @@ fn encoded(alloc: Global, input: &[u8], encoding: Encoding) -> Result<Vec<u8>, T
     }
 }
 
-// The fault for a text that isn't messages, in words.
+// Returns the error for a text that is not messages, with its text.
 fn not_read(alloc: Global, fault: TextFault) -> ToolFault
     ensures { IsReportedText fault result }
 {

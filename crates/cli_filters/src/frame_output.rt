@@ -1,4 +1,4 @@
-//! The frames of messages, written as octets or as lines of hexadecimal.
+//! The frames of messages, written as bytes or as lines of hexadecimal.
 
 ghost use Rattle.std.specs.Prelude.{◌≡◌, ◌≤◌, ◌-◌, ◌++◌, List, true, codes, IfErr, OnOk, OnErr};
 ghost use Rattle.hsms_frame.specs.CallCounts.{count_failure};
@@ -13,7 +13,7 @@ use hsms_frame::{HEADER_LENGTH, Sink};
 use secs_text::Block;
 use std::alloc::Global;
 
-/// Writes the octets of frames, which lie one behind another: at once, or with `hex` as a line of hexadecimal each.
+/// Writes the bytes of consecutive frames: at once, or with `hex` as a line of hexadecimal each.
 pub fn put_frames<W: Sink>(
     alloc: Global,
     sink: &mut W,
@@ -33,7 +33,7 @@ pub fn put_frames<W: Sink>(
     put(sink, octets)
 }
 
-// Writes what is held, and the line of each frame behind it.
+// Writes what is buffered, and then the line of each frame.
 fn put_lines<W: Sink>(sink: &mut W, held: &mut Block, octets: &[u8]) -> Result<(), ToolFault>
     requires { (fs : List Frame) × AreFrames fs octets.now }
     ensures ok { (fs : List Frame) → AreFrames fs octets.now
@@ -52,7 +52,7 @@ fn put_lines<W: Sink>(sink: &mut W, held: &mut Block, octets: &[u8]) -> Result<(
     put_out(sink, held)
 }
 
-// How many octets stand behind the first fourteen of a frame.
+// Returns the number of bytes after the first fourteen of a frame.
 #[inline(always)]
 fn text_size(front: [u8; 14]) -> usize
     requires { 10 ≤ length_field front }

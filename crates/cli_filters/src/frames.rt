@@ -1,4 +1,4 @@
-//! The octets of the frames of messages, one behind another.
+//! The bytes of consecutive frames of messages.
 
 ghost use Rattle.std.specs.Prelude.{◌≡◌, ◌<◌, ◌+◌, ◌^◌, ◌++◌, [], length, OnOk, IfOk, IfErr, None};
 ghost use Rattle.hsms_frame.specs.Frame.{frame_octets};
@@ -10,7 +10,7 @@ use hsms_frame::{Header, data_header, front_octets};
 use secs_text::{Head, Receiver};
 use std::alloc::{AllocError, Global};
 
-// Adds the octets of a frame.
+// Appends the bytes of a frame.
 fn push_octets(output: &mut Vec<u8>, header: Header, text: &[u8]) -> Result<(), AllocError>
     requires { 10 + length text.now < 2 ^ 32 }
     ensures { OnOk result (output.new.items ≡ output.old.items ++ frame_octets (record { header = header; text = text.now })) }
@@ -24,7 +24,7 @@ fn push_octets(output: &mut Vec<u8>, header: Header, text: &[u8]) -> Result<(), 
     Ok(())
 }
 
-/// The octets of the frames of messages, one behind another, up to the first message that has none.
+/// The bytes of consecutive frames of messages, up to the first message that has none.
 #[derive(Drop)]
 pub struct Frames {
     alloc: Global,
@@ -72,7 +72,7 @@ impl Receiver for Frames {
 impl Frames {
     ghost use Rattle.cli_filters.specs.Encode.{Frames as BuffersPackets};
 
-    /// No frames yet.
+    /// Creates a value without frames.
     pub fn new(alloc: Global, encoding: Encoding) -> Frames
         ensures { (result.encoding ≡ encoding)
             × BuffersPackets result.encoding.device result.encoding.max result.encoding.system result.next result.refusal result.output.items [] }
@@ -86,7 +86,7 @@ impl Frames {
         }
     }
 
-    /// The frames' octets, or the refusal.
+    /// Returns the frames' bytes, or the error.
     pub fn finish(self) -> Result<Vec<u8>, ToolFault>
         ensures ok { IfOk result (λ output. (self.refusal ≡ None) × (output.items ≡ self.output.items)) }
         ensures err { IfErr result (HasRefused self.refusal) }

@@ -1,10 +1,10 @@
 //! What the command does between its input and its output: it shows messages, audits a log, and encodes notation.
 //!
-//! [`perform`] does a task. [`show`] and [`show_hex`] of `cli_show`, [`audit_to`] and [`encode_all`] are its parts;
-//! [`read_whole`] and [`messages_of`] read notation for whoever does something else with its messages:
+//! [`perform`] performs a task. [`show`] and [`show_hex`] of `cli_show`, [`audit_to`] and [`encode_all`] are its parts.
+//! [`read_whole`] and [`messages_of`] read notation for other uses of its messages:
 //!
 //! ```
-//! let well = perform(alloc, Task::Audit, &mut source, &mut sink)?; // false where the log fails
+//! let well = perform(alloc, Task::Audit, &mut source, &mut sink)?; // false if the log fails
 //! ```
 #![tactic(auto)]
 

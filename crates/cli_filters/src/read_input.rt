@@ -1,4 +1,4 @@
-//! The whole of an input.
+//! The complete input.
 
 ghost use Rattle.std.specs.Prelude.{◌≡◌, ◌≤◌, vec_len, IfOk, OnOk, IfErr, codes};
 ghost use Rattle.hsms_frame.specs.CallCounts.{next_count};
@@ -12,8 +12,8 @@ use std::alloc::Global;
 
 const BLOCK: usize = 65536;
 
-/// The octets of an input, which is refused under the word `Input` where it has more than `limit` of them. A failed
-/// read is told only where at most `limit` octets were taken before it.
+/// Returns the bytes of an input. Returns an error with the text `Input` if it has more than `limit` bytes. Returns a
+/// failed read only if at most `limit` bytes were consumed before it.
 #[tactic(auto, using(crate::proofs::CompleteLines::refused, crate::proofs::CompleteLines::counted, crate::proofs::CompleteLines::worded))]
 pub fn read_whole<R: Source>(
     alloc: Global,
@@ -34,7 +34,7 @@ pub fn read_whole<R: Source>(
     Ok(octets)
 }
 
-// The octets of an input up to its end, or up to some past the limit.
+// Returns the bytes of an input up to its end, or up to some past the limit.
 fn read_past<R: Source>(alloc: Global, source: &mut R, limit: usize) -> Result<Vec<u8>, ToolFault>
     ensures ok { IfOk result (λ octets. IfRecorded (R.state source.old).left (IsReadPast limit octets.items)) }
     ensures err { IfErr result (λ fault. IfRecorded (R.state source.old).left

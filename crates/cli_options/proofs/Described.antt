@@ -5,7 +5,7 @@ use Rattle.std.proofs.lemmas.List.{append_assoc, map-append}
 use Rattle.clap.specs.Words.{App, Rule, Shape, with_rule, with_subcommand}
 use Rattle.cli_options.specs.ClapCommand.{with_rules, with_subcommands}
 
--- the third of the tests for a plain command is that it has none
+-- The third of the tests for a plain command requires that it has none.
 pub third_fails : (a b c d : Bool) → (a && (b && (not c && d))) ≡ true → c ≡ false
 third_fails a b false d is = refl
 third_fails true true true d is = absurd cc
@@ -28,7 +28,7 @@ map_next {A = A} f xs i d below =
     let P : ℕ → Type 0 = λ k. take k xs ≡ take i xs ++ get_or xs i d ∷ [] in
     ap (map f) (subst P next (take-suc xs i d below)) ∙ map-append f (take i xs) (get_or xs i d ∷ [])
 
--- what is described of a list is a command with one thing more
+-- What is described for a list is a command with one more entry.
 pub with_next_rule : {T : Type 0} (f : T → Rule) (xs : List T) (i : ℕ) (d : T) (first old new : App) (rule : Rule) → i < length xs
     → old ≡ with_rules first (map f (take i xs)) → new ≡ with_rule old rule → rule ≡ f (get_or xs i d)
     → new ≡ with_rules first (map f (take (i + 1) xs))

@@ -1,4 +1,4 @@
--- A range of numbers of 32 bits, as `clap` narrows it.
+-- A range of 32-bit numbers, as `clap` narrows it.
 use Rattle.std.proofs.Common.{◌≡◌, ◌≤◌, ℕ, ℤ, Some, subst, ◌∙◌, pos, arith}
 use Rattle.std.specs.Int.{int_max, int_min}
 use Rattle.std.proofs.lemmas.Bool.Decides.{nat_tests}

@@ -1,4 +1,4 @@
--- What the words of a command line ask for.
+-- What the words of a command line request.
 use Rattle.std.proofs.Common.{◌≡◌, ◌≢◌, ◌<◌, ◌≤◌, ◌^◌, ◌&&◌, ◌⊎◌, ℕ, Bool, true, false, List, [], ◌∷◌, Some, None, Ok, Err, refl, sym, ◌∙◌, ap, ap₂, subst, inl, inr, arith}
 use Rattle.std.specs.Prelude.{Option, Result, IfOk, IfErr, if◌then◌else◌, nat_le, option_map}
 use Rattle.std.specs.Str.Parse.{ParsesUnsigned, digits_value, without_leading_plus}
@@ -24,13 +24,13 @@ use Rattle.cli_options.specs.Status.{IsRefusedFor}
 
 -- ---- numbers and flags
 
--- what is made of the number that was read
+-- What is made of the number that was read.
 abbrev pub made_of : {E : Type 0} → Number → Result (Option ℕ) E → Option ℕ
 made_of n (Ok (Some v)) = if nat_le n.least v && nat_le v n.greatest then Some v else None
 made_of n (Ok None) = n.left_out
 made_of n (Err e) = None
 
--- a text that spells a number
+-- A text that is a number.
 encoded_bytes : (least greatest v : ℕ) (t : Text) (b : Bool) → is_unsigned_in least greatest t ≡ b
     → ParsesUnsigned {E = ℕ} 32 10 t (Ok v)
     → (if nat_le least v && nat_le v greatest then Some v else None) ≡ (if b then Some (digits_value 10 (without_leading_plus t)) else None)
@@ -48,7 +48,7 @@ encoded_bytes least greatest v t false is parses = go (nat_le least v && nat_le 
         Accepts-accepts false (Unsigned least greatest) t (parses.0.0, omega (arith, parses.0.1), low, high) in
         absurd cc
 
--- a text that doesn't
+-- A text that is not a number.
 unspelled : {E : Type 0} (e : E) (least greatest : ℕ) (t : Text) (b : Bool) → is_unsigned_in least greatest t ≡ b → greatest < 2 ^ 32
     → ParsesUnsigned {E = E} 32 10 t (Err e) → ◌≡◌ {A = Option ℕ} None (if b then Some (digits_value 10 (without_leading_plus t)) else None)
 unspelled e least greatest t false is few parses = refl
@@ -63,7 +63,7 @@ tried gives n t (Ok (Some v)) parses few given = encoded_bytes n.least n.greates
 tried gives n t (Ok None) parses few given = absurd given
 tried gives n t (Err e) parses few given = unspelled e n.least n.greatest t (is_unsigned_in n.least n.greatest t) refl few (parses t (Err e) given)
 
--- the number of an option
+-- The number of an option.
 pub number_read : {E : Type 0} (gives : List ℕ → Result ℕ E → Type 0) (n : Number) (found : Found) (r : Result (Option ℕ) E)
     → ((u : List ℕ) (y : Result ℕ E) → gives u y → ParsesUnsigned 32 10 u y) → n.greatest < 2 ^ 32
     → (one_text found n.name ≡ None → r ≡ Ok None) → ((t : List ℕ) → one_text found n.name ≡ Some t → TriesOne gives t r)
@@ -77,7 +77,7 @@ number_read {E} gives n found r parses few none value = go (one_of n.name (rows_
 
 -- ---- the command line
 
--- what was entered is of this name, and has these rows
+-- What was entered has this name, and these rows.
 pub entered_as : {C : Type 0} (f : C → Text × List Row) (entered : Option C) (name : Text) (rows : List Row)
     → Some name ≡ option_map (λ c. (f c).0) entered → Some rows ≡ option_map (λ e. e.1) (option_map f entered)
     → option_map f entered ≡ Some (name, rows)
@@ -104,13 +104,13 @@ encodes_to words (request.Explain excerpt) work = work
 encodes_to words (request.Capture capturing) work = work
 encodes_to words (request.Serve service) work = work
 
--- the matches are those of the words
+-- The matches are those of the words.
 pub entered_by : (words : List Text) (m : ArgMatches) (app : App) → app ≡ command_line → HasMatchesOf app words m
     → subcommand_rows_of m ≡ subcommand_of command_line words
 entered_by words m app is has =
     (has (ap is_simple is ∙ command_is_simple)).1 ∙ ap (λ a. subcommand_of a words) is
 
--- the words were taken
+-- The words were accepted.
 pub asks_parsed : (words : List Text) (m : ArgMatches) (app : App) (r : Result Request ToolFault) → app ≡ command_line → HasMatchesOf app words m
     → (is_simple_and_free app ≡ true → fault_of app words ≡ []) → IfOk r (AsksBy (subcommand_rows_of m)) → IfOk r (EncodesTo words)
 asks_parsed words m app (Ok request) is has fine asks =
@@ -139,7 +139,7 @@ nothing_parsed words m app text (Err (Refused given)) is has fine (told, none) =
 nothing_parsed words m app text (Err (Device word)) is has fine why = why
 nothing_parsed words m app text (Err Memory) is has fine why = tt
 
--- the words were refused for this kind, which isn't want of memory
+-- The words were rejected with this kind, which is not a failed allocation.
 among_faults : (words : List Text) (app : App) (k : ErrorKind) → k ≢ OutOfMemory → app ≡ command_line
     → (is_simple_and_free app ≡ true → (k ≡ OutOfMemory) ⊎ IsAmong k (fault_of app words)) → IsAmong k (fault_of command_line words)
 among_faults words app k no_memory is fails = elim (fails (ap is_simple_and_free is ∙ command_is_free)) [
@@ -147,7 +147,7 @@ among_faults words app k no_memory is fails = elim (fails (ap is_simple_and_free
   | inr among ↦ let Q : App → Type 0 = λ a. IsAmong k (fault_of a words) in subst Q is among
 ]
 
--- the words were refused, or call for a text
+-- The words were rejected, or call for a text.
 pub asks_explained : (words : List Text) (app : App) (k : ErrorKind) (r : Result Request ToolFault) → app ≡ command_line
     → (is_simple_and_free app ≡ true → (k ≡ OutOfMemory) ⊎ IsAmong k (fault_of app words)) → IfOk r (λ request. IsHelp request × CallsForText k)
     → IfOk r (EncodesTo words)

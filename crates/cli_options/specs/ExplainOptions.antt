@@ -1,4 +1,4 @@
--- Which lines of a log `hsms explain` tells and in which form, by its options.
+-- Which lines of a log `hsms explain` shows and in which format, by its options.
 use Rattle.std.specs.Prelude.{◌≡◌, ◌≤◌, ◌==◌, ◌&&◌, ◌||◌, ℕ, Bool, nat_le, List, [], ◌∷◌, codes, Option, Some, None, unwrap_or}
 use Rattle.clap.specs.Words.{Row, Rule, Text, first_of}
 use Rattle.cli_options.specs.declared.explain_options.Excerpt.{Excerpt}
@@ -8,50 +8,51 @@ use Rattle.cli_options.specs.declared.explain_options.OutputFormat.{OutputFormat
 use Rattle.cli_options.specs.declared.explain_options.OutputFormat.TheVariants.{Text as TextForm, Json, Html}
 use Rattle.cli_options.specs.OptionValues.{IsFlag, Number, flag_option, number_in, option_of, text_option}
 
--- how many lines are told around one that fails
+-- The number of lines that are shown around a failing one.
 abbrev pub around_number : Number
 around_number = record { name = codes "around"; least = 0; greatest = 1000; left_out = Some 5 }
 
--- the first line that may be told
+-- The first line that may be shown.
 abbrev pub from_number : Number
 from_number = record { name = codes "from"; least = 1; greatest = 4294967295; left_out = Some 1 }
 
--- the last line that may be told
+-- The last line that may be shown.
 abbrev pub to_number : Number
 to_number = record { name = codes "to"; least = 1; greatest = 4294967295; left_out = Some 4294967295 }
 
 abbrev pub explain_rules : List Rule
 explain_rules =
     text_option (codes "only") ∷ option_of around_number ∷ option_of from_number ∷ option_of to_number
-    ∷ text_option (codes "form") ∷ flag_option (codes "utc") ∷ []
+    ∷ text_option (codes "format") ∷ flag_option (codes "utc") ∷ []
 
--- the text of the option `only`, if any, that asks for these lines
+-- The text of the option `only`, if any, that requests these lines.
 abbrev pub only_word : Lines → Option Text
 only_word All = None
 only_word Failures = Some (codes "failures")
 
--- the name of a form
+-- The name of a format.
 abbrev pub output_format_word : OutputFormat → Option Text
 output_format_word TextForm = Some (codes "text")
 output_format_word Json = Some (codes "json")
 output_format_word Html = Some (codes "html")
 
--- the form is that which the option `form` names, and text where it is left out
+-- Holds if the format is the one that the option `format` names, by default text.
 abbrev pub HasFormat : List Row → OutputFormat → Type 0
-HasFormat rows output_form = Some (unwrap_or (first_of (codes "form") rows) (codes "text")) ≡ output_format_word output_form
+HasFormat rows output_form = Some (unwrap_or (first_of (codes "format") rows) (codes "text")) ≡ output_format_word output_form
 
--- the matches ask for this excerpt
+-- Holds if the matches request this excerpt.
 abbrev pub HasExcerpt : List Row → Excerpt → Type 0
 HasExcerpt rows excerpt =
     (first_of (codes "only") rows ≡ only_word excerpt.lines) × (number_in around_number rows ≡ Some excerpt.around)
     × (number_in from_number rows ≡ Some excerpt.from) × (number_in to_number rows ≡ Some excerpt.to)
     × HasFormat rows excerpt.form × IsFlag (codes "utc") rows excerpt.utc
 
--- the line of this number lies between the first and the last one that may be told; the greatest number is no limit
+-- True if the line with this number is between the first and the last one that may be shown. The maximum number is no
+-- limit.
 abbrev pub is_between : Excerpt → ℕ → Bool
 is_between excerpt number =
     nat_le excerpt.from number && ((excerpt.to == 4294967295) || nat_le number excerpt.to)
 
--- its numbers are within their limits
+-- Holds if its numbers are within their limits.
 abbrev pub IsExcerptWithinLimits : Excerpt → Type 0
 IsExcerptWithinLimits excerpt = (excerpt.around ≤ 1000) × (1 ≤ excerpt.from) × (1 ≤ excerpt.to)

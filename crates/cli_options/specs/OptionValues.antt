@@ -1,4 +1,4 @@
--- Options with numbers, and flags, by the way in which `clap` reads them.
+-- Options with numbers, and flags, as `clap` reads them.
 use Rattle.std.specs.Prelude.{◌≡◌, ◌≤◌, ℕ, Bool, false, true, not, is_some, pos, List, codes, Option, Some, None, if◌then◌else◌}
 use Rattle.std.specs.Option.{option_map_or}
 use Rattle.std.specs.Str.{bytes_eq}
@@ -9,38 +9,38 @@ use Rattle.clap.specs.declared.builder.action.ArgAction.TheVariants.{SetTrue}
 use Rattle.clap.specs.declared.builder.value_parser.ValueParser.TheVariants.{Signed}
 use Rattle.cli_options.specs.declared.option_tables.Numbered.{Numbered}
 
--- an option with a number: its name, between which numbers it is, and what it is where it is left out, if it may be
+-- An option with a number: its name, its minimum, its maximum, and its default, if it has one.
 pub record Number : Type 0 where
   pub name : Text
   pub least : ℕ
   pub greatest : ℕ
   pub left_out : Option ℕ
 
--- the number of an option that is told
+-- The number of a described option.
 abbrev pub described_number : Numbered → Number
 described_number n = record { name = n.0.now; least = n.1; greatest = n.2; left_out = n.3 }
 
--- one of the numbers that an option may have
+-- Holds for a number that an option may have.
 abbrev pub IsOf : Number → ℕ → Type 0
 IsOf n number = (n.least ≤ number) × (number ≤ n.greatest)
 
--- octets of header and text
+-- Bytes of header and text.
 abbrev pub max_number : Number
 max_number = record { name = codes "max"; least = 256; greatest = 33554432; left_out = Some 1048576 }
 
--- lists inside one another
+-- Nested lists.
 abbrev pub depth_number : Number
 depth_number = record { name = codes "depth"; least = 1; greatest = 100; left_out = Some 32 }
 
--- the session ID of the messages
+-- The session ID of the messages.
 abbrev pub device_number : Number
 device_number = record { name = codes "device"; least = 0; greatest = 32767; left_out = Some 0 }
 
--- the system bytes of the first message
+-- The system bytes of the first message.
 abbrev pub system_number : Number
 system_number = record { name = codes "system"; least = 0; greatest = 4294967295; left_out = Some 1 }
 
--- the option of a number, `--NAME N`
+-- The option of a number, `--NAME N`.
 abbrev pub option_of : Number → Rule
 option_of n = record (new_rule n.name) {
   long = Some n.name;
@@ -49,35 +49,35 @@ option_of n = record (new_rule n.name) {
   required = not (is_some n.left_out);
 }
 
--- an option with a text, `--NAME TEXT`
+-- An option with a text, `--NAME TEXT`.
 abbrev pub text_option : Text → Rule
 text_option name = record (new_rule name) { long = Some name; value_names = 1 }
 
--- the same with a number, which is from one to another
+-- An option with a number from a minimum to a maximum.
 abbrev pub ranged_option : Text → ℕ → ℕ → Rule
 ranged_option name least greatest = record (text_option name) { parser = Some (Signed (pos least) (pos greatest)) }
 
--- an option with a text that has to be given
+-- A required option with a text.
 abbrev pub needed_option : Text → Rule
 needed_option name = record (text_option name) { required = true }
 
--- a flag, `--NAME`
+-- A flag, `--NAME`.
 abbrev pub flag_option : Text → Rule
 flag_option name = record (new_rule name) { long = Some name; action = Some SetTrue }
 
--- the number that a text spells in decimal digits, where it is among these
+-- The number in a text of decimal digits, if it is in this range.
 abbrev pub number_between : ℕ → ℕ → Text → Option ℕ
 number_between least greatest text =
     if is_unsigned_in least greatest text then Some (digits_value 10 (without_leading_plus text)) else None
 
--- the number that the matches have of an option
+-- The number of an option in the matches.
 abbrev pub number_in : Number → List Row → Option ℕ
 number_in n rows = option_map_or (number_between n.least n.greatest) (one_of n.name rows) n.left_out
 
--- whether the matches have a flag
+-- True if the matches have a flag.
 abbrev pub flag_in : Text → List Row → Bool
 flag_in name rows = option_map_or (bytes_eq (codes "true")) (first_of name rows) false
 
--- the same, of an answer
+-- Holds if the result is whether the matches have a flag.
 abbrev pub IsFlag : Text → List Row → Bool → Type 0
 IsFlag name rows flag = flag ≡ flag_in name rows

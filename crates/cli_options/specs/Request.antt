@@ -1,4 +1,4 @@
--- What the words of a command line ask for, by the way in which `clap` reads them.
+-- What the words of a command line request, as `clap` reads them.
 use Rattle.std.specs.Prelude.{◌≡◌, ◌≢◌, ◌≤◌, ◌⊎◌, true, false, List, [], ◌∷◌, codes, Bool, Option, Some, None}
 use Rattle.clap.specs.Words.{App, IsAmong, Row, Shape, Text, fault_of, new_app, subcommand_of}
 use Rattle.clap.specs.declared.error.kind.ErrorKind.{ErrorKind}
@@ -14,9 +14,9 @@ use Rattle.cli_options.specs.OptionValues.{IsFlag, depth_number, device_number, 
 use Rattle.cli_options.specs.ExplainOptions.{HasExcerpt, IsExcerptWithinLimits, explain_rules}
 use Rattle.cli_options.specs.ServeOptions.{AsksToServe, serve_rules}
 
--- ---- the command that is described to `clap`
+-- ---- the command that is described for `clap`
 
--- a command of this name, with nothing else
+-- A command with this name, and nothing else.
 abbrev pub named : Text → Shape
 named name = (new_app name).top
 
@@ -42,16 +42,16 @@ encode_command = record (named (codes "encode")) {
 abbrev pub serve_command : Shape
 serve_command = record (named (codes "serve")) { rules = serve_rules }
 
--- the command, which wants one of the six subcommands, and has a version
+-- The command, which requires one of the six subcommands, and has a version.
 abbrev pub command_line : App
 command_line = record {
   top = record (named (codes "hsms")) { is_leaf = false; subcommand_required = true; has_version = true };
   subs = show_command ∷ audit_command ∷ explain_command ∷ capture_command ∷ encode_command ∷ serve_command ∷ [];
 }
 
--- ---- what is asked for
+-- ---- what is requested
 
--- the form of the messages that are shown, by the flags `hex` and `bare`: the second one asks for the first
+-- The form of the messages that are shown, by the flags `hex` and `bare`. The second one requires the first.
 abbrev pub form_by : Bool → Bool → Option Form
 form_by false false = Some form.Octets
 form_by true false = Some form.Lines
@@ -61,13 +61,13 @@ form_by false true = None
 abbrev pub form_in : List Row → Option Form
 form_in rows = form_by (flag_in (codes "hex") rows) (flag_in (codes "bare") rows)
 
--- the four octets that count the others are left out
+-- True if the four length bytes are left out.
 abbrev pub is_bare : Form → Bool
 is_bare form.Octets = false
 is_bare form.Lines = false
 is_bare form.BareLines = true
 
--- what a subcommand of this name asks for, with these matches, where it is a task
+-- Holds if a subcommand with this name and these matches requests this task.
 abbrev pub AsksForTask : Text → List Row → Task → Type 0
 AsksForTask name rows (asked.Help text) = ⊥
 AsksForTask name rows asked.Audit = name ≡ codes "audit"
@@ -78,46 +78,46 @@ AsksForTask name rows (asked.Encode e) =
     (name ≡ codes "encode") × (number_in device_number rows ≡ Some e.device) × (number_in system_number rows ≡ Some e.system)
     × (number_in max_number rows ≡ Some e.max) × (number_in depth_number rows ≡ Some e.depth) × IsFlag (codes "hex") rows e.hex
 
--- what a subcommand of this name asks for, with these matches
+-- Holds if a subcommand with this name and these matches requests this.
 abbrev pub AsksFor : Text → List Row → Request → Type 0
 AsksFor name rows (request.Task task) = AsksForTask name rows task
 AsksFor name rows (request.Explain excerpt) = (name ≡ codes "explain") × HasExcerpt rows excerpt
 AsksFor name rows (request.Capture capturing) = (name ≡ codes "capture") × HasCapturing rows capturing
 AsksFor name rows (request.Serve service) = (name ≡ codes "serve") × AsksToServe rows service
 
--- what the matches of a parse ask for
+-- Holds if the matches of a parse request this.
 abbrev pub AsksBy : Option (Text × List Row) → Request → Type 0
 AsksBy entered request = (name : Text) × (rows : List Row) × (entered ≡ Some (name, rows)) × AsksFor name rows request
 
--- the words are those of a subcommand, and ask for this
+-- Holds if the words are those of a subcommand, and request this.
 abbrev pub ParsesWork : List Text → Request → Type 0
 ParsesWork words request = (fault_of command_line words ≡ []) × AsksBy (subcommand_of command_line words) request
 
--- the kinds of error that call for a text: help, or the version
+-- Holds for the kinds of error that call for a text: help, or the version.
 abbrev pub CallsForText : ErrorKind → Type 0
 CallsForText kind = (kind ≡ DisplayHelp) ⊎ (kind ≡ DisplayVersion)
 
--- the words ask for this task, or may call for help or for the version
+-- Holds if the words request this task, or may call for help or for the version.
 abbrev pub ParsesTask : List Text → Task → Type 0
 ParsesTask words (asked.Help text) = IsAmong DisplayHelp (fault_of command_line words) ⊎ IsAmong DisplayVersion (fault_of command_line words)
 ParsesTask words asked.Audit = ParsesWork words (request.Task asked.Audit)
 ParsesTask words (asked.Show s) = ParsesWork words (request.Task (asked.Show s))
 ParsesTask words (asked.Encode e) = ParsesWork words (request.Task (asked.Encode e))
 
--- the words ask for this, or may call for help or for the version
+-- Holds if the words request this, or may call for help or for the version.
 abbrev pub EncodesTo : List Text → Request → Type 0
 EncodesTo words (request.Task task) = ParsesTask words task
 EncodesTo words (request.Explain excerpt) = ParsesWork words (request.Explain excerpt)
 EncodesTo words (request.Capture capturing) = ParsesWork words (request.Capture capturing)
 EncodesTo words (request.Serve service) = ParsesWork words (request.Serve service)
 
--- the words ask for no work, and nothing says that they call for help alone, or for the version alone
+-- Holds if the words request no work, and it is unknown whether they call for help alone, or for the version alone.
 abbrev pub ParsesNothing : List Text → Type 0
 ParsesNothing words =
     (fault_of command_line words ≢ DisplayHelp ∷ []) × (fault_of command_line words ≢ DisplayVersion ∷ [])
     × ((request : Request) → ParsesWork words request → ⊥)
 
--- each number of a task is within its limits
+-- Holds if each number of a task is within its limits.
 abbrev pub IsTaskWithinLimits : Task → Type 0
 IsTaskWithinLimits (asked.Help text) = Unit {0}
 IsTaskWithinLimits asked.Audit = Unit {0}
@@ -125,14 +125,14 @@ IsTaskWithinLimits (asked.Show s) = (256 ≤ s.max) × (s.max ≤ 33554432) × (
 IsTaskWithinLimits (asked.Encode e) =
     (e.device ≤ 32767) × (256 ≤ e.max) × (e.max ≤ 33554432) × (1 ≤ e.depth) × (e.depth ≤ 100)
 
--- each number of a request is within its limits; those of settings are by their type
+-- Holds if each number of a request is within its limits. Those of settings are by their type.
 abbrev pub IsWithinLimits : Request → Type 0
 IsWithinLimits (request.Task task) = IsTaskWithinLimits task
 IsWithinLimits (request.Explain excerpt) = IsExcerptWithinLimits excerpt
 IsWithinLimits (request.Capture capturing) = IsCapturingWithinLimits capturing
 IsWithinLimits (request.Serve service) = (1 ≤ service.port) × (service.port ≤ 65535)
 
--- a text is to be printed
+-- Holds if a text is printed.
 abbrev pub IsHelpText : Task → Type 0
 IsHelpText (asked.Help text) = Unit {0}
 IsHelpText asked.Audit = ⊥

@@ -1,4 +1,4 @@
--- What the options of `hsms serve` are, and what they ask for.
+-- The options of `hsms serve`, and what they request.
 use Rattle.std.specs.Prelude.{◌≡◌, ◌++◌, ◌||◌, ℕ, Bool, true, List, [], ◌∷◌, codes, Some, None, is_some, unwrap_or}
 use Rattle.clap.specs.Words.{Row, Rule, Text, first_of}
 use Rattle.hsms_machine.specs.declared.settings.Role.{Role}
@@ -12,7 +12,7 @@ use Rattle.cli_options.specs.OptionValues.{IsFlag, Number, depth_number, device_
 
 -- ---- the options
 
--- a time in milliseconds
+-- A time in milliseconds.
 abbrev pub time_number : Text → ℕ → Number
 time_number name left_out = record { name = name; least = 1; greatest = 3600000; left_out = Some left_out }
 
@@ -28,26 +28,26 @@ t7_number = time_number (codes "t7") 10000
 abbrev pub t8_number : Number
 t8_number = time_number (codes "t8") 5000
 
--- after how long a pause an end tests its link, in milliseconds; 0 is never
+-- The idle time after which an end tests its link, in milliseconds; 0 for never.
 abbrev pub linktest_number : Number
 linktest_number = record { name = codes "linktest"; least = 0; greatest = 3600000; left_out = Some 0 }
 
--- a TCP port, which has to be given
+-- A TCP port, which is required.
 abbrev pub port_number : Number
 port_number = record { name = codes "port"; least = 1; greatest = 65535; left_out = None }
 
--- the system bytes of the first own message
+-- The system bytes of the first own message.
 abbrev pub first_system_number : Number
 first_system_number = record { name = codes "first-system"; least = 0; greatest = 4294967295; left_out = Some 1 }
 
 abbrev pub turns_number : Number
 turns_number = record { name = codes "turns"; least = 0; greatest = 4294967295; left_out = Some 4294967295 }
 
--- how long an end waits before it connects again
+-- How long an end waits before it connects again.
 abbrev pub t5_number : Number
 t5_number = time_number (codes "t5") 10000
 
--- how many connections are served at most, one after the other
+-- The maximum number of connections that are served, one after another.
 abbrev pub connections_number : Number
 connections_number = record { name = codes "connections"; least = 1; greatest = 4294967295; left_out = Some 4294967295 }
 
@@ -69,12 +69,12 @@ handler_rules =
 
 abbrev pub again_rules : List Rule
 again_rules =
-    flag_option (codes "again") ∷ flag_option (codes "once") ∷ option_of connections_number ∷ option_of t5_number ∷ []
+    flag_option (codes "reconnect") ∷ flag_option (codes "once") ∷ option_of connections_number ∷ option_of t5_number ∷ []
 
 abbrev pub serve_rules : List Rule
 serve_rules = connection_rules ++ (time_rules ++ (limit_rules ++ (handler_rules ++ again_rules)))
 
--- ---- what they ask for
+-- ---- what they request
 
 abbrev pub role_word : Role → Text
 role_word Host = codes "host"
@@ -84,48 +84,51 @@ abbrev pub side_word : Side → Text
 side_word Active = codes "active"
 side_word Passive = codes "passive"
 
--- the text that the matches have of an option, which is empty where it is left out
+-- The text of an option in the matches. It is empty by default.
 abbrev pub text_in : Text → List Row → Text
 text_in name rows = unwrap_or (first_of name rows) []
 
--- the matches have these times
+-- Holds if the matches have these times.
 abbrev pub HasTimes : List Row → ℕ → ℕ → ℕ → ℕ → Type 0
 HasTimes rows t3 t6 t7 t8 =
     (number_in t3_number rows ≡ Some t3) × (number_in t6_number rows ≡ Some t6) × (number_in t7_number rows ≡ Some t7)
     × (number_in t8_number rows ≡ Some t8)
 
--- the matches have the numbers of these settings
+-- Holds if the matches have the numbers of these settings.
 abbrev pub HasNumbers : List Row → Parameters → Type 0
 HasNumbers rows s =
     (number_in device_number rows ≡ Some s.device) × HasTimes rows s.t3 s.t6 s.t7 s.t8
     × (number_in max_number rows ≡ Some s.max) × (number_in depth_number rows ≡ Some s.depth)
 
--- the matches have these settings, of a log of one connection
+-- Holds if the matches have these settings, of a log of one connection.
 abbrev pub HasSettings : List Row → Parameters → Type 0
 HasSettings rows s =
     (s.version ≡ 1)
     × (first_of (codes "role") rows ≡ Some (role_word s.role)) × (first_of (codes "link") rows ≡ Some (side_word s.link))
     × HasNumbers rows s
 
--- the matches say something of further connections: that they have no script, how many there are, or after which time
+-- True if the matches say something about further connections: that they have no script, how many there are, or after
+-- which time.
 abbrev pub limits_repeat : List Row → Bool
 limits_repeat rows =
     flag_in (codes "once") rows || (is_some (first_of (codes "connections") rows) || is_some (first_of (codes "t5") rows))
 
--- the matches say so of connections one after the other, and something of further ones only where there are some
+-- Holds if the matches request this of connections one after another. They say something about further ones only if
+-- there are some.
 abbrev pub HasRepeat : List Row → Repeat → Type 0
 HasRepeat rows repeat =
-    IsFlag (codes "again") rows repeat.again × IsFlag (codes "once") rows repeat.once
+    IsFlag (codes "reconnect") rows repeat.again × IsFlag (codes "once") rows repeat.once
     × (number_in connections_number rows ≡ Some repeat.connections) × (number_in t5_number rows ≡ Some repeat.t5)
     × (limits_repeat rows ≡ true → repeat.again ≡ true)
 
--- the matches have these numbers of a service: its port, its first system bytes, its turns, and when it tests its link
+-- Holds if the matches have these numbers of a service: its port, its first system bytes, its turns, and its link test
+-- time.
 abbrev pub HasOwnNumbers : List Row → ℕ → ℕ → ℕ → ℕ → Type 0
 HasOwnNumbers rows port first_system turns linktest =
     (number_in port_number rows ≡ Some port) × (number_in first_system_number rows ≡ Some first_system)
     × (number_in turns_number rows ≡ Some turns) × (number_in linktest_number rows ≡ Some linktest)
 
--- the matches ask for this service
+-- Holds if the matches request this service.
 abbrev pub AsksToServe : List Row → Service → Type 0
 AsksToServe rows service =
     HasSettings rows service.settings × (first_of (codes "address") rows ≡ Some service.address.now)

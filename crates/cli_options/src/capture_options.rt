@@ -1,4 +1,4 @@
-//! The options of `hsms capture`: which connections of a capture are looked at, and what is told of them.
+//! The options of `hsms capture`: which connections of a capture are tracked, and what is written of them.
 
 ghost use Rattle.std.specs.Prelude.{◌≡◌, Option, IfSome, None, codes};
 ghost use Rattle.std.specs.declared.net.ip_addr.IpAddr.{IpAddr};
@@ -14,24 +14,24 @@ use clap::ArgMatches;
 use hsms_machine::{Role, Settings, Side};
 use std::net::IpAddr;
 
-/// What is looked at in a capture, and what is told of it.
+/// What is tracked in a capture, and what is written of it.
 #[derive(Clone, Copy, Debug)]
 pub struct Capturing {
-    /// The TCP port of the ends that listen, from 1.
+    /// The TCP port of the listening ends, from 1.
     pub port: u16,
-    /// The address of one end of each connection that is looked at. Where there is none, all at the port are.
+    /// The address of one end of each tracked connection. `None` for all connections at the port.
     pub peer: Option<IpAddr>,
-    /// The role whose log is written. Where there is none, verdicts on the logs of both ends are told.
+    /// The role whose log is written. `None` for verdicts on the logs of both ends.
     pub log: Option<Role>,
-    /// Whether sessions are looked at that were running before the capture.
+    /// True if midstream sessions are tracked.
     pub joined: bool,
-    /// The settings of an end that connects, for a log of several connections.
+    /// The settings of a connecting end, for a log of several connections.
     pub active: Settings,
-    /// Those of an end that listens: it has the other role, and else the same numbers.
+    /// The settings of a listening end: it has the other role, and otherwise the same numbers.
     pub passive: Settings,
 }
 
-/// What the options of `hsms capture` ask for, if they have values that they may have.
+/// Returns what the options of `hsms capture` request. Returns `None` if a value is invalid.
 pub fn capturing_of(options: &ArgMatches<'_>) -> Option<Capturing>
     ensures asks { IfSome result (HasCapturing (rows_of (found_of options.now))) }
     ensures within { IfSome result IsCapturingWithinLimits }
@@ -48,24 +48,24 @@ pub fn capturing_of(options: &ArgMatches<'_>) -> Option<Capturing>
         port,
         peer,
         log,
-        joined: flag_of(options, "joined"),
+        joined: flag_of(options, "midstream"),
         active,
         passive,
     })
 }
 
-// The address that one end is to have, if one is given. None where the option has a text that is none.
+// Returns the address that one end must have, if it is given. Returns `None` if the option's text is not an address.
 fn peer_of(options: &ArgMatches<'_>) -> Option<Option<IpAddr>>
     ensures some { IfSome result (HasPeer (rows_of (found_of options.now))) }
     ensures none { result ≡ None → (peer : Option IpAddr) → HasPeer (rows_of (found_of options.now)) peer → ⊥ }
 {
-    match text_of(options, "with") {
+    match text_of(options, "peer") {
         Some(text) => Some(Some(text.parse::<IpAddr>().ok()?)),
         None => Some(None),
     }
 }
 
-// The role whose log is asked for, if one is. None where the option has another text.
+// Returns the role whose log is requested, if there is one. Returns `None` if the option has another text.
 fn log_of(options: &ArgMatches<'_>) -> Option<Option<Role>>
     ensures some { IfSome result (λ log. first_of (codes "log") (rows_of (found_of options.now)) ≡ log_word log) }
     ensures none { result ≡ None → (log : Option Role)

@@ -1,4 +1,4 @@
-//! The command as it is described to `clap`: its subcommands, their options, and the ranges of these.
+//! The description of the command for `clap`: its subcommands, their options, and the ranges of these.
 
 ghost use Rattle.std.specs.Prelude.{◌≡◌, IfOk, [], false, map};
 ghost use Rattle.clap.specs.Words.{app_of, rule_of};
@@ -13,89 +13,85 @@ use crate::option_tables::{
 use clap::{Arg, ArgAction, Command, value_parser};
 use std::alloc::{AllocError, Global};
 
-// The help of a command after its options: the option of every command, and a text of its own. `clap` does not know this
-// option, which may be anywhere: the program takes it out of the words.
+// The help of a command after its options: the option of every command, and a text of its own. `clap` does not know
+// this option, which may be anywhere: the program removes it from the words.
 macro_rules! help {
     ($($text:literal)?) => {
-        concat!("  -v, --verbose  Explain each fault: what happened, and what to do" $(, "\n\n", $text)?)
+        concat!("  -v, --verbose  Explain errors: what happened, and what to do" $(, "\n\n", $text)?)
     };
 }
 
 const SHOW_HELP: &str = help!(
     "Example: hsms show < capture.bin\n\n\
-    Statuses: 0 every message is shown; 2 the command line or the input is refused (TooShort, TooLong, CutOff; with\n\
-    --hex NoHex, NoMessage); 3 the input can't be read (Read), the output can't be written (Write), there are more\n\
-    than 4294967295 messages or lines (Endless), or memory is wanting (Memory). What was shown before a fault stays\n\
-    shown."
+    Exit status: 0 all messages are shown; 2 invalid command line or input (TooShort, TooLong, CutOff; with --hex NoHex,\n\
+    NoMessage); 3 read error (Read), write error (Write), too much input (Endless) or out of memory (Memory). Output\n\
+    written before an error stays valid. -v explains errors."
 );
 
 const AUDIT_HELP: &str = help!(
-    "It tells `pass` and what the log holds, or the first line that can't follow those before it, and why:\n\
-    `fail line=N unreadable`, or `fail line=N rule=NAME` with the first of these rules that the line breaks.\n\n  \
-    Backwards      its time is before that of the last line\n  \
-    NotUp          the connection isn't up, or this `up` may not stand here\n  \
-    Ended          the session is over\n  \
-    T3Overdue      a reply is overdue, and no `t3` says so\n  \
-    LinkOverdue    T6 or T7 has run out, and no `cut` says so\n  \
-    NotDue         this timer hasn't run out\n  \
-    TooLong        the frame is longer than the settings allow\n  \
-    PType          its PType isn't 0\n  \
-    SType          single session doesn't have its SType\n  \
-    ControlText    a control message with a text\n  \
-    Session        its session ID isn't that of such a message\n  \
-    Direction      this end may not send or take it\n  \
-    NotSelected    data, and the session isn't selected\n  \
-    WBit           a reply that asks for a reply\n  \
-    Text           its text is no item, or is nested too deep\n  \
-    SystemInUse    its system bytes are those of an open transaction\n  \
-    NoTransaction  it answers nothing that is open\n  \
-    SelectStatus   a Select.rsp with status 0 while the session is selected\n  \
-    NoCause        nothing is wrong with a frame that was thrown away\n\n\
-    A log of version 2 may hold several connections: an `up` directly after a `down` begins the next one.\n\n\
+    "Writes `pass` with counts, or the first line that cannot follow the lines before it, as `fail line=N unreadable`\n\
+    or `fail line=N rule=NAME`. NAME is the first of these rules that the line breaks:\n\n  \
+    Backwards      the time is earlier than the previous entry's\n  \
+    NotUp          the connection is not up, or this `up` is out of place\n  \
+    Ended          the session has ended\n  \
+    T3Overdue      no reply came within T3, and no `t3` is logged\n  \
+    LinkOverdue    T6 or T7 has expired, and no `cut` is logged\n  \
+    NotDue         no such timer has expired\n  \
+    TooLong        the message is longer than MAX\n  \
+    PType          PType is not 0\n  \
+    SType          HSMS-SS does not use this SType\n  \
+    ControlText    a control message has message text\n  \
+    Session        wrong session ID for this kind of message\n  \
+    Direction      this end may not send or receive this message\n  \
+    NotSelected    data message while the session is not selected\n  \
+    WBit           the W bit is set in a reply\n  \
+    Text           the text is not one valid item, or is nested too deeply\n  \
+    SystemInUse    an open transaction already has these system bytes\n  \
+    NoTransaction  no matching open transaction\n  \
+    SelectStatus   status 0, but the session is already selected\n  \
+    NoCause        a discarded message that breaks no rule\n\n\
+    In a log of version 2, an `up` right after a `down` starts a new connection.\n\n\
     Example: hsms audit < session.log\n\n\
-    Statuses: 0 the log passes; 1 it fails; 2 the command line is refused; 3 the log can't be read (Read), the verdict\n\
-    can't be written (Write), there are more than 4294967295 reads (Endless), or memory is wanting (Memory)."
+    Exit status: 0 the log passes; 1 it fails; 2 invalid command line; 3 read error (Read), write error (Write), too much\n\
+    input (Endless) or out of memory (Memory). -v explains errors."
 );
 
 const EXPLAIN_HELP: &str = help!(
-    "Each line is told with its number, a frame as `hsms show` shows it. Below stands what it has to do with others, as\n\
-    the line that it answers, and why it fails: the rule, the line that it concerns, and how the log is gone on with, so\n\
-    that later failures are told too. The last line is the verdict that `hsms audit` tells.\n\n\
+    "Each line has its number; a frame is shown as by `hsms show`. Below it: the line that it answers, or each rule that\n\
+    it breaks, the open transaction involved, and how the audit continues. The last line is the verdict of `hsms audit`.\n\n\
     Example: hsms explain < session.log\n\n\
-    Statuses: 0 the log passes; 1 it fails; 2 the command line is refused; 3 the log can't be read (Read), what is told\n\
-    can't be written (Write), there are more than 4294967295 reads (Endless), or memory is wanting (Memory). What was told\n\
-    before a fault stays told."
+    Exit status: 0 the log passes; 1 it fails; 2 invalid command line; 3 read error (Read), write error (Write), too much\n\
+    input (Endless) or out of memory (Memory). Output written before an error stays valid. -v explains errors."
 );
 
 const CAPTURE_HELP: &str = help!(
-    "It reads a file of pcap or pcapng once. For each TCP connection at the port it tells two lines, of the end that\n\
-    connects and of the one that listens: both addresses, what the end is, and the verdict of `hsms audit` on its log,\n\
-    with the packet of a failing line. Where something is missing nothing behind it is judged, and a line says\n\
-    `incomplete` and the packet that shows it.\n\n\
-    With --log it writes the log of one role instead, of all connections between two addresses, in version 2. A comment\n\
-    above each line names its packet.\n\n\
+    "Reads a pcap or pcapng file once. For each TCP connection at the port it writes two lines, for the connecting and\n\
+    the listening end: both addresses, the role, and the verdict of `hsms audit` on its log, with the packet of a failing\n\
+    line. If data is missing, the line says `incomplete` with the packet that shows it, and nothing after it is audited.\n\n\
+    With --log it writes the log of one role, for all connections between two addresses, in version 2; a comment above\n\
+    each line has its packet number.\n\n\
     Example: hsms capture < tool.pcap\n\
     Example: hsms capture --log host < tool.pcap | hsms explain\n\n\
-    Statuses: 0 each log passes, and nothing is missing; 1 a log fails; 2 the command line is refused, or the capture:\n\
-    something is missing in it (Lost, Length, Differs, Full, CutOff), it can't be read (Capture, Time), nothing came up\n\
-    (NoConnection), or with --log there are several at once or other addresses (Overlap, Peer); 3 standard input can't\n\
-    be read (Read), the output can't be written (Write), there are 2^64 - 4 blocks or more (Endless), or memory is\n\
-    wanting (Memory). What was told before a fault stays told."
+    Exit status: 0 each log passes, and no data is missing; 1 a log fails; 2 invalid command line or capture: missing data\n\
+    (Lost, Length, Differs, Full, CutOff), an invalid file (Capture, Time), no connection (NoConnection), HSMS that was\n\
+    not audited (NotJudged), or with --log several connections at once or other addresses (Overlap, Peer); 3 read error\n\
+    (Read), write error (Write), too much input (Endless) or out of memory (Memory). Output written before an error stays\n\
+    valid. -v explains errors."
 );
 
 const ENCODE_HELP: &str = help!(
     "Example: echo 'S1F13 W <L> .' | hsms encode > message.bin\n\n\
-    Statuses: 0 every message is encoded; 2 the command line is refused, or the input (Input, Syntax, Number, Count,\n\
-    Deep, TooLarge, TooLong); 3 the input can't be read (Read), the output can't be written (Write), or memory is\n\
-    wanting (Memory). Nothing is written where the input is refused."
+    Exit status: 0 all messages are encoded; 2 invalid command line or input (Input, Syntax, Number, Count, Deep,\n\
+    TooLarge, TooLong); 3 read error (Read), write error (Write) or out of memory (Memory). Invalid input writes nothing.\n\
+    -v explains errors."
 );
 
 const SERVE_HELP: &str = help!(
-    "Each end answers Select, Linktest, S1F1, S1F13 and S2F25, and rejects or aborts what it may not take.\n\n\
+    "The endpoint answers Select, Linktest, S1F1, S1F13 and S2F25 by itself; it rejects or aborts other messages.\n\n\
     Example: hsms serve --role equipment --link passive --address 127.0.0.1 --port 5000 > equipment.log\n\n\
-    Statuses: 0 the connection was served to its end; 1 not all was sent, with --all-sent; 2 the command line or the\n\
-    script is refused (Input, Syntax, Number, Count, Deep); 3 there is no connection, or it broke (Link), the log can't\n\
-    be written (Log), all turns are used (Turns), standard input can't be read (Read), or memory is wanting (Memory)."
+    Exit status: 0 the connection was served to its end; 1 not all messages were sent (--all-sent); 2 invalid command line\n\
+    or script (Input, Syntax, Number, Count, Deep); 3 no connection or a broken one (Link), log write error (Log), turn\n\
+    limit (Turns), read error (Read) or out of memory (Memory). -v explains errors."
 );
 
 const VERSION: &str = "0.2 (session logs of versions 1 and 2)";
@@ -107,9 +103,9 @@ pub struct Subcommand {
     pub name: &'static str,
     /// What it does, in the list of subcommands.
     pub about: &'static str,
-    /// How it is called, where that is to be said otherwise than by its options.
+    /// Its usage, if that differs from what its options give.
     pub usage: Option<&'static str>,
-    /// What its help says behind its options.
+    /// The text of its help after its options.
     pub help: &'static str,
     /// Its options.
     pub options: &'static [Described],
@@ -121,42 +117,42 @@ fn subcommands() -> [Subcommand; 6]
     [
         Subcommand {
             name: "show",
-            about: "Shows the HSMS messages of standard input, a line each",
+            about: "Decode the HSMS messages on standard input, one line each",
             usage: None,
             help: SHOW_HELP,
             options: show_options(),
         },
         Subcommand {
             name: "audit",
-            about: "Audits the session log of standard input",
+            about: "Audit the session log on standard input",
             usage: Some("hsms audit [OPTIONS] < LOG"),
             help: AUDIT_HELP,
             options: &[],
         },
         Subcommand {
             name: "explain",
-            about: "Shows a session log, what its lines answer, and each of its failures",
+            about: "Show a session log line by line, with its transactions and failures",
             usage: Some("hsms explain [OPTIONS] < LOG"),
             help: EXPLAIN_HELP,
             options: explain_options(),
         },
         Subcommand {
             name: "capture",
-            about: "Audits the connections of a packet capture, or writes the log of one end of them",
+            about: "Audit the connections in a packet capture, or extract the log of one end",
             usage: Some("hsms capture [OPTIONS] < CAPTURE"),
             help: CAPTURE_HELP,
             options: capture_options(),
         },
         Subcommand {
             name: "encode",
-            about: "Encodes the messages of standard input, in notation, as HSMS octets",
+            about: "Encode messages from notation to HSMS bytes",
             usage: None,
             help: ENCODE_HELP,
             options: encode_options(),
         },
         Subcommand {
             name: "serve",
-            about: "Serves one HSMS connection, and writes its log",
+            about: "Run one end of an HSMS connection and write its log",
             usage: Some(
                 "hsms serve --role ROLE --link LINK --address A --port P [OPTIONS] [--send < NOTATION] > LOG",
             ),
@@ -166,13 +162,15 @@ fn subcommands() -> [Subcommand; 6]
     ]
 }
 
-/// The command `hsms`, which wants one of six subcommands.
+/// Returns the command `hsms`, which requires one of six subcommands.
 pub fn command<'a>(alloc: Global) -> Result<Command<'a>, AllocError>
     ensures { IfOk result (λ command. app_of command ≡ command_line) }
 {
     let mut hsms = Command::new(alloc, "hsms")
         .bin_name("hsms")?
-        .about("Audits HSMS session logs, reads and writes HSMS messages, and serves a connection")
+        .about(
+            "Audit HSMS session logs and packet captures, decode and encode messages, run a host or equipment endpoint",
+        )
         .version(VERSION)
         .after_help(help!())
         .subcommand_required(true);
@@ -221,7 +219,7 @@ impl Described {
     }
 }
 
-// An option with a number in decimal.
+// Returns an option with a decimal number.
 #[tactic(auto, using(crate::proofs::Ranges::narrowed))]
 fn number_option<'a>(alloc: Global, number: Numbered, value: &'a str, help: &'a str) -> Arg<'a>
     ensures rule { rule_of result ≡ ranged_option number.0.now number.1 number.2 }
@@ -233,7 +231,7 @@ fn number_option<'a>(alloc: Global, number: Numbered, value: &'a str, help: &'a 
     ))
 }
 
-// An option with a text, which stands as `value` in the help.
+// Returns an option with a text, which the help calls `value`.
 fn word_option<'a>(alloc: Global, name: &'a str, value: &'a str, help: &'a str) -> Arg<'a>
     ensures rule { rule_of result ≡ text_option name.entry.now }
     ensures local { result.global ≡ false }

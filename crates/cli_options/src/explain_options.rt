@@ -1,4 +1,4 @@
-//! The options of `hsms explain`: which lines of a log are told, and in which form.
+//! The options of `hsms explain`: which lines of a log are shown, and in which format.
 
 ghost use Rattle.std.specs.Prelude.{◌≡◌, IfSome, Some, None, codes};
 ghost use Rattle.clap.specs.Words.{first_of, found_of, rows_of};
@@ -11,40 +11,40 @@ use crate::option_tables::{AROUND, FROM, LAST_LINE, TO};
 use crate::option_values::{flag_of, number_of, text_of, text_or};
 use clap::ArgMatches;
 
-/// Which kind of lines is told.
+/// Which kind of lines is shown.
 #[derive(Clone, Copy, Debug, PartialEq, Eq)]
 pub enum Lines {
     /// Each line.
     All,
-    /// Those that fail, and some around them.
+    /// Failing lines, and some around them.
     Failures,
 }
 
-/// In which form a log is told.
+/// The format in which a log is shown.
 #[derive(Clone, Copy, Debug, PartialEq, Eq)]
 pub enum OutputFormat {
     /// As text, for a reader at a terminal.
     Text,
-    /// As JSON, an object a line.
+    /// As JSON, one object per line.
     Json,
-    /// As a page of HTML.
+    /// As an HTML page.
     Html,
 }
 
-/// What is told of a log, and how.
+/// What is shown of a log, and how.
 #[derive(Clone, Copy, Debug)]
 pub struct Excerpt {
-    /// Which kind of lines is told.
+    /// Which kind of lines is shown.
     pub lines: Lines,
-    /// With `Failures`: how many lines are told before each of them and behind it, at most 1,000.
+    /// With `Failures`: how many lines are shown before and after each of them, at most 1,000.
     pub around: u32,
-    /// The number of the first line that may be told, from 1.
+    /// The number of the first line that may be shown, from 1.
     pub from: u32,
-    /// The number of the last line that may be told; 4,294,967,295 stands for the last one of the log.
+    /// The number of the last line that may be shown; 4,294,967,295 represents the last one of the log.
     pub to: u32,
-    /// In which form it is told.
+    /// The output format.
     pub form: OutputFormat,
-    /// Whether times are told as dates in UTC, as milliseconds since 1970.
+    /// True if times, which are milliseconds since 1970, are shown as dates in UTC.
     pub utc: bool,
 }
 
@@ -52,7 +52,7 @@ impl Excerpt {
     ghost use Rattle.std.specs.Prelude.{◌≡◌};
     ghost use Rattle.cli_options.specs.ExplainOptions.{is_between};
 
-    /// Whether the line of this number, from 1, lies between the first and the last one that may be told.
+    /// Returns true if the line with this number, from 1, is between the first and the last one that may be shown.
     pub fn has_line(&self, number: u64) -> bool
         ensures { result ≡ is_between self.now number }
     {
@@ -60,7 +60,7 @@ impl Excerpt {
     }
 }
 
-/// What the options of `hsms explain` ask for, if they have values that they may have.
+/// Returns what the options of `hsms explain` request. Returns `None` if a value is invalid.
 pub fn excerpt_of(options: &ArgMatches<'_>) -> Option<Excerpt>
     ensures asks { IfSome result (HasExcerpt (rows_of (found_of options.now))) }
     ensures within { IfSome result IsExcerptWithinLimits }
@@ -71,7 +71,7 @@ pub fn excerpt_of(options: &ArgMatches<'_>) -> Option<Excerpt>
         around: number_of(options, AROUND)?,
         from: number_of(options, FROM)?,
         to: number_of(options, TO)?,
-        form: output_format_named(text_or(options, "form", "text"))?,
+        form: output_format_named(text_or(options, "format", "text"))?,
         utc: flag_of(options, "utc"),
     })
 }
@@ -88,7 +88,7 @@ fn lines_of(options: &ArgMatches<'_>) -> Option<Lines>
     }
 }
 
-// The form of this name.
+// Returns the format with this name.
 fn output_format_named(name: &str) -> Option<OutputFormat>
     ensures some { IfSome result (λ output_form. Some name.now ≡ output_format_word output_form) }
     ensures none { result ≡ None → (output_form : OutputFormat) → Some name.now ≡ output_format_word output_form → ⊥ }

@@ -1,4 +1,4 @@
-//! Why the command ends before its work is done.
+//! Errors that end the command before its work is done.
 
 ghost use Rattle.std.specs.Prelude.{◌≡◌, MatchResult, Some, codes};
 ghost use Rattle.cli_options.specs.Status.{IsRefusedAs, exit_status_of, fault_text};
@@ -8,14 +8,14 @@ use std::alloc::{AllocError, Global};
 use std::error::Error;
 use std::fmt;
 
-/// Why the command ends before its work is done, as it tells the user.
+/// Why the command ends before its work is done, as it reports it to the user.
 #[derive(Debug, Drop)]
 pub enum ToolFault {
-    /// The command line or the input is refused, in these words.
+    /// The command line or the input is invalid, with this text.
     Refused(String),
-    /// A device failed, or it gives more than the command takes; the word says which.
+    /// A reader or writer failed, or the input is larger than the command accepts. The word says which.
     Device(&'static str),
-    /// Memory is wanting.
+    /// An allocation failed.
     Memory,
 }
 
@@ -41,14 +41,14 @@ impl From<AllocError> for ToolFault {
     }
 }
 
-/// The refusal of an input in these words, or `Memory` where there is none for them.
+/// Returns the error for an invalid input, with this text. Returns `Memory` if an allocation fails for the text.
 pub fn refused(alloc: Global, words: &str) -> ToolFault
     ensures { IsRefusedAs words.now result }
 {
     refusal(String::from_str(alloc, words))
 }
 
-/// The refusal of an input in words that were made, or `Memory` where they weren't.
+/// Returns the error for an invalid input, with this text. Returns `Memory` if the text could not be allocated.
 pub fn refusal(words: Result<String, AllocError>) -> ToolFault
     ensures { MatchResult words (λ given. result ≡ ToolFault.Refused given) (λ _. result ≡ ToolFault.Memory) }
 {
@@ -58,8 +58,9 @@ pub fn refusal(words: Result<String, AllocError>) -> ToolFault
     }
 }
 
-/// The status with which the command ends: 0 where all is well, 1 where it isn't, as where a log fails its audit, 2 where
-/// the input or the command line is refused, and 3 where a device or memory failed.
+/// Returns the status with which the command ends. It is 0 after success, and 1 if the result is false, for example
+/// because a log fails its audit. It is 2 if the input or the command line is invalid, and 3 if I/O or an allocation
+/// failed.
 pub fn exit_status(answer: &Result<bool, ToolFault>) -> u8
     ensures { result ≡ exit_status_of answer.now }
 {
@@ -71,7 +72,7 @@ pub fn exit_status(answer: &Result<bool, ToolFault>) -> u8
     }
 }
 
-/// The refusal of a command line that asks for nothing that the command does.
+/// Returns the error for a command line that requests nothing that the command does.
 pub fn no_request(alloc: Global) -> ToolFault
     ensures { IsRefusedAs (codes "command line") result }
 {

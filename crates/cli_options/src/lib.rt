@@ -1,9 +1,8 @@
-//! The command line of `hsms`: how it is described to `clap`, and what its words ask for.
+//! The command line of `hsms`: its description for `clap`, and what its words request.
 //!
-//! [`parse`] answers what the words ask for, as a [`Request`]: a [`Task`] between standard input and standard output, a
-//! log that is to be explained, a capture whose connections are to be looked at, or a connection that is to be served.
-//! What the command refuses, and what stops it, is a [`ToolFault`]; [`exit_status`] has the status with which the command
-//! ends:
+//! [`parse`] returns what the words request, as a [`Request`]: a [`Task`] between standard input and standard output, a
+//! log to explain, a capture whose connections are audited, or a connection to serve. An error of the command is a
+//! [`ToolFault`]. [`exit_status`] returns the status with which the command ends:
 //!
 //! ```
 //! let request = parse(alloc, &words)?;

@@ -7,7 +7,7 @@ ghost use Rattle.cli_options.specs.OptionValues.{IsFlag, IsOf, depth_number, num
 use crate::option_tables::{DEPTH, Numbered};
 use clap::ArgMatches;
 
-/// The number of `--depth`, where it is from 1 to 100.
+/// Returns the number of `--depth`, if it is from 1 to 100.
 pub fn depth_of(options: &ArgMatches<'_>) -> Option<u8>
     ensures value { result ≡ number_in depth_number (rows_of (found_of options.now)) }
     ensures within { IfSome result (λ depth. (1 ≤ depth) × (depth ≤ 100)) }
@@ -15,7 +15,7 @@ pub fn depth_of(options: &ArgMatches<'_>) -> Option<u8>
     Some(number_of(options, DEPTH)? as u8)
 }
 
-/// The number of an option whose numbers have 16 bits, as [`number_of`].
+/// Returns the number of an option with 16-bit numbers, as [`number_of`] does.
 pub fn short_of(options: &ArgMatches<'_>, number: Numbered) -> Option<u16>
     requires short { (described_number number).greatest ≤ 65535 }
     requires left_out { IfSome (described_number number).left_out (IsOf (described_number number)) }
@@ -25,8 +25,8 @@ pub fn short_of(options: &ArgMatches<'_>, number: Numbered) -> Option<u16>
     Some(number_of(options, number)? as u16)
 }
 
-/// The number of an option, if it is from the least to the greatest one; where the option isn't given, the number for
-/// that.
+/// Returns the number of an option, if it is from the minimum to the maximum. Returns the default if the option is not
+/// given.
 pub fn number_of(options: &ArgMatches<'_>, number: Numbered) -> Option<u32>
     requires { IfSome (described_number number).left_out (IsOf (described_number number)) }
     ensures value { result ≡ number_in (described_number number) (rows_of (found_of options.now)) }
@@ -46,21 +46,21 @@ fn within(number: u32, least: u32, greatest: u32) -> Option<u32>
     (least <= number && number <= greatest).then_some(number)
 }
 
-/// Whether a flag is given.
+/// Returns true if a flag is given.
 pub fn flag_of(options: &ArgMatches<'_>, name: &str) -> bool
     ensures { IsFlag name.now (rows_of (found_of options.now)) result }
 {
     text_of(options, name) == Some("true")
 }
 
-/// The text of an option, or `left_out` where it isn't given.
+/// Returns the text of an option, or `left_out` if it is not given.
 pub fn text_or<'a>(options: &ArgMatches<'a>, name: &str, left_out: &'a str) -> &'a str
     ensures { result.now ≡ unwrap_or (first_of name.now (rows_of (found_of options.now))) left_out.entry.now }
 {
     text_of(options, name).unwrap_or(left_out)
 }
 
-/// The text of an option, if it is given.
+/// Returns the text of an option, if it is given.
 pub fn text_of<'a>(options: &ArgMatches<'a>, name: &str) -> Option<&'a str>
     ensures { option_map (λ text. text.now) result ≡ first_of name.now (rows_of (found_of options.now)) }
 {

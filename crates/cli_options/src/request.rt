@@ -1,4 +1,4 @@
-//! What the command line asks for. It is looked at before anything is read.
+//! What the command line requests. It is checked before anything is read.
 
 ghost use Rattle.std.specs.Prelude.{◌≡◌, ◌≢◌, IfOk, IfErr, IfSome, None, codes, map, string_bytes};
 ghost use Rattle.clap.specs.Words.{found_of, kind_of, rows_of, subcommand_rows_of};
@@ -22,34 +22,34 @@ use clap::error::ErrorKind;
 use clap::{ArgMatches, Error};
 use std::alloc::Global;
 
-/// What the user asks for.
+/// What the user requests.
 #[derive(Debug, Drop)]
 pub enum Request<'a> {
     /// A task between standard input and standard output.
     Task(Task),
-    /// The log of standard input is to be explained, and this is to be told of it.
+    /// Explain the log on standard input, and show this of it.
     Explain(Excerpt),
-    /// The capture of standard input is to be read, and this is to be told of its connections.
+    /// Read the capture on standard input, and write this of its connections.
     Capture(Capturing),
-    /// A connection is to be served.
+    /// Serve a connection.
     Serve(Service<'a>),
 }
 
-/// What is to be done with standard input and standard output.
+/// What to do with standard input and standard output.
 #[derive(Debug, Drop)]
 pub enum Task {
-    /// The text is to be printed.
+    /// Print the text.
     Help(String),
-    /// The messages of standard input are to be shown.
+    /// Show the messages of standard input.
     Show(Showing),
-    /// The log of standard input is to be audited.
+    /// Audit the log on standard input.
     Audit,
-    /// The messages of standard input, in notation, are to be encoded.
+    /// Encode the messages of standard input, which are in notation.
     Encode(Encoding),
 }
 
-/// How messages are shown: in which form they stand, how many octets header and text have at most, and how deep the
-/// lists of a readable text are nested at most.
+/// How messages are shown: their form, the maximum number of bytes of header and text, and the maximum nesting of lists
+/// in a readable text.
 #[derive(Clone, Copy, Debug)]
 pub struct Showing {
     pub max: u32,
@@ -57,8 +57,8 @@ pub struct Showing {
     pub form: Form,
 }
 
-/// How messages are encoded: for which device, with which system bytes first, how many octets header and text have at
-/// most, how deep lists are nested at most, and whether as lines of hexadecimal in place of octets.
+/// How messages are encoded: the device ID, the first system bytes, the maximum number of bytes of header and text, and
+/// the maximum nesting of lists. `hex` selects lines of hexadecimal instead of bytes.
 #[derive(Clone, Copy, Debug)]
 pub struct Encoding {
     pub device: u16,
@@ -68,22 +68,22 @@ pub struct Encoding {
     pub hex: bool,
 }
 
-/// In which form the messages of an input stand.
+/// The form of the messages of an input.
 #[derive(Clone, Copy, Debug)]
 pub enum Form {
-    /// As octets, one message behind another.
+    /// As bytes, in consecutive messages.
     Octets,
-    /// As lines of hexadecimal, each of the octets of a message.
+    /// As lines of hexadecimal, each with the bytes of a message.
     Lines,
-    /// As lines of hexadecimal, each of header and text alone: without the four octets that count them.
+    /// As lines of hexadecimal, each with header and text alone: without the four length bytes.
     BareLines,
 }
 
-/// What the words of a command line ask for. The first one is the command's name.
+/// Returns what the words of a command line request. The first word is the command's name.
 ///
 /// # Errors
 ///
-/// `Refused` in the words `command line`, where they ask for nothing that the command does; else `Memory`.
+/// Returns `Refused` with the text `command line` if they request nothing that the command does; otherwise `Memory`.
 pub fn parse<'a>(alloc: Global, words: &'a [String]) -> Result<Request<'a>, ToolFault>
     ensures asks { IfOk result (EncodesTo (map string_bytes words.now)) }
     ensures limits { IfOk result IsWithinLimits }
@@ -111,7 +111,7 @@ fn asked<'a>(alloc: Global, matches: &ArgMatches<'a>) -> Result<Request<'a>, Too
     }
 }
 
-// What a subcommand asks for, with these options.
+// Returns what a subcommand requests, with these options.
 fn asked_by<'a>(name: &str, options: &ArgMatches<'a>) -> Option<Request<'a>>
     ensures asks { IfSome result (AsksFor name.now (rows_of (found_of options.now))) }
     ensures limits { IfSome result IsWithinLimits }
@@ -121,7 +121,7 @@ fn asked_by<'a>(name: &str, options: &ArgMatches<'a>) -> Option<Request<'a>>
     match name {
         "explain" => Some(Request::Explain(excerpt_of(options)?)),
         "capture" => Some(Request::Capture(capturing_of(options)?)),
-        // The toolchain has no rule for `?` here, by which words are handed on that are borrowed.
+        // The toolchain has no rule here for `?` that passes on borrowed words.
         "serve" => match service_of(options) {
             Some(service) => Some(Request::Serve(service)),
             None => None,
@@ -130,7 +130,7 @@ fn asked_by<'a>(name: &str, options: &ArgMatches<'a>) -> Option<Request<'a>>
     }
 }
 
-// The same, where it is a task.
+// Returns what a subcommand requests, if it is a task.
 fn task_of(name: &str, options: &ArgMatches<'_>) -> Option<Task>
     ensures asks { IfSome result (AsksForTask name.now (rows_of (found_of options.now))) }
     ensures limits { IfSome result IsTaskWithinLimits }
@@ -144,7 +144,7 @@ fn task_of(name: &str, options: &ArgMatches<'_>) -> Option<Task>
     }
 }
 
-// How `hsms show` is to show messages.
+// Returns how `hsms show` shows messages.
 fn showing_of(options: &ArgMatches<'_>) -> Option<Showing>
     ensures asks { IfSome result (λ s. AsksForTask (codes "show") (rows_of (found_of options.now)) (asked.Show s)) }
     ensures limits { IfSome result (λ s. IsTaskWithinLimits (asked.Show s)) }
@@ -158,7 +158,7 @@ fn showing_of(options: &ArgMatches<'_>) -> Option<Showing>
     })
 }
 
-// How `hsms encode` is to encode messages.
+// Returns how `hsms encode` encodes messages.
 fn encoding_of(options: &ArgMatches<'_>) -> Option<Encoding>
     ensures asks { IfSome result (λ e. AsksForTask (codes "encode") (rows_of (found_of options.now)) (asked.Encode e)) }
     ensures limits { IfSome result (λ e. IsTaskWithinLimits (asked.Encode e)) }
@@ -193,7 +193,7 @@ fn form_of(options: &ArgMatches<'_>) -> Option<Form>
     }
 }
 
-// The answer where `clap` doesn't match the words: the text of help or of the version, or a refusal.
+// Returns the result if `clap` does not match the words: the text of the help or of the version, or an error.
 fn explained<'a>(alloc: Global, error: &Error) -> Result<Request<'a>, ToolFault>
     ensures help { IfOk result (λ request. IsHelp request × CallsForText (kind_of error.now)) }
     ensures limits { IfOk result IsWithinLimits }

@@ -5,29 +5,29 @@ ghost use Rattle.cli_options.specs.RuleTexts.{sentence_of};
 
 use hsms_machine::Rule;
 
-/// What is the matter with an entry that breaks this rule, as the help of `hsms audit` says it.
+/// Returns what is wrong with an entry that breaks this rule, as in the help of `hsms audit`.
 pub fn sentence(rule: Rule) -> &'static str
     ensures { result.now ≡ sentence_of rule }
 {
     match rule {
-        Rule::Backwards => "its time is before that of the last line",
-        Rule::NotUp => "the connection isn't up, or this `up` may not stand here",
-        Rule::Ended => "the session is over",
-        Rule::T3Overdue => "a reply is overdue, and no `t3` says so",
-        Rule::LinkOverdue => "T6 or T7 has run out, and no `cut` says so",
-        Rule::NotDue => "this timer hasn't run out",
-        Rule::TooLong => "the frame is longer than the settings allow",
-        Rule::PType => "its PType isn't 0",
-        Rule::SType => "single session doesn't have its SType",
-        Rule::ControlText => "a control message with a text",
-        Rule::Session => "its session ID isn't that of such a message",
-        Rule::Direction => "this end may not send or take it",
-        Rule::NotSelected => "data, and the session isn't selected",
-        Rule::WBit => "a reply that asks for a reply",
-        Rule::Text => "its text is no item, or is nested too deep",
-        Rule::SystemInUse => "its system bytes are those of an open transaction",
-        Rule::NoTransaction => "it answers nothing that is open",
-        Rule::SelectStatus => "a Select.rsp with status 0 while the session is selected",
-        Rule::NoCause => "nothing is wrong with a frame that was thrown away",
+        Rule::Backwards => "the time is earlier than the previous entry's",
+        Rule::NotUp => "the connection is not up, or this `up` is out of place",
+        Rule::Ended => "the session has ended",
+        Rule::T3Overdue => "no reply came within T3, and no `t3` is logged",
+        Rule::LinkOverdue => "T6 or T7 has expired, and no `cut` is logged",
+        Rule::NotDue => "no such timer has expired",
+        Rule::TooLong => "the message is longer than MAX",
+        Rule::PType => "PType is not 0",
+        Rule::SType => "HSMS-SS does not use this SType",
+        Rule::ControlText => "a control message has message text",
+        Rule::Session => "wrong session ID for this kind of message",
+        Rule::Direction => "this end may not send or receive this message",
+        Rule::NotSelected => "data message while the session is not selected",
+        Rule::WBit => "the W bit is set in a reply",
+        Rule::Text => "the text is not one valid item, or is nested too deeply",
+        Rule::SystemInUse => "an open transaction already has these system bytes",
+        Rule::NoTransaction => "no matching open transaction",
+        Rule::SelectStatus => "status 0, but the session is already selected",
+        Rule::NoCause => "a discarded message that breaks no rule",
     }
 }

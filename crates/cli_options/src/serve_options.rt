@@ -1,4 +1,4 @@
-//! The options of `hsms serve`: which connection is to be served, and how.
+//! The options of `hsms serve`: which connection is served, and how.
 
 ghost use Rattle.std.specs.Prelude.{◌≡◌, ◌≤◌, IfSome, Some, None, codes};
 ghost use Rattle.clap.specs.Words.{first_of, found_of, rows_of};
@@ -16,49 +16,49 @@ use crate::option_values::{depth_of, flag_of, number_of, short_of, text_of, text
 use clap::ArgMatches;
 use hsms_machine::{Role, Settings, Side};
 
-/// A connection that is to be served.
+/// A connection to serve.
 #[derive(Clone, Copy, Debug)]
 pub struct Service<'a> {
     /// The settings of the end that serves it. An active one connects, and a passive one listens (SEMI E37, section 6).
     pub settings: Settings,
-    /// Where it connects to, or listens: an IP address or the name of a host.
+    /// Where it connects or listens: an IP address or the name of a host.
     pub address: &'a str,
     /// The TCP port there, from 1.
     pub port: u16,
     /// The system bytes of its first own message.
     pub first_system: u32,
-    /// How many turns it takes at most.
+    /// The maximum number of turns.
     pub turns: u32,
-    /// After how long a pause it tests its link by Linktest.req, in milliseconds (SEMI E37, section 7); 0 is never.
+    /// The idle time after which it tests its link by Linktest.req, in milliseconds (SEMI E37, section 7); 0 for never.
     pub linktest: u32,
-    /// The model that equipment tells of itself.
+    /// The model (MDLN) that equipment reports.
     pub mdln: &'a str,
-    /// The software revision that equipment tells of itself.
+    /// The software revision (SOFTREV) that equipment reports.
     pub softrev: &'a str,
-    /// Whether standard input is a script of messages that are to be sent, and then the session is to be separated.
+    /// True if standard input is a script of messages to send, after which the session is separated.
     pub send: bool,
-    /// Whether the messages of standard input that have an even function are replies of its desk.
+    /// True if the messages of standard input with an even function are replies of its message handler.
     pub answer: bool,
-    /// Whether status 1 follows where a step of the script was refused, or was left when the connection ended.
+    /// True if status 1 follows when a step of the script was refused, or was left when the connection ended.
     pub all_sent: bool,
-    /// Whether connections are served one after the other, and which.
+    /// Whether connections are served one after another, and which.
     pub repeat: Repeat,
 }
 
-/// Whether connections are served one after the other, and which.
+/// Whether connections are served one after another, and which.
 #[derive(Clone, Copy, Debug)]
 pub struct Repeat {
-    /// Whether further connections follow the first one, in the same log. Else the other fields are ignored.
+    /// True if further connections follow the first one, in the same log. Otherwise the other fields are ignored.
     pub again: bool,
-    /// Whether the script is taken in the first connection alone.
+    /// True if only the first connection uses the script.
     pub once: bool,
-    /// How many connections are served at most, from 1.
+    /// The maximum number of connections that are served, from 1.
     pub connections: u32,
     /// How long an active end waits before it connects again, in milliseconds (SEMI E37, section 10, T5).
     pub t5: u32,
 }
 
-/// What the options of `hsms serve` ask for, if they have values that they may have.
+/// Returns what the options of `hsms serve` request. Returns `None` if a value is invalid.
 pub fn service_of<'a>(options: &ArgMatches<'a>) -> Option<Service<'a>>
     ensures asks { IfSome result (AsksToServe (rows_of (found_of options.now))) }
     ensures port { IfSome result (λ service. (1 ≤ service.port) × (service.port ≤ 65535)) }
@@ -81,7 +81,7 @@ pub fn service_of<'a>(options: &ArgMatches<'a>) -> Option<Service<'a>>
     })
 }
 
-// Of a service its port, its first system bytes, how many turns it takes, and when it tests its link.
+// Returns a service's port, first system bytes, number of turns, and link test time.
 fn numbers_of(options: &ArgMatches<'_>) -> Option<(u16, u32, u32, u32)>
     ensures asks { IfSome result (λ n. HasOwnNumbers (rows_of (found_of options.now)) n.0 n.1 n.2 n.3) }
     ensures port { IfSome result (λ n. (1 ≤ n.0) × (n.0 ≤ 65535)) }
@@ -101,12 +101,12 @@ fn numbers_of(options: &ArgMatches<'_>) -> Option<(u16, u32, u32, u32)>
     }
 }
 
-// Whether connections are served one after the other, and which, by these options.
+// Returns whether connections are served one after another, and which, by these options.
 fn repeat_of(options: &ArgMatches<'_>) -> Option<Repeat>
     ensures asks { IfSome result (HasRepeat (rows_of (found_of options.now))) }
     ensures none { result ≡ None → (repeat : Repeat) → HasRepeat (rows_of (found_of options.now)) repeat → ⊥ }
 {
-    let again = flag_of(options, "again");
+    let again = flag_of(options, "reconnect");
     if !again && limits_repeat(options) {
         return None;
     }
@@ -118,7 +118,7 @@ fn repeat_of(options: &ArgMatches<'_>) -> Option<Repeat>
     })
 }
 
-// Whether these options say something of further connections.
+// Returns true if these options say something about further connections.
 fn limits_repeat(options: &ArgMatches<'_>) -> bool
     ensures { result ≡ has_limits (rows_of (found_of options.now)) }
 {
@@ -127,7 +127,7 @@ fn limits_repeat(options: &ArgMatches<'_>) -> bool
         || text_of(options, "t5").is_some()
 }
 
-// The settings of an end of the role and side that these options name, for a log of one connection.
+// Returns the settings of an end with the role and side of these options, for a log of one connection.
 fn settings_of(options: &ArgMatches<'_>) -> Option<Settings>
     ensures asks { IfSome result (HasSettings (rows_of (found_of options.now))) }
     ensures none { result ≡ None → (settings : Parameters) → HasSettings (rows_of (found_of options.now)) settings → ⊥ }
@@ -136,7 +136,7 @@ fn settings_of(options: &ArgMatches<'_>) -> Option<Settings>
     settings_with(options, role, side_of(options)?)
 }
 
-/// The settings of an end of this role and side with the numbers of the options, for a log of one connection.
+/// Returns the settings of an end with this role and side and the numbers of the options, for a log of one connection.
 pub fn settings_with(options: &ArgMatches<'_>, role: Role, link: Side) -> Option<Settings>
     ensures ends { IfSome result (λ s. (s.version ≡ 1) × (s.role ≡ role) × (s.link ≡ link)) }
     ensures asks { IfSome result (HasNumbers (rows_of (found_of options.now))) }
@@ -158,7 +158,7 @@ pub fn settings_with(options: &ArgMatches<'_>, role: Role, link: Side) -> Option
     }
 }
 
-/// The role of this name.
+/// Returns the role with this name.
 pub fn role_named(name: &str) -> Option<Role>
     ensures some { IfSome result (λ role. name.now ≡ role_word role) }
     ensures none { result ≡ None → (role : Role) → name.now ≡ role_word role → ⊥ }
@@ -170,7 +170,7 @@ pub fn role_named(name: &str) -> Option<Role>
     }
 }
 
-// The side that these options name.
+// Returns the side that these options name.
 fn side_of(options: &ArgMatches<'_>) -> Option<Side>
     ensures some { IfSome result (λ side. first_of (codes "link") (rows_of (found_of options.now)) ≡ Some (side_word side)) }
     ensures none { result ≡ None → (side : Side)

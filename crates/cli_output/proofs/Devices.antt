@@ -1,4 +1,4 @@
--- The words of a device's fault.
+-- The names of an I/O error.
 use Rattle.std.proofs.Common.{ℕ, List, Ok, Err, inl, inr, codes}
 use Rattle.std.specs.Prelude.{Result, IfErr}
 use Rattle.cli_options.specs.declared.fault.ToolFault.{ToolFault}

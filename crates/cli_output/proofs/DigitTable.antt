@@ -1,4 +1,4 @@
--- The digits of an octet.
+-- The digits of a byte.
 use Rattle.std.proofs.Common.{◌≡◌, ℕ, ◌<◌, true, [], ◌∷◌, get_or, eqb, refl}
 use Rattle.std.specs.Cmp.Lexicographic.{pointwise}
 use Rattle.std.proofs.lemmas.Bool.{agree_below_at}

@@ -1,4 +1,4 @@
--- What an output to a sink was given, and what is held on its way.
+-- What was given to an output to a sink, and what is buffered.
 use Rattle.std.proofs.Common.{◌≡◌, ◌≤◌, ◌+◌, ◌-◌, ◌++◌, ℕ, suc, Bool, true, false, List, [], ◌∷◌, length, take, drop, None, Some, Ok, Err, refl, sym, ◌∙◌, ap, subst, arith, get_or}
 use Rattle.std.specs.Prelude.{Option, Result, is_err, OnOk, OnErr, if◌then◌else◌}
 use Rattle.std.proofs.lemmas.List.{append_assoc, length-append, drop-append-le, take-append-le, take-append-drop, take_at, drop_at}
@@ -7,14 +7,14 @@ use Rattle.hsms_frame.specs.Io.{SinkState, Grows, GrowsByFront}
 use Rattle.secs_text.specs.BlockOutput.{AppendsBytes}
 use Rattle.cli_output.specs.LineBuffer.{GrowsHolding, Sent, SentOctets}
 
--- a front of a text, and more of it
+-- A prefix of a text, and more of it.
 pub take_after : (xs ys : List ℕ) (n : ℕ) → take (length xs + n) (xs ++ ys) ≡ xs ++ take n ys
 take_after [] ys n = ap (λ k. take k ys) (omega arith)
 take_after (x ∷ xs) ys n =
     let e : ◌≡◌ {A = ℕ} (suc (length xs) + n) (suc (length xs + n)) = omega arith in
     ap (λ k. take k (x ∷ (xs ++ ys))) e ∙ ap (λ l. x ∷ l) (take_after xs ys n)
 
--- ---- one more piece is given
+-- ---- one more chunk is given
 
 sent_more : (written new : Option (List ℕ)) (before : ℕ) (octets piece : List ℕ) → SentOctets false written before octets → Grows written new piece
     → SentOctets false new before (octets ++ piece)
@@ -65,7 +65,7 @@ gives_none name state piece given s = record {
   written = λ known_input. sent_stays state.written s.before s.octets piece (s.written known_input);
 }
 
--- a piece is given where no write has failed
+-- A chunk is given, and no write has failed.
 pub gives : {T E : Type 0} (r : Result T E) (name : ℕ) (failed failed_now : Bool) (old new : SinkState) (piece : List ℕ) → failed ≡ false → failed_now ≡ is_err r
     → OnOk r (Grows old.written new.written piece) → OnErr r (GrowsByFront old.written new.written piece) → new.failures ≡ count_failure r old.failures
     → (given : List ℕ) → Sent name failed old given → Sent name failed_now new (given ++ piece)
@@ -74,9 +74,9 @@ gives (Ok x) name failed failed_now old new piece none is ok err counts given s 
 gives (Err x) name failed failed_now old new piece none is ok err counts given s =
     subst (λ b. Sent name b new (given ++ piece)) (sym is) (gives_front name old new piece counts err given (subst (λ b. Sent name b old given) none s))
 
--- ---- a line is laid
+-- ---- a line is appended
 
--- what it began with
+-- What it started with.
 pub sent_first : (name : ℕ) (state : SinkState) (is_reported before : ℕ) (octets : List ℕ) → (is_reported ≡ 1 → SentOctets false state.written before octets)
     → Sent name false state (name ∷ state.failures ∷ is_reported ∷ before ∷ octets)
 sent_first name state is_reported before octets written = record {
@@ -93,7 +93,7 @@ peel : (a b c d a2 b2 c2 d2 : ℕ) (xs ys : List ℕ) → a ∷ b ∷ c ∷ d �
 peel a b c d a2 b2 c2 d2 xs ys e =
     (ap (λ l. get_or l 0 0) e, ap (λ l. get_or l 1 0) e, ap (λ l. get_or l 2 0) e, ap (λ l. get_or l 3 0) e, ap (λ l. drop 4 l) e)
 
--- what an output was given, behind what it began with
+-- What was given to an output, after what it started with.
 abbrev End : ℕ → ℕ → Bool → SinkState → SinkState → List ℕ → List ℕ → ℕ → ℕ → List ℕ → Type 0
 End name name_now has_failed old new now line is_reported before octets =
     (sent : List ℕ) × (name_now ≡ name) × (new.failures ≡ (if has_failed then next_count old.failures else old.failures))
@@ -178,7 +178,7 @@ fails_within name name_now old new held now line appends_bytes = λ m known_inpu
       e.1.3 ∙ ap Some (sym (take-append-le n sent now (omega (arith, e.1.2))) ∙ ap (take n) e.2 ∙ ap (λ j. take j (m ++ (held ++ line))) sum ∙ take_after m (held ++ line) k),
     )
 
--- by what is known of the two failures
+-- By what is known of the two failures.
 pub appended_as : (name name_now : ℕ) (was is_now : Bool) (old new : SinkState) (held now line : List ℕ) {after : Bool} → was ≡ false → is_now ≡ after
     → AppendsBytes (Sent name was old) held (Sent name_now is_now new) now line → AppendsBytes (Sent name false old) held (Sent name_now after new) now line
 appended_as name name_now was is_now old new held now line {after} none is appends_bytes =

@@ -1,4 +1,4 @@
--- What an output and its block were given, part by part.
+-- What was given to an output and its block, part by part.
 use Rattle.std.proofs.Common.{◌≡◌, ℕ, List, [], ◌∷◌, ◌++◌, sym, ap, ◌∙◌, subst, append-nil, append_assoc}
 use Rattle.hsms_frame.specs.Frame.{Frame}
 use Rattle.hsms_frame.specs.declared.kinds.Kind.{Kind}
@@ -6,7 +6,7 @@ use Rattle.hsms_frame.specs.Header.{kind_of}
 use Rattle.secs_text.specs.BlockOutput.{AppendsBytes}
 use Rattle.cli_output.specs.Line.{LineOf, LineOfKind}
 
--- a second text comes behind the first
+-- A second text follows the first.
 pub appends_then : (A B C : List ℕ → Type 0) (a b c xs ys : List ℕ) → AppendsBytes A a B b xs → AppendsBytes B b C c ys → AppendsBytes A a C c (xs ++ ys)
 appends_then A B C a b c xs ys first second = λ given has.
     let p = first given has in
@@ -16,22 +16,22 @@ appends_then A B C a b c xs ys first second = λ given has.
 pub appends_none : (A : List ℕ → Type 0) (a : List ℕ) → AppendsBytes A a A a []
 appends_none A a = λ given has. (given, has, sym (append-nil (given ++ a)))
 
--- the same text under another name
+-- An equal text under another name.
 pub appends_same : (A B : List ℕ → Type 0) (a b xs ys : List ℕ) → xs ≡ ys → AppendsBytes A a B b xs → AppendsBytes A a B b ys
 appends_same A B a b xs ys same appends_bytes = subst (λ (o : List ℕ). AppendsBytes A a B b o) same appends_bytes
 
 -- ---- lines
 
--- the line of a message of this kind
+-- The line of a message of this kind.
 pub line_as : (depth : ℕ) (f : Frame) (kind : Kind) (line : List ℕ) → kind_of f.header ≡ kind → LineOfKind kind depth f line → LineOf depth f line
 line_as depth f kind line is line_is = subst (λ (k : Kind). LineOfKind k depth f line) (sym is) line_is
 
--- two numbers, each behind a space
+-- Two numbers, each after a space.
 pub two_numbers : (front first second text end : List ℕ) → front ++ (32 ∷ first) ++ (32 ∷ second) ++ text ++ end ≡ front ++ (32 ∷ first ++ 32 ∷ [] ++ second) ++ text ++ end
 two_numbers front first second text end =
     ap (λ (o : List ℕ). o ++ text ++ end) (append_assoc front (32 ∷ first) (32 ∷ second) ∙ ap (λ (o : List ℕ). front ++ o) (sym (append_assoc (32 ∷ first) (32 ∷ []) second)))
 
--- a line with its text in hexadecimal
+-- A line with its text in hexadecimal.
 pub unreadable_is : (front name mark digits end : List ℕ)
     → front ++ 32 ∷ [] ++ (name ++ mark ++ digits ++ end) ≡ front ++ (32 ∷ name) ++ mark ++ digits ++ end
 unreadable_is front name mark digits end =

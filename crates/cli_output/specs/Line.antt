@@ -1,4 +1,4 @@
--- The line that shows a message, and the line of its octets.
+-- The line that shows a message, and the line of its bytes.
 use Rattle.std.specs.Prelude.{◌≡◌, ◌⊎◌, ℕ, List, [], ◌∷◌, ◌++◌, ◌==◌, if◌then◌else◌, length, codes, decimal, Option}
 use Rattle.std.specs.Int.{w16, w32, to_be_bytes}
 use Rattle.hex.specs.Hex.{encode_lower}
@@ -11,7 +11,7 @@ use Rattle.hsms_frame.specs.declared.kinds.Kind.TheVariants.{Primary, Reply, Sel
 use Rattle.hsms_frame.specs.Frame.{Frame}
 use Rattle.hsms_frame.specs.Header.{kind_of, stream_of, function_of, wait_of}
 
--- the name of a kind of message
+-- The name of a kind of message.
 abbrev pub name_of : Kind → List ℕ
 name_of Primary = codes "data"
 name_of Reply = codes "data"
@@ -24,29 +24,29 @@ name_of Separate = codes "separate"
 name_of OtherSType = codes "other-stype"
 name_of OtherPType = codes "other-ptype"
 
--- session ID and system bytes, in hexadecimal
+-- Session ID and system bytes, in hexadecimal.
 abbrev pub address_of : Header → List ℕ
 address_of h = codes " " ++ encode_lower (to_be_bytes w16 h.session) ++ codes " " ++ encode_lower (to_be_bytes w32 h.system)
 
--- stream and function, and the W bit if it is set
+-- Stream and function, and the W bit if it is set.
 abbrev pub message_name_of : Header → List ℕ
 message_name_of h =
     codes " S" ++ decimal (stream_of h) ++ codes "F" ++ decimal (function_of h) ++ (if wait_of h then codes " W" else [])
 
 -- ---- data
 
--- the line of a message whose text is readable: in notation
+-- The line of a message whose text is readable: in notation.
 abbrev pub readable_line : Header → Option Value → List ℕ
 readable_line h item =
     codes "data" ++ address_of h ++ codes " "
     ++ printed (record { stream = stream_of h; function = function_of h; wait = wait_of h; item = item }) ++ 10 ∷ []
 
--- the line of a message whose text isn't: its text in hexadecimal
+-- The line of a message whose text is not readable: its text in hexadecimal.
 abbrev pub unreadable_line : Frame → List ℕ
 unreadable_line f =
     codes "data" ++ address_of f.header ++ message_name_of f.header ++ codes " ! " ++ encode_lower f.text ++ 10 ∷ []
 
--- the line of a data message: its text is empty or one item within the depth, or it is neither
+-- The line of a data message: its text is empty or one item within the depth, or it is not readable.
 abbrev pub DataLine : ℕ → Frame → List ℕ → Type 0
 DataLine depth f line =
     ((item : Option Value) × IsTextOf depth f.text item × (line ≡ readable_line f.header item))
@@ -54,7 +54,7 @@ DataLine depth f line =
 
 -- ---- other messages
 
--- what a kind of message has in its other header bytes
+-- What a kind of message has in its other header bytes.
 abbrev pub detail_of : Kind → Header → List ℕ
 detail_of Primary h = []
 detail_of Reply h = []
@@ -67,7 +67,7 @@ detail_of Separate h = []
 detail_of OtherSType h = codes " " ++ decimal h.stype
 detail_of OtherPType h = codes " " ++ decimal h.ptype
 
--- a text that should not be there, in hexadecimal
+-- An unexpected text, in hexadecimal.
 abbrev pub text_of : List ℕ → List ℕ
 text_of text = if length text == 0 then [] else codes " ! " ++ encode_lower text
 
@@ -88,12 +88,12 @@ LineOfKind Separate depth f line = line ≡ control_line Separate f
 LineOfKind OtherSType depth f line = line ≡ control_line OtherSType f
 LineOfKind OtherPType depth f line = line ≡ control_line OtherPType f
 
--- the line of a message, with its end, where lists may be nested this deep
+-- The line of a message, with its end, if lists may be nested this deep.
 abbrev pub LineOf : ℕ → Frame → List ℕ → Type 0
 LineOf depth f line = LineOfKind (kind_of f.header) depth f line
 
--- ---- octets
+-- ---- bytes
 
--- the line of octets: the digits of each, and the end of the line
+-- The line of bytes: the digits of each, and the end of the line.
 abbrev pub hex_line : List ℕ → List ℕ
 hex_line octets = encode_lower octets ++ 10 ∷ []

@@ -1,4 +1,4 @@
--- Octets that are held on their way to a sink.
+-- Bytes that are buffered before a sink.
 use Rattle.std.specs.Prelude.{◌≡◌, ◌≤◌, ◌<◌, ◌++◌, ℕ, List, ◌∷◌, length, take, Bool, true, false, Option, Some, Result, Ok, Err, if◌then◌else◌}
 use Rattle.hsms_frame.specs.CallCounts.{next_count}
 use Rattle.hsms_frame.specs.Io.{SinkState, Grows, GrowsByFront}
@@ -6,31 +6,32 @@ use Rattle.hsms_frame.specs.Frame.{Frame}
 use Rattle.cli_options.specs.declared.fault.ToolFault.{ToolFault}
 use Rattle.cli_output.specs.Line.{LineOf}
 
--- a sink was written to, and octets are held behind what was written: together they grew by a text
+-- Holds if the bytes in a sink and the buffered bytes after them together grew by a text.
 abbrev pub GrowsHolding : Option (List ℕ) → List ℕ → Option (List ℕ) → List ℕ → List ℕ → Type 0
 GrowsHolding old held new now text = (put : List ℕ) × (put ++ now ≡ held ++ text) × Grows old new put
 
--- a line was laid behind what is held, or a write failed within the two
+-- Holds if a line was appended to the buffer, or a write failed within the two.
 abbrev pub AppendsText : List ℕ → Result (Unit {0}) ToolFault → Option (List ℕ) → List ℕ → Option (List ℕ) → List ℕ → Type 0
 AppendsText line (Ok _) old held new now = GrowsHolding old held new now line
 AppendsText line (Err _) old held new now = GrowsByFront old new (held ++ line)
 
--- the line of a message was, or a write failed
+-- Holds if the line of a message was appended, or a write failed.
 abbrev pub AppendsLine : ℕ → Frame → Result (Unit {0}) ToolFault → Option (List ℕ) → List ℕ → Option (List ℕ) → List ℕ → Type 0
 AppendsLine depth f result old held new now = (line : List ℕ) × LineOf depth f line × AppendsText line result old held new now
 
--- ---- what an output to a sink was given
+-- ---- what was given to an output to a sink
 
--- the octets of a sink that began with so many, where it was given these: all are written, or a write failed behind
--- those that it began with
+-- The bytes of a sink that started with n bytes and was given these: all are written, or a write failed after the first
+-- n.
 abbrev pub SentOctets : Bool → Option (List ℕ) → ℕ → List ℕ → Type 0
 SentOctets false written before octets = (before ≤ length octets) × (written ≡ Some octets)
 SentOctets true written before octets = (n : ℕ) × (before ≤ n) × (n < length octets) × (written ≡ Some (take n octets))
 
--- What an output to a sink was given, as one list of numbers: code that is generic over outputs hands on nothing but
--- `Given`, and its caller has to know of the sink what it knew before. In front of the sink's octets, which are those it
--- began with and those it was given, stand the name of the output's reference to the sink, how often the sink had failed
--- before, 1 where the sink told its octets, and how many it began with.
+-- What was given to an output to a sink, as one list of numbers. Code that is generic over outputs passes on only
+-- `Given`, and its caller needs what it knew of the sink before. The list starts with four numbers: the name of the
+-- output's reference to the sink, how often the sink had failed before, 1 if the sink recorded its bytes, and the
+-- number of bytes that it started with. The sink's bytes follow: those that it started with, and those that it was
+-- given.
 pub record Sent (name : ℕ) (has_failed : Bool) (state : SinkState) (given : List ℕ) : Type 0 where
   pub failures : ℕ
   pub is_reported : ℕ

@@ -1,4 +1,4 @@
-//! The line of a data message: in notation, straight from the octets of its text, or with its text in hexadecimal.
+//! The line of a data message: in notation, directly from the bytes of its text, or with its text in hexadecimal.
 
 ghost use Rattle.std.specs.Prelude.{◌≡◌, ◌≤◌, ◌++◌, [], ◌∷◌, List, ℕ, codes, decimal, if◌then◌else◌};
 ghost use Rattle.hex.specs.Hex.{encode_lower};
@@ -9,7 +9,7 @@ use crate::line_parts::{give_decimal, give_front, give_hexadecimal};
 use hsms_frame::Header;
 use secs_text::{Block, Head, Output, print_text};
 
-/// Gives an output the line of a data message. Its text is readable where its lists are nested at most `depth` deep.
+/// Appends the line of a data message. Its text is readable if its lists are nested at most `depth` levels deep.
 #[inline(never)]
 pub fn give_data<O: Output>(out: &mut O, block: &mut Block, header: Header, text: &[u8], depth: u8)
     requires { depth ≤ 100 }
@@ -31,7 +31,8 @@ pub fn give_data<O: Output>(out: &mut O, block: &mut Block, header: Header, text
     }
 }
 
-// The rest of the line of a message whose text isn't readable: stream, function and W, and the text in hexadecimal.
+// Appends the rest of the line of a message whose text is not readable: stream, function and W, and the text in
+// hexadecimal.
 fn give_unreadable<O: Output>(out: &mut O, block: &mut Block, head: Head, text: &[u8])
     ensures { AppendsBytes (O.Given out.old) block.old (O.Given out.new) block.new
         (codes "S" ++ decimal head.stream ++ codes "F" ++ decimal head.function
@@ -43,7 +44,7 @@ fn give_unreadable<O: Output>(out: &mut O, block: &mut Block, head: Head, text: 
     block.append_chunk(out, b"\n");
 }
 
-// Stream and function, and the W bit if it is set.
+// Appends stream and function, and the W bit if it is set.
 fn give_name<O: Output>(out: &mut O, block: &mut Block, head: Head)
     ensures { AppendsBytes (O.Given out.old) block.old (O.Given out.new) block.new
         (codes "S" ++ decimal head.stream ++ codes "F" ++ decimal head.function

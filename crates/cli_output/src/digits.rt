@@ -1,4 +1,4 @@
-//! Session ID and system bytes in hexadecimal, as they stand in a line.
+//! Session ID and system bytes in hexadecimal, as in a line.
 
 ghost use Rattle.std.specs.Prelude.{◌≡◌, ◌++◌, [], ◌∷◌};
 ghost use Rattle.hex.specs.Hex.{encode_lower};
@@ -6,7 +6,7 @@ ghost use Rattle.cli_output.specs.Line.{address_of};
 
 use hsms_frame::Header;
 
-// The two digits of each octet.
+// The two digits of each byte.
 static DIGITS: [[u8; 2]; 256] = [
     *b"00", *b"01", *b"02", *b"03", *b"04", *b"05", *b"06", *b"07", *b"08", *b"09", *b"0a", *b"0b",
     *b"0c", *b"0d", *b"0e", *b"0f", *b"10", *b"11", *b"12", *b"13", *b"14", *b"15", *b"16", *b"17",
@@ -32,7 +32,7 @@ static DIGITS: [[u8; 2]; 256] = [
     *b"fc", *b"fd", *b"fe", *b"ff",
 ];
 
-// The two digits of an octet.
+// Returns the two digits of a byte.
 #[inline(always)]
 fn digits(octet: u8) -> [u8; 2]
     ensures { result ≡ encode_lower (octet ∷ []) }
@@ -40,7 +40,7 @@ fn digits(octet: u8) -> [u8; 2]
     DIGITS[usize::from(octet)]
 }
 
-/// Session ID and system bytes, each after a space.
+/// Returns session ID and system bytes, each after a space.
 #[inline(always)]
 pub fn address(header: Header) -> [u8; 14]
     ensures { result ≡ address_of header }
@@ -56,7 +56,7 @@ pub fn address(header: Header) -> [u8; 14]
     [b' ', a, b, c, d, b' ', e, f, g, h, i, j, k, l]
 }
 
-/// Session ID and system bytes, each after a space, and the end of a line.
+/// Returns session ID and system bytes, each after a space, and the end of the line.
 #[inline(always)]
 pub fn address_and_end(header: Header) -> [u8; 15]
     ensures { result ≡ address_of header ++ 10 ∷ [] }

@@ -1,7 +1,7 @@
-//! The lines that the command writes, and what holds them on their way: the line of a message, and that of a verdict.
+//! The lines that the command writes, and the buffer before the writer: the line of a message, and that of a verdict.
 //!
-//! [`append_line`] lays the line of a message behind those that are held, [`append_hex_line`] that of its octets, [`put_out`]
-//! writes what is held, and [`put`] writes at once:
+//! [`append_line`] appends the line of a message to the buffered lines, and [`append_hex_line`] the line of its bytes.
+//! [`put_out`] writes the buffered lines, and [`put`] writes at once:
 //!
 //! ```
 //! append_line(&mut sink, &mut held, header, text, 100)?;

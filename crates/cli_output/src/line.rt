@@ -10,8 +10,8 @@ use crate::line_parts::{give_front, give_number, give_text};
 use hsms_frame::{Header, Kind, kind};
 use secs_text::{Block, Output};
 
-/// Lays the line of a message, with its end, behind what a block holds. Where there is no room, the output is given
-/// what the block holds first. A text is readable where its lists are nested at most `depth` deep.
+/// Appends the line of a message, with its end, to the block. If the block has no space, its content goes to the output
+/// first. A text is readable if its lists are nested at most `depth` levels deep.
 #[inline(always)]
 pub fn give_line<O: Output>(out: &mut O, block: &mut Block, header: Header, text: &[u8], depth: u8)
     requires { depth ≤ 100 }
@@ -31,7 +31,8 @@ pub fn give_line<O: Output>(out: &mut O, block: &mut Block, header: Header, text
     }
 }
 
-// The line of a message that has only a name, session ID and system bytes. Where it has no text, it is laid at once.
+// Appends the line of a message with only a name, session ID and system bytes. A line without a text is appended in one
+// step.
 #[inline(always)]
 fn give_bare<O: Output>(out: &mut O, block: &mut Block, name: &[u8], header: Header, text: &[u8])
     requires { length name.now ≤ 12 }
@@ -46,8 +47,8 @@ fn give_bare<O: Output>(out: &mut O, block: &mut Block, name: &[u8], header: Hea
     }
 }
 
-// A name of at most twelve octets, session ID and system bytes, and the end of the line. What stands behind them doesn't
-// count.
+// Returns a name of at most twelve bytes, session ID and system bytes, and the end of the line. The bytes after them do
+// not count.
 #[inline(always)]
 fn bare_line(name: &[u8], header: Header) -> [u8; 27]
     requires { length name.now ≤ 12 }
@@ -60,7 +61,8 @@ fn bare_line(name: &[u8], header: Header) -> [u8; 27]
     line
 }
 
-// The same with a text. `address` is session ID and system bytes, as they stand in a line.
+// Appends the line of a message with only a name, session ID, system bytes and a text. `address` is session ID and
+// system bytes, as in a line.
 #[inline(never)]
 fn give_bare_and_text<O: Output>(
     out: &mut O,
@@ -78,7 +80,7 @@ fn give_bare_and_text<O: Output>(
     block.append_chunk(out, b"\n");
 }
 
-// The line of a message that has a number besides.
+// Appends the line of a message that also has a number.
 #[inline(never)]
 fn give_counted<O: Output>(
     out: &mut O,
@@ -97,7 +99,7 @@ fn give_counted<O: Output>(
     block.append_chunk(out, b"\n");
 }
 
-// The line of a Reject.req, with what was rejected, and why.
+// Appends the line of a Reject.req, with what was rejected, and why.
 #[inline(never)]
 fn give_reject<O: Output>(out: &mut O, block: &mut Block, header: Header, text: &[u8])
     ensures { AppendsBytes (O.Given out.old) block.old (O.Given out.new) block.new

@@ -1,4 +1,4 @@
-//! The lines that are held in a block on their way to a sink.
+//! The buffer of lines before a sink.
 
 ghost use Rattle.std.specs.Prelude.{◌≡◌, ◌≤◌, ◌<◌, ◌++◌, [], false, length, IfErr, OnOk, OnErr};
 ghost use Rattle.hsms_frame.specs.CallCounts.{count_failure};
@@ -13,7 +13,7 @@ use cli_options::ToolFault;
 use hsms_frame::{Header, Sink, give_all};
 use secs_text::{Block, Output};
 
-/// An output to a sink. After a failed write nothing is written any more.
+/// An output to a sink. After a failed write it writes nothing more.
 #[derive(Drop)]
 struct ToSink<'a, W> {
     sink: &'a mut W,
@@ -32,8 +32,8 @@ impl<W: Sink> Output for ToSink<'_, W> {
     }
 }
 
-/// Lays the line of a message, with its end, behind what is held. What is held is written first where there is no room.
-/// A text is readable where its lists are nested at most `depth` deep.
+/// Appends the line of a message, with its end, to the buffer. If the buffer has no space, its content is written
+/// first. A text is readable if its lists are nested at most `depth` levels deep.
 #[inline(always)]
 pub fn append_line<W: Sink>(
     sink: &mut W,
@@ -55,7 +55,7 @@ pub fn append_line<W: Sink>(
     give_to_sink(&mut out, held, header, text, depth)
 }
 
-// Gives the line of a message to an output to a sink that hasn't failed.
+// Appends the line of a message to an output whose sink has not failed.
 #[inline(always)]
 fn give_to_sink<W: Sink>(
     out: &mut ToSink<'_, W>,
@@ -79,8 +79,8 @@ fn give_to_sink<W: Sink>(
     Ok(())
 }
 
-/// Lays the octets of a message as a line of hexadecimal, with its end, behind what is held: the fourteen before its
-/// text, and the text. What is held is written first where there is no room.
+/// Appends the bytes of a message as a line of hexadecimal, with its end, to the buffer: the fourteen bytes before its
+/// text, and the text. If the buffer has no space, its content is written first.
 #[inline(always)]
 pub fn append_hex_line<W: Sink>(
     sink: &mut W,
@@ -100,7 +100,7 @@ pub fn append_hex_line<W: Sink>(
     give_hex_to_sink(&mut out, held, front, text)
 }
 
-// Gives the line of a message's octets to an output to a sink that hasn't failed.
+// Appends the line of a message's bytes to an output whose sink has not failed.
 #[inline(always)]
 fn give_hex_to_sink<W: Sink>(
     out: &mut ToSink<'_, W>,
@@ -122,7 +122,7 @@ fn give_hex_to_sink<W: Sink>(
     Ok(())
 }
 
-/// Writes what is held.
+/// Writes the buffered bytes.
 pub fn put_out<W: Sink>(sink: &mut W, held: &mut Block) -> Result<(), ToolFault>
     ensures ok { OnOk result (Grows (W.state sink.old).written (W.state sink.new).written held.old) }
     ensures none { OnOk result (held.new ≡ []) }
@@ -139,7 +139,7 @@ pub fn put_out<W: Sink>(sink: &mut W, held: &mut Block) -> Result<(), ToolFault>
     Ok(())
 }
 
-/// Writes all octets.
+/// Writes all bytes.
 #[inline(always)]
 pub fn put<W: Sink>(sink: &mut W, octets: &[u8]) -> Result<(), ToolFault>
     ensures ok { OnOk result (Grows (W.state sink.old).written (W.state sink.new).written octets.now) }

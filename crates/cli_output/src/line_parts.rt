@@ -1,4 +1,4 @@
-//! The parts of a line, given to an output one after another.
+//! The parts of a line, appended to an output one after another.
 
 ghost use Rattle.std.specs.Prelude.{◌≡◌, ◌<◌, ◌++◌, codes, decimal, length};
 ghost use Rattle.hex.specs.Hex.{encode_lower};
@@ -11,7 +11,7 @@ use hsms_log::{digits_of_few, digits_of_sixteen};
 use itoa::Buffer;
 use secs_text::{Block, Output};
 
-/// What a line begins with: a name, session ID and system bytes.
+/// Appends the start of a line: a name, session ID and system bytes.
 #[inline(always)]
 pub fn give_front<O: Output>(out: &mut O, block: &mut Block, name: &[u8], header: Header)
     ensures { AppendsBytes (O.Given out.old) block.old (O.Given out.new) block.new (name.now ++ address_of header) }
@@ -20,7 +20,7 @@ pub fn give_front<O: Output>(out: &mut O, block: &mut Block, name: &[u8], header
     block.append_chunk(out, &address(header));
 }
 
-/// A number below 256 in decimal.
+/// Appends a number below 256 in decimal.
 pub fn give_decimal<O: Output>(out: &mut O, block: &mut Block, number: u8)
     ensures { AppendsBytes (O.Given out.old) block.old (O.Given out.new) block.new (decimal number) }
 {
@@ -28,7 +28,7 @@ pub fn give_decimal<O: Output>(out: &mut O, block: &mut Block, number: u8)
     block.append_chunk(out, buffer.format(number).as_bytes());
 }
 
-/// A number below 256 in decimal, after a space.
+/// Appends a space and a number below 256 in decimal.
 pub fn give_number<O: Output>(out: &mut O, block: &mut Block, number: u8)
     ensures { AppendsBytes (O.Given out.old) block.old (O.Given out.new) block.new (codes " " ++ decimal number) }
 {
@@ -36,7 +36,7 @@ pub fn give_number<O: Output>(out: &mut O, block: &mut Block, number: u8)
     give_decimal(out, block, number);
 }
 
-/// The text of a message that isn't data, if it has one.
+/// Appends the text of a message that is not a data message, if it has one.
 pub fn give_text<O: Output>(out: &mut O, block: &mut Block, text: &[u8])
     ensures { AppendsBytes (O.Given out.old) block.old (O.Given out.new) block.new (text_of text.now) }
 {
@@ -46,7 +46,7 @@ pub fn give_text<O: Output>(out: &mut O, block: &mut Block, text: &[u8])
     }
 }
 
-/// Octets in hexadecimal.
+/// Appends bytes in hexadecimal.
 pub fn give_hexadecimal<O: Output>(out: &mut O, block: &mut Block, octets: &[u8])
     ensures { AppendsBytes (O.Given out.old) block.old (O.Given out.new) block.new (encode_lower octets.now) }
 {
@@ -58,7 +58,7 @@ pub fn give_hexadecimal<O: Output>(out: &mut O, block: &mut Block, octets: &[u8]
     give_few(out, block, rest);
 }
 
-// Fewer than sixteen octets in hexadecimal.
+// Appends fewer than sixteen bytes in hexadecimal.
 fn give_few<O: Output>(out: &mut O, block: &mut Block, octets: &[u8])
     requires { length octets.now < 16 }
     ensures { AppendsBytes (O.Given out.old) block.old (O.Given out.new) block.new (encode_lower octets.now) }
@@ -67,7 +67,7 @@ fn give_few<O: Output>(out: &mut O, block: &mut Block, octets: &[u8])
     block.append_chunk(out, &digits[..2 * octets.len()]);
 }
 
-/// The line of a message's octets: the fourteen before its text, and the text.
+/// Appends the line of a message's bytes: the fourteen bytes before its text, and the text.
 #[inline(always)]
 pub fn give_hex_line<O: Output>(out: &mut O, block: &mut Block, front: &[u8; 14], text: &[u8])
     ensures { AppendsBytes (O.Given out.old) block.old (O.Given out.new) block.new (hex_line (front.now ++ text.now)) }
@@ -78,7 +78,7 @@ pub fn give_hex_line<O: Output>(out: &mut O, block: &mut Block, front: &[u8; 14]
     block.append_chunk(out, b"\n");
 }
 
-// Octets in hexadecimal, if there are any.
+// Appends bytes in hexadecimal, if there are any.
 #[inline(always)]
 fn give_some<O: Output>(out: &mut O, block: &mut Block, octets: &[u8])
     ensures { AppendsBytes (O.Given out.old) block.old (O.Given out.new) block.new (encode_lower octets.now) }

@@ -1,4 +1,4 @@
-//! The line that tells a verdict.
+//! The line of a verdict.
 
 ghost use Rattle.std.specs.Prelude.{◌≡◌, ◌++◌, [], ◌∷◌, IfOk, string_bytes};
 ghost use Rattle.cli_output.specs.Verdict.{pass_words_of, verdict_line_of};
@@ -6,7 +6,7 @@ ghost use Rattle.cli_output.specs.Verdict.{pass_words_of, verdict_line_of};
 use hsms_log::{Summary, Verdict, Why};
 use std::alloc::{AllocError, Global};
 
-/// The line of a verdict, with its end.
+/// Returns the line of a verdict, with its end.
 pub fn verdict_line(alloc: Global, verdict: Verdict) -> Result<String, AllocError>
     ensures { IfOk result (λ line. string_bytes line ≡ verdict_line_of verdict) }
 {

@@ -1,4 +1,4 @@
--- What a link over a socket tells of its calls: how often it was answered and failed, and not the octets.
+-- What a link over a socket records of its calls: how often they returned and failed, but not the bytes.
 use Rattle.std.specs.Prelude.{None}
 use Rattle.hsms_ends.specs.Link.{LinkState}
 use Rattle.cli_serve.specs.declared.call_counts.Counters.{Counters}

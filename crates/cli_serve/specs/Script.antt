@@ -11,32 +11,32 @@ use Rattle.cli_options.specs.declared.fault.ToolFault.TheVariants.{Refused, Devi
 use Rattle.cli_filters.specs.Encode.{ParsesMessages, TakesAtMost, input_limit, text_fault_text}
 use Rattle.cli_serve.specs.declared.script.Script.{Script}
 
--- where the desk is to answer, a message with an even function is a reply (SEMI E5, function)
+-- True if a message is a reply: the handler replies, and the function is even (SEMI E5, function).
 abbrev pub is_reply : Bool → Message → Bool
 is_reply answer message = answer && ((content message).function % 2 == 0)
 
--- the replies, as they stand
+-- The replies, in order.
 abbrev pub replies_of : Bool → List Message → List Message
 replies_of answer messages = filter (is_reply answer) messages
 
--- every other message is sent; where the script is to be sent, the session is separated then
+-- Every other message is sent. If the script is sent, the session is separated then.
 abbrev pub steps_of : Bool → Bool → List Message → List Step
 steps_of send answer messages =
     map (λ m. Send m) (filter (λ m. not (is_reply answer m)) messages) ++ (if send then Separate ∷ [] else [])
 
--- the input is the notation of messages, and the script has their replies and steps
+-- Holds if the input is the notation of messages, and the script has their replies and steps.
 abbrev pub IsScript : ℕ → Bool → Bool → Script → List ℕ → Type 0
 IsScript depth send answer script input =
     (messages : List Message) × ParsesMessages depth input (contents messages)
     × (script.replies.items ≡ replies_of answer messages) × (script.steps.items ≡ steps_of send answer messages)
 
--- why an input is no script, in words: it is too long; it isn't messages
+-- The text for why an input is not a script: it is too long, or it is not messages.
 abbrev pub IsRefusedScript : ℕ → List ℕ → List ℕ → Type 0
 IsRefusedScript depth input words =
     ((input_limit < length input) × (words ≡ codes "Input"))
     ⊎ ((fault : TextFault) × (length input ≤ input_limit) × NotesFault input depth fault × (words ≡ text_fault_text fault))
 
--- why no script was read, with what is left of the input
+-- Why no script was read, with what is left of the input.
 abbrev pub IsNoScript : ℕ → List ℕ → ToolFault → Option (List ℕ) → Type 0
 IsNoScript depth input (Refused words) left = IsRefusedScript depth input (string_bytes words)
 IsNoScript depth input (Device word) left = (word.now ≡ codes "Read") × TakesAtMost input_limit input left

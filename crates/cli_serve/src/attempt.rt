@@ -3,16 +3,16 @@
 use std::io;
 use std::io::ErrorKind;
 
-/// Why there is no connection, as the system says.
+/// Why there is no connection, according to the system.
 #[derive(Clone, Copy, Debug, PartialEq, Eq)]
 pub enum ConnectError {
-    /// No file descriptor is left, for the process or on the machine.
+    /// The process or the machine has no free file descriptor.
     NoDescriptor,
     /// Any other error.
     System(ErrorKind),
 }
 
-// The system's numbers for that (errno(3)): EMFILE and ENFILE.
+// The system's error numbers for that (errno(3)): EMFILE and ENFILE.
 const TOO_MANY_OF_PROCESS: i32 = 24;
 
 const TOO_MANY_OF_SYSTEM: i32 = 23;
@@ -26,8 +26,8 @@ impl From<io::Error> for ConnectError {
     }
 }
 
-/// What hears of each attempt to connect that fails and is made again.
+/// A receiver of each attempt to connect that fails and is repeated.
 pub trait Attempts {
-    /// An attempt failed. The next one follows after T5.
+    /// Records a failed attempt. An active end makes the next one after T5.
     fn failed(&mut self, error: ConnectError);
 }

@@ -1,4 +1,4 @@
-//! The counts that a link keeps of its calls.
+//! The counts of a link's calls.
 
 ghost use Rattle.std.specs.Prelude.{Err, []};
 ghost use Rattle.hsms_ends.specs.Link.{IsGot, Waits};
@@ -6,8 +6,8 @@ ghost use Rattle.cli_serve.specs.CallCounts.{recorded_of};
 
 use hsms_ends::{Got, LinkFault};
 
-/// How many waits were answered, how many of them by `Closed`, and whether the last one so; how often the link failed.
-/// The counts stay at their greatest value.
+/// The number of waits that returned, the number of them that returned `Closed`, whether the last one did, and the
+/// number of failures of the link. The counts saturate.
 #[derive(Clone, Copy, Debug, Default)]
 pub struct Counters {
     pub waits: u64,
@@ -17,7 +17,7 @@ pub struct Counters {
 }
 
 impl Counters {
-    /// Counts a wait that is answered.
+    /// Counts a wait that returns.
     pub fn reception(&mut self, got: Got, into: &[u8]) -> Result<Got, LinkFault>
         requires { IsGot into.now got }
         ensures { Waits (recorded_of self.old) (recorded_of self.new) into.now result }
@@ -30,7 +30,7 @@ impl Counters {
         Ok(got)
     }
 
-    /// Counts a wait that fails, or a send, which leaves the same.
+    /// Counts a wait that fails. A failed send counts as a failed wait.
     pub fn failed(&mut self) -> LinkFault
         ensures { Waits (recorded_of self.old) (recorded_of self.new) [] (Err result) }
     {

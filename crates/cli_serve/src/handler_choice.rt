@@ -1,4 +1,4 @@
-//! The desk of the end that is served.
+//! The message handler of the served end.
 
 ghost use Rattle.std.specs.Prelude.{IfOk};
 ghost use Rattle.cli_serve.specs.Serving.{IsHandlerOf};
@@ -9,7 +9,7 @@ use hsms_machine::Role;
 use secs_text::Message;
 use std::alloc::{AllocError, Global};
 
-/// A host's desk, or that of equipment, with the replies of a script.
+/// A host's or equipment's message handler, with the replies of a script.
 #[derive(Debug, Drop)]
 pub enum ChosenHandler {
     Host(ScriptedDesk<HostDesk>),
@@ -34,7 +34,8 @@ impl TurnDesk for ChosenHandler {
     }
 }
 
-/// The desk of a service with these replies: a host's, or that of equipment with its model and software revision.
+/// Returns the message handler of a service with these replies: a host's, or equipment's with its model and software
+/// revision.
 pub fn desk_of(
     alloc: Global,
     service: &Service<'_>,

@@ -1,8 +1,8 @@
-//! What `hsms serve` asks for: the script and the desk of the end that is served, its connections as links, and how what
-//! came of it is told.
+//! The parts of `hsms serve`: the script and the message handler of the served end, its connections as links, and the
+//! result of the command.
 //!
-//! [`serve_to`] and [`serve_again_to`] serve any link. [`connected`] makes one of TCP connections, with a clock, and
-//! [`Lines`] puts each line of a log out as a whole.
+//! [`serve_to`] and [`serve_again_to`] serve any link. [`connected`] returns a link over TCP connections, with a clock,
+//! and [`Lines`] writes each line of a log in one piece.
 #![tactic(auto)]
 
 mod attempt;
@@ -21,3 +21,6 @@ pub use line_writer::Lines;
 pub use script::{Script, read_script};
 pub use serving::{again_result, serve_again_to, serve_result, serve_to, tool_fault_of};
 pub use tcp_link::{SocketLink, connected, unconnected};
+
+#[cfg(test)]
+mod tests;

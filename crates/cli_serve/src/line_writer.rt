@@ -1,12 +1,12 @@
-//! Lines that go out whole.
+//! A writer of complete lines.
 
 use std::alloc::{AllocError, Global};
 use std::io;
 use std::io::{ErrorKind, Write};
 
-/// Holds octets back until a slice of them ends with LF, and then hands all of them to a writer as one slice: to standard
-/// output in one call of the system, where that takes them. Each error of the writer is one at once, without a second
-/// try: also one that says that a signal came.
+/// Buffers bytes until a slice of them ends with LF, and then passes all of them to a writer as one slice. Standard
+/// output gets them in one system call, if the system accepts that. Each error of the writer is returned at once,
+/// without a retry, also if a signal caused it.
 #[derive(Drop)]
 pub struct Lines<W: Write + Drop> {
     output: W,
@@ -14,7 +14,7 @@ pub struct Lines<W: Write + Drop> {
 }
 
 impl<W: Write + Drop> Lines<W> {
-    /// Lines for a writer, with room for one of so many octets. A longer one takes memory.
+    /// Creates a buffer for a writer, with capacity for a line of `room` bytes. A longer line allocates.
     pub fn with_capacity(alloc: Global, room: usize, output: W) -> Result<Lines<W>, AllocError> {
         let held = Vec::with_capacity(alloc, room)?;
         Ok(Lines { output, held })
@@ -31,13 +31,13 @@ impl<W: Write + Drop> Write for Lines<W> {
         Ok(octets.len())
     }
 
-    // A line that hasn't ended stays held back.
+    // A line that has not ended stays buffered.
     fn flush(&mut self) -> io::Result<()> {
         self.output.flush()
     }
 }
 
-// Writes all octets, in as many writes as that takes. Each write takes one at least.
+// Writes all bytes, in as many writes as necessary. Each write accepts at least one byte.
 fn write_whole<W: Write>(output: &mut W, octets: &[u8]) -> io::Result<()> {
     let mut left = octets;
     for _ in 0..octets.len() {

@@ -14,24 +14,24 @@ use hsms_frame::Source;
 use secs_text::Message;
 use std::alloc::{AllocError, Global};
 
-/// What a script asks for.
+/// The content of a script.
 #[derive(Debug, Drop)]
 pub struct Script {
-    /// What the end is told, one after the other.
+    /// The steps of the end, one after another.
     pub steps: Vec<Step>,
-    /// What its desk replies by.
+    /// The replies of its message handler.
     pub replies: Vec<Message>,
 }
 
-/// Reads the whole input as messages in notation, for a service. Where that is to answer, those with an even function are
-/// replies (SEMI E5, function). The others are steps, each of which is sent; where it is to send, the session is separated
-/// then (SEMI E37, section 7).
+/// Reads the complete input as messages in notation, for a service. With `--answer`, those with an even function are
+/// replies (SEMI E5, function). The others are steps, each of which is sent. With `--send`, the session is separated
+/// after them (SEMI E37, section 7).
 ///
 /// # Errors
 ///
-/// - `Refused`: the input has more than 67,108,864 octets (`Input`), or isn't messages within the depth of the service's
-///   settings (`Syntax`, `Number`, `Count`, `Deep`).
-/// - `Device`: `Read`, where a read failed in this call, and at most 67,108,864 octets were taken before it.
+/// - `Refused`: the input has more than 67,108,864 bytes (`Input`), or is not messages within the depth of the
+///   service's settings (`Syntax`, `Number`, `Count`, `Deep`).
+/// - `Device`: `Read`, if a read failed in this call, and at most 67,108,864 bytes were consumed before it.
 /// - `Memory`.
 pub fn read_script<R: Source>(
     alloc: Global,
@@ -53,7 +53,7 @@ pub fn read_script<R: Source>(
     Ok(Script { steps, replies })
 }
 
-// The replies among messages, and the others.
+// Returns the replies among the messages, and the others.
 fn parted(
     alloc: Global,
     messages: Vec<Message>,
@@ -67,7 +67,7 @@ fn parted(
         .partition(alloc, |message| answer && message.function() % 2 == 0)
 }
 
-// Each message is sent, and then the session is separated where it is to be.
+// Returns a step that sends each message, and a Separate after them if `send` is set.
 fn steps_of(alloc: Global, messages: Vec<Message>, send: bool) -> Result<Vec<Step>, AllocError>
     ensures { IfOk result (λ steps. steps.items ≡ map (λ m. Send m) messages.items ++ (if send then Separate ∷ [] else [])) }
 {

@@ -13,7 +13,7 @@ use hsms_ends::{
 use hsms_frame::Sink;
 use std::alloc::Global;
 
-/// Serves a connection as a service asks, and writes its log.
+/// Serves a connection as a service requests, and writes its log.
 ///
 /// # Errors
 ///
@@ -22,7 +22,7 @@ use std::alloc::Global;
 /// - `Turns`: all turns are used, and the connection is still up.
 /// - `Memory`.
 ///
-/// What the log holds passes the audit, but for a part of a line after `Log`.
+/// The log passes the audit, except for a part of a line after `Log`.
 pub fn serve_to<L: Link, W: Sink>(
     alloc: Global,
     link: &mut L,
@@ -47,20 +47,20 @@ pub fn serve_to<L: Link, W: Sink>(
     )
 }
 
-// After how many milliseconds of quiet the link is tested, if it is.
+// Returns the idle time in milliseconds after which the link is tested, if it is tested.
 fn pause_of(linktest: u32) -> Option<u64>
     ensures { result ≡ pause_for linktest }
 {
     (linktest != 0).then_some(u64::from(linktest))
 }
 
-/// Serves connection after connection as a service asks, and writes one log of them.
+/// Serves connection after connection as a service requests, and writes one log of them.
 ///
 /// # Errors
 ///
-/// `Log`, `Turns` and `Memory`, as those of a connection. A link that failed is followed by the next connection.
+/// Returns `Log`, `Turns` and `Memory`, as for one connection. After a failed link the next connection follows.
 ///
-/// What the log holds passes the audit, but for a part of a line after `Log`.
+/// The log passes the audit, except for a part of a line after `Log`.
 pub fn serve_again_to<L: Again, W: Sink>(
     alloc: Global,
     link: &mut L,
@@ -89,15 +89,15 @@ pub fn serve_again_to<L: Again, W: Sink>(
     )
 }
 
-// The script of each connection but the first.
+// Returns the script of each connection except the first.
 fn later_steps<'a>(script: &'a [Step], once: bool) -> &'a [Step]
     ensures { result.now ≡ (if once then [] else script.now) }
 {
     if once { &script[..0] } else { script }
 }
 
-/// What came of serving connections one after the other, as the command tells it, and why no further one was had, if
-/// one is wanting. Where all is to be sent, it is well only where each connection was complete.
+/// Converts the result of `serve_again` to the result of the command. `wanting` is why there is no further connection,
+/// if one was expected. With `all_sent` the result is true only if each connection was complete.
 pub fn again_result(
     all_sent: bool,
     served: Result<ServedAgain, ServeFault>,
@@ -112,8 +112,8 @@ pub fn again_result(
     }
 }
 
-/// What came of serving, as the command tells it: `Device` with the name of a fault, but for `Memory`. Where all is to be
-/// sent, it is well only where each step of the script was taken, and none refused.
+/// Converts the result of serving to the result of the command. An error is `Device` with its name, or `Memory`. With
+/// `all_sent` the result is true only if each step of the script was sent, and none refused.
 pub fn serve_result(
     all_sent: bool,
     served: Result<ServedScript, ServeFault>,
@@ -126,7 +126,7 @@ pub fn serve_result(
     }
 }
 
-/// A fault of serving, as the command tells it.
+/// Converts an error of serving to an error of the command.
 pub fn tool_fault_of(fault: ServeFault) -> ToolFault
     ensures { ReturnsServeFault fault result }
 {

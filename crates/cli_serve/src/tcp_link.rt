@@ -1,4 +1,4 @@
-//! TCP connections, one after the other, as a link.
+//! TCP connections, one after another, as a link.
 
 ghost use Rattle.std.specs.Prelude.{◌≡◌};
 ghost use Rattle.cli_serve.specs.CallCounts.{recorded_of};
@@ -15,27 +15,27 @@ use std::net::{Net, OpenListener, OpenStream, TcpListener, TcpStream};
 use std::thread::sleep;
 use std::time::{Clock, Duration};
 
-/// TCP connections, one after the other, with one clock and the counts of all their calls.
+/// TCP connections, one after another, with one clock and the counts of all their calls.
 #[derive(Drop)]
 pub struct SocketLink<'a, 's, R: Clock + Net, A: Attempts + Drop> {
     rt: &'a R,
     service: &'a Service<'s>,
     attempts: A,
-    // Where further connections are listened for.
+    // The listener for further connections.
     listener: Option<R::Listener>,
     wire: Wire<'a, R, R::Stream>,
     counters: Counters,
-    // How often the link had failed when the connection was made.
+    // The number of failures of the link when the connection was made.
     failures: u64,
-    // Whether the connection is the first one, which no end was served with yet.
+    // True if the connection is the first one, and no end was served with it yet.
     is_new: bool,
     // Why there is no further connection.
     fault: Option<ConnectError>,
 }
 
 impl<'a, 's, R: Clock + Net, A: Attempts + Drop> SocketLink<'a, 's, R, A> {
-    /// What served the connections has ended: the last one is closed, and the answer is why there is no further one,
-    /// where one was asked for.
+    /// Closes the last connection, after the service has ended. Returns why there is no further connection, if one was
+    /// requested.
     pub fn end(mut self) -> Option<ConnectError> {
         if self.fault.is_none() {
             self.hang_up();
@@ -43,7 +43,7 @@ impl<'a, 's, R: Clock + Net, A: Attempts + Drop> SocketLink<'a, 's, R, A> {
         self.fault
     }
 
-    // Closes the connection once the peer has closed it too, or T8 is over; at once where the link failed.
+    // Closes the connection once the peer has closed it too, or T8 expires. Closes it at once if the link failed.
     fn hang_up(&mut self)
         ensures { recorded_of self.new.counters ≡ recorded_of self.old.counters }
     {
@@ -80,8 +80,8 @@ impl<'a, 's, R: Clock + Net, A: Attempts + Drop> Link for SocketLink<'a, 's, R, 
     }
 }
 
-/// A connection that is over is closed before the next one is waited for. A passive end listens on. An active one connects
-/// again after T5, and between attempts that fail.
+/// Closes the ended connection before it waits for the next one. A passive end continues to listen. An active one
+/// connects again after T5, and waits T5 between failed attempts.
 impl<'a, 's, R: Clock + Net, A: Attempts + Drop> Again for SocketLink<'a, 's, R, A> {
     fn again(&mut self) -> bool {
         if self.is_new {
@@ -101,13 +101,14 @@ impl<'a, 's, R: Clock + Net, A: Attempts + Drop> Again for SocketLink<'a, 's, R,
     }
 }
 
-/// The connection of a service, or the first one of a service that goes on after it: one that is made, or the first
-/// that is listened for.
+/// Returns the connection of a service, or the first one of a service that continues after it. An active end makes it,
+/// and a passive end accepts it.
 ///
 /// # Errors
 ///
-/// What the system says, where there is none. A service that goes on tries again: an active end wherever memory isn't
-/// wanting, and a passive one where the peer gave the connection up or a signal came. `attempts` hears of each that fails.
+/// Returns the system's error if there is no connection. A service that continues tries again: an active end unless an
+/// allocation failed, and a passive one if the peer gave up the connection or a signal came. `attempts` receives each
+/// failed attempt.
 pub fn connected<'a, 's, R: Clock + Net, A: Attempts + Drop>(
     rt: &'a R,
     service: &'a Service<'s>,
@@ -117,7 +118,7 @@ pub fn connected<'a, 's, R: Clock + Net, A: Attempts + Drop>(
     first_link(rt, service, listener, attempts)
 }
 
-// Where a passive end listens.
+// Returns the listener of a passive end.
 pub(crate) fn listener_of<R: Net>(
     rt: &R,
     service: &Service<'_>,
@@ -131,7 +132,7 @@ pub(crate) fn listener_of<R: Net>(
     }
 }
 
-// The first connection of a service. One that doesn't go on after it listens no longer then.
+// Returns the first connection of a service. If the service ends after it, it no longer listens then.
 pub(crate) fn first_link<'a, 's, R: Clock + Net, A: Attempts + Drop>(
     rt: &'a R,
     service: &'a Service<'s>,
@@ -158,7 +159,7 @@ pub(crate) fn first_link<'a, 's, R: Clock + Net, A: Attempts + Drop>(
     })
 }
 
-/// The fault where there is no connection: `Link`, or `Memory` where that is wanting for it.
+/// Returns the error if there is no connection: `Link`, or `Memory` if an allocation failed.
 pub fn unconnected(error: ConnectError) -> ServeFault {
     if is_memory(error) {
         ServeFault::Memory
@@ -167,12 +168,12 @@ pub fn unconnected(error: ConnectError) -> ServeFault {
     }
 }
 
-// Whether memory is wanting for a connection.
+// Returns true if an allocation failed for a connection.
 fn is_memory(error: ConnectError) -> bool {
     error == ConnectError::System(ErrorKind::OutOfMemory)
 }
 
-// The next connection of a service that goes on.
+// Returns the next connection of a service that continues.
 fn next_stream<R: Clock + Net, A: Attempts>(
     rt: &R,
     service: &Service<'_>,
@@ -193,7 +194,7 @@ fn next_stream<R: Clock + Net, A: Attempts>(
     Err(ConnectError::System(ErrorKind::TimedOut))
 }
 
-// Whether the next connection may be had, though one wasn't.
+// Returns true if the next connection may succeed, although one failed.
 fn is_passing(error: ConnectError, service: &Service<'_>) -> bool {
     match service.settings.link() {
         Side::Active => !is_memory(error),
@@ -204,15 +205,15 @@ fn is_passing(error: ConnectError, service: &Service<'_>) -> bool {
     }
 }
 
-// Waits for T5 before an end connects. One that listens needn't wait.
+// Waits for T5 before an active end connects. A passive end does not wait.
 fn pause<R: Clock>(rt: &R, service: &Service<'_>) {
     if service.settings.link() == Side::Active {
         sleep(rt, Duration::from_millis(u64::from(service.repeat.t5)));
     }
 }
 
-// A connection: the next one that is listened for, or one that is made. A small message waits for no other one, and
-// octets that the peer doesn't take wait no longer than T8.
+// Returns a connection: the next one that is accepted, or one that is made. A small message does not wait for another
+// one, and bytes that the peer does not accept wait at most T8.
 fn stream_of<R: Net>(
     rt: &R,
     service: &Service<'_>,

@@ -1,4 +1,4 @@
-//! A TCP connection whose reads end at a moment, by a clock that begins when it is made.
+//! A TCP connection whose reads have a deadline, by a clock that starts when it is made.
 
 ghost use Rattle.std.specs.Prelude.{◌≤◌, IfOk, length};
 
@@ -8,30 +8,31 @@ use std::net::{OpenStream, Shutdown};
 use std::thread::sleep;
 use std::time::{Clock, Duration, Instant};
 
-// How many octets are let go at a time.
+// The number of bytes that are discarded at a time.
 const ROOM: usize = 4096;
 
-// The system may end a read late: by an eighth of its time, and by so many milliseconds, two ticks of at most 10 ms.
+// The system may end a read late: by an eighth of its time, and by this number of milliseconds, which is two ticks of
+// at most 10 ms.
 const LATE: u64 = 20;
 
-// How many milliseconds pass between two looks at what has come, where the system can't end a read in time.
+// The milliseconds between two checks of what has arrived, if the system cannot end a read in time.
 const PAUSE: u64 = 1;
 
-/// A TCP connection, and a clock that tells the milliseconds since the first one was made. Where the clock fails, it
-/// tells the last time again, and 0 at first.
+/// A TCP connection, and a clock that returns the milliseconds since the first connection was made. If the clock fails,
+/// it returns the last time again, and 0 at first.
 #[derive(Drop)]
 pub struct Wire<'a, C: Clock, S: Read + Write + OpenStream + Drop> {
     clock: &'a C,
-    // None once the connection is closed.
+    // `None` once the connection is closed.
     stream: Option<S>,
     began: Option<Instant>,
     last: u64,
-    // How many milliseconds a read waits at most, or for as long as it takes.
+    // The maximum time that a read waits, in milliseconds. `None` for no limit.
     limit: Option<u64>,
 }
 
 impl<'a, C: Clock, S: Read + Write + OpenStream + Drop> Wire<'a, C, S> {
-    /// A stream that was connected just now, whose reads wait for as long as it takes.
+    /// Creates a value for a stream that was connected just now. Its reads wait without a limit.
     pub fn new(clock: &'a C, stream: S) -> Wire<'a, C, S> {
         Wire {
             clock,
@@ -42,13 +43,13 @@ impl<'a, C: Clock, S: Read + Write + OpenStream + Drop> Wire<'a, C, S> {
         }
     }
 
-    /// Goes over to the next connection, which was made just now. The time goes on.
+    /// Switches to the next connection, which was made just now. The time continues.
     pub fn go_over(&mut self, stream: S) {
         self.stream = Some(stream);
         self.limit = None;
     }
 
-    /// The time since the first connection was made.
+    /// Returns the time since the first connection was made.
     pub fn time(&mut self) -> u64 {
         if let Some(began) = self.began {
             if let Ok(now) = Instant::now(self.clock) {
@@ -59,14 +60,14 @@ impl<'a, C: Clock, S: Read + Write + OpenStream + Drop> Wire<'a, C, S> {
         self.last
     }
 
-    /// Writes some octets, and says how many.
+    /// Writes some bytes, and returns how many.
     pub fn write(&mut self, octets: &[u8]) -> io::Result<usize>
         ensures { IfOk result (λ n. n ≤ length octets.now) }
     {
         self.open_stream()?.write(octets)
     }
 
-    // The stream, or a fault where the connection is closed.
+    // Returns the stream, or an error if the connection is closed.
     fn open_stream(&mut self) -> io::Result<&mut S> {
         match &mut self.stream {
             Some(stream) => Ok(stream),
@@ -74,7 +75,7 @@ impl<'a, C: Clock, S: Read + Write + OpenStream + Drop> Wire<'a, C, S> {
         }
     }
 
-    /// Reads once, until a time or for as long as it takes.
+    /// Reads once, until a time or without a limit.
     pub fn read_until(&mut self, until: Option<u64>, into: &mut [u8]) -> io::Result<usize>
         ensures { IfOk result (λ n. n ≤ length into.new) }
     {
@@ -87,8 +88,8 @@ impl<'a, C: Clock, S: Read + Write + OpenStream + Drop> Wire<'a, C, S> {
         }
     }
 
-    // Reads until a time. The system ends a read late, and the later the longer that waits. So one waits for most of what
-    // is left, and then the next one for most of the rest.
+    // Reads until a time. The system ends a read late, and the more so the longer it waits. So one read waits for most
+    // of what is left, and the next one for most of the rest.
     fn read_in_parts(&mut self, until: u64, into: &mut [u8]) -> io::Result<usize>
         ensures { IfOk result (λ n. n ≤ length into.new) }
     {
@@ -107,7 +108,7 @@ impl<'a, C: Clock, S: Read + Write + OpenStream + Drop> Wire<'a, C, S> {
         Err(io::Error::from(ErrorKind::TimedOut))
     }
 
-    // Reads until a time that is near, by reads that don't wait.
+    // Reads until a time that is near, by reads that do not wait.
     fn read_soon(&mut self, until: u64, into: &mut [u8]) -> io::Result<usize>
         ensures { IfOk result (λ n. n ≤ length into.new) }
     {
@@ -117,7 +118,7 @@ impl<'a, C: Clock, S: Read + Write + OpenStream + Drop> Wire<'a, C, S> {
         answer
     }
 
-    // Reads what has come, or looks again after a pause, until a time.
+    // Reads what has arrived, or tries again after a pause, until a time.
     fn look_until(&mut self, until: u64, into: &mut [u8]) -> io::Result<usize>
         ensures { IfOk result (λ n. n ≤ length into.new) }
     {
@@ -131,7 +132,7 @@ impl<'a, C: Clock, S: Read + Write + OpenStream + Drop> Wire<'a, C, S> {
         Err(io::Error::from(ErrorKind::TimedOut))
     }
 
-    // Has a read wait no longer than that, where it isn't so yet.
+    // Limits the wait of a read, if the limit is not set yet.
     fn limit_reads(&mut self, limit: Option<u64>) -> io::Result<()> {
         if self.limit != limit {
             self.open_stream()?
@@ -146,15 +147,15 @@ impl<'a, C: Clock, S: Read + Write + OpenStream + Drop> Wire<'a, C, S> {
         self.stream = None;
     }
 
-    /// Ends what is sent, lets go what still comes, until the peer has closed the connection too or so many milliseconds
-    /// are over, and closes the connection. One that is closed while octets lie unread is reset, and the peer loses what
-    /// it was sent and hasn't read.
+    /// Stops sending, discards what still arrives until the peer has closed the connection too or `longest`
+    /// milliseconds are over, and closes the connection. Closing it with unread bytes would reset it, and the peer
+    /// would lose what it was sent and has not read.
     pub fn hang_up(&mut self, longest: u64) {
         self.let_go(longest);
         self.close();
     }
 
-    // Ends what is sent, and lets go what still comes.
+    // Stops sending, and discards what still arrives.
     fn let_go(&mut self, longest: u64) {
         let has_ended = match &self.stream {
             Some(stream) => stream.shutdown(Shutdown::Write).is_ok(),
@@ -177,19 +178,19 @@ impl<'a, C: Clock, S: Read + Write + OpenStream + Drop> Wire<'a, C, S> {
     }
 }
 
-/// Whether a read that failed so has read nothing, and another one may follow: its time is over, or a signal ended it
-/// early.
+/// Returns true if a read with this error has read nothing, and another one may follow: its time is over, or a signal
+/// ended it early.
 pub fn is_quiet(kind: ErrorKind) -> bool {
     is_late(kind) || kind == ErrorKind::Interrupted
 }
 
-// Whether the time of a read that failed so is over.
+// Returns true if the time of a read with this error is over.
 fn is_late(kind: ErrorKind) -> bool {
     matches!(kind, ErrorKind::WouldBlock | ErrorKind::TimedOut)
 }
 
-// How many milliseconds the next read waits where so many are left, or 0 where it can't end in time: as the last one, if
-// that is well within what is left, so that the system needn't be told.
+// Returns the milliseconds that the next read waits if `left` are left, or 0 if it cannot end in time. Returns the last
+// limit if that is well within what is left, to save a system call.
 fn part_of(left: u64, limit: Option<u64>) -> u64 {
     let most = left.saturating_sub(left / 8).saturating_sub(LATE);
     match limit {

@@ -1,4 +1,4 @@
--- The octets that lines of hexadecimal spell.
+-- The bytes in lines of hexadecimal.
 use Rattle.std.proofs.Common.{◌≡◌, ℕ, List, [], ◌∷◌, ◌++◌, true, false, None, Some, refl, ap}
 use Rattle.std.specs.Prelude.{Option}
 use Rattle.std.proofs.lemmas.List.{append_assoc}
@@ -25,7 +25,7 @@ pub decodes_end : decoded_octets [] ≡ Some []
 unfolding decoded_octets
 decodes_end = refl
 
--- ---- octets so far, and those of what is left
+-- ---- bytes so far, and those of what is left
 
 pub after_octet : (octets : List ℕ) (octet : ℕ) (more : Option (List ℕ)) → subsequent (octets ++ octet ∷ []) more ≡ subsequent octets (octet_and (Some octet) more)
 after_octet octets octet None = refl

@@ -1,4 +1,4 @@
--- Messages among the octets of a line.
+-- Messages among the bytes of a line.
 use Rattle.std.proofs.Common.{◌≡◌, ◌≤◌, ◌<◌, ◌+◌, ◌^◌, ◌++◌, ℕ, true, false, List, length, take, drop, sym, ◌∙◌, ap, subst, arith}
 use Rattle.std.specs.Int.{w32, from_be_bytes, to_be_bytes}
 use Rattle.std.proofs.lemmas.List.{length-append, length-take-le, take-append-drop}
@@ -9,7 +9,7 @@ use Rattle.hsms_frame.specs.Header.{header_octets, IsHeader}
 use Rattle.hsms_frame.proofs.Octets.{IsOctets-drop, IsOctets-take}
 use Rattle.cli_show.specs.ShowHex.{IsMessageOf}
 
--- the first four octets count the others
+-- The first four bytes count the others.
 pub after_four : (octets chunk rest : List ℕ) (n : ℕ) → chunk ≡ take 4 octets → rest ≡ drop 4 octets → length rest + 4 ≡ length octets → IsOctets octets
     → n ≡ from_be_bytes w32 chunk → n ≡ length rest → octets ≡ to_be_bytes w32 (length rest) ++ rest
 after_four octets chunk rest n front back size fits field same =
@@ -18,7 +18,7 @@ after_four octets chunk rest n front back size fits field same =
     let whole : to_be_bytes w32 (length rest) ≡ take 4 octets = be_bytes_4 (take 4 octets) (length rest) four (IsOctets-take 4 octets fits) count in
     sym (ap (λ xs. xs ++ rest) whole ∙ ap (λ ys. take 4 octets ++ ys) back ∙ take-append-drop 4 octets)
 
--- ten octets of header and a text
+-- Ten bytes of header and a text.
 pub after_ten : (max : ℕ) (octets chunk text : List ℕ) (h : Header) → chunk ≡ take 10 octets → text ≡ drop 10 octets → length text + 10 ≡ length octets → IsOctets octets
     → length octets ≤ max → max < 2 ^ 32 → IsHeader h → header_octets h ≡ chunk → IsMessageOf true max octets (record { header = h; text = text })
 after_ten max octets chunk text h front back size fits within range fine encoded_bytes =
@@ -27,7 +27,7 @@ after_ten max octets chunk text h front back size fits within range fine encoded
       (record { header = fine; text = subst P (sym back) (IsOctets-drop 10 octets fits); size = omega (arith, size, within, range) }, omega (arith, size, within)),
     )
 
--- ---- with the octets that count the others
+-- ---- with the length bytes
 
 pub not_counted : (max : ℕ) (octets : List ℕ) → ((rest : List ℕ) → length rest < 2 ^ 32 → octets ≡ to_be_bytes w32 (length rest) ++ rest → ⊥)
     → (f : Frame) → IsMessageOf false max octets f → ⊥

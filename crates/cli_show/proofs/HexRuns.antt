@@ -12,7 +12,7 @@ use Rattle.cli_output.specs.IoErrors.{IsWrite, LeavesPart}
 use Rattle.cli_show.specs.ShowHex.{IsAllRead, IsLine, ShowsHex, ShowsLine, ShowsLines, ShowsNextLine, StopsAt, ended, decoded_octets}
 use Rattle.cli_show.proofs.Runs.{holding_front, holding_out, holding_then}
 
--- one line more
+-- One more line.
 ShowsLines-push : (bare : Bool) (max depth : ℕ) (lines : List (List ℕ)) (shown line last : List ℕ) → ShowsLines bare max depth lines shown → IsLine max line
     → ShowsLine bare max depth line last → ShowsLines bare max depth (lines ++ line ∷ []) (shown ++ last)
 ShowsLines-push bare max depth [] shown line last none is shows =
@@ -20,13 +20,13 @@ ShowsLines-push bare max depth [] shown line last none is shows =
 ShowsLines-push bare max depth (l ∷ ls) shown line last (first, rest, one, shows_one, others, parts) is shows =
     (first, rest ++ last, one, shows_one, ShowsLines-push bare max depth ls rest line last others is shows, ap (λ xs. xs ++ last) parts ∙ append_assoc first rest last)
 
--- after some lines
+-- After some lines.
 abbrev pub BegunLines : Bool → ℕ → ℕ → List ℕ → ℕ → Option (List ℕ) → Option (List ℕ) → Option (List ℕ) → List ℕ → Type 0
 BegunLines bare max depth input count left old new held =
     (lines : List (List ℕ)) × (shown rest : List ℕ) × (length lines ≡ count) × ShowsLines bare max depth lines shown × (input ≡ ended lines ++ rest)
     × (left ≡ Some rest) × GrowsHolding old [] new held shown
 
--- the next line, of what is left
+-- The next line, of what is left.
 abbrev pub NextLine : Bool → ℕ → ℕ → ℕ → Option (List ℕ) → Result Bool ToolFault → Option (List ℕ) → Option (List ℕ) → List ℕ → Option (List ℕ) → List ℕ → Type 0
 NextLine bare max depth number before result left old held new now =
     IfRecorded before (λ input. ShowsNextLine bare max depth number input result left old held new now)
@@ -66,7 +66,7 @@ lines_go_on bare max depth input count before left old mid held new now (lines, 
       holding_then old [] mid held new now shown last grows n.7,
     )
 
--- the run stops
+-- The run stops.
 stops_whole : (bare : Bool) (max depth number : ℕ) (rest shown held : List ℕ) (r : Result Bool ToolFault) (left old mid new : Option (List ℕ)) → GrowsHolding old [] mid held shown
     → StopsAt bare max depth number rest held r left mid new → StopsAt bare max depth number rest shown r left old new
 stops_whole bare max depth number rest shown held (Ok well) left old mid new grows (last, is, shows, known_input, out) =
@@ -86,7 +86,7 @@ stops_whole bare max depth number rest shown held (Err (Device word)) left old m
     inr (inr (is, full, proceeds, leaves, holding_out old [] mid held new shown grows out))
 stops_whole bare max depth number rest shown held (Err Memory) left old mid new grows (leaves, out) = (leaves, holding_out old [] mid held new shown grows out)
 
--- the same of an answer without a value
+-- The results without and with a value agree.
 as_done : (bare : Bool) (max depth number : ℕ) (rest shown : List ℕ) (left old new : Option (List ℕ)) → StopsAt {T = Bool} bare max depth number rest shown (Ok false) left old new
     → StopsAt {T = Unit {0}} bare max depth number rest shown (Ok tt) left old new
 as_done bare max depth number rest shown left old new stops = stops
@@ -132,7 +132,7 @@ lines_stop bare max depth input count fault before left old mid held new now few
       (stops_whole bare max depth (count + 1) rest shown held (Err fault) left old mid new grows (next rest known_input))),
 )
 
--- memory is wanting before the first line
+-- An allocation fails before the first line.
 pub no_line : (bare : Bool) (max depth : ℕ) (input : List ℕ) (left written : Option (List ℕ)) → left ≡ Some input → ShowsHex {T = Unit {0}} bare max depth input (Err Memory) left written written
 no_line bare max depth input left written known_input = (
   [],
@@ -144,7 +144,7 @@ no_line bare max depth input left written known_input = (
   (([], input, refl, known_input), (λ octets is. is ∙ ap Some (sym (append-nil octets)))),
 )
 
--- as many lines as the command passes
+-- The maximum number of lines.
 no_more_lines : (bare : Bool) (max depth number : ℕ) (rest shown : List ℕ) (r : Result (Unit {0}) ToolFault) (left old new : Option (List ℕ)) → number ≡ 4294967296
     → Grows old new shown → IsAllRead rest r left → StopsAt bare max depth number rest shown r left old new
 unfolding decoded_octets
@@ -173,12 +173,12 @@ lines_full bare max depth input count r before left old mid held new full (lines
   no_more_lines bare max depth (length lines + 1) rest shown r left old new (omega (arith, full, size)) (holding_out old [] mid held new shown grows out) (all rest known_input),
 )
 
--- what was read ahead is taken
+-- What was read ahead is consumed.
 leaves_ahead : (ahead rest : List ℕ) (left : Option (List ℕ)) → subsequent ahead left ≡ Some rest → LeavesPart rest left
 leaves_ahead ahead rest None is = cc
 leaves_ahead ahead rest (Some others) is = let same : ahead ++ others ≡ rest = cc in (ahead, others, sym same, refl)
 
--- a write failed once as many lines are passed
+-- A write failed after the maximum number of lines was passed.
 pub lines_unwritten : (bare : Bool) (max depth : ℕ) (input : List ℕ) (count : ℕ) (fault : ToolFault) (left old mid : Option (List ℕ)) (held : List ℕ) (new : Option (List ℕ)) (ahead : List ℕ)
     → count ≡ 4294967295 → BegunLines bare max depth input count (subsequent ahead left) old mid held → IsWrite fault → GrowsByFront mid new held
     → ShowsHex {T = Unit {0}} bare max depth input (Err fault) left old new

@@ -17,7 +17,7 @@ use Rattle.cli_show.proofs.Runs.{holding_front, holding_out, holding_then}
 
 -- ---- why the command stops
 
--- a refusal is for this
+-- Holds if this is why a line is invalid.
 abbrev pub IsReportedBy : (List ℕ → Type 0) → ToolFault → Type 0
 IsReportedBy IsWhy (Refused words) = IsWhy (string_bytes words)
 IsReportedBy IsWhy (Device word) = ⊥
@@ -52,7 +52,7 @@ stopped_as Shown IsWhy fault result old held new now known_input (inl (same, gro
     let P : ToolFault → Type 0 = λ f. AppendsShown Shown IsWhy (Err f) old held new now in subst P (sym same) (stopped_same Shown IsWhy fault old held new now known_input grows)
 stopped_as Shown IsWhy fault result old held new now known_input (inr (write, front)) = stopped_write Shown IsWhy result old held new now write front
 
--- ---- what is laid
+-- ---- what is appended
 
 pub appended_message : (bare : Bool) (max depth : ℕ) (IsWhy : List ℕ → Type 0) (octets : List ℕ) (f : Frame) (r : Result (Unit {0}) ToolFault) (old : Option (List ℕ)) (held : List ℕ)
     (new : Option (List ℕ)) (now : List ℕ) → IsMessageOf bare max octets f → IfErr r IsWrite → AppendsLine depth f r old held new now
@@ -64,7 +64,7 @@ appended_message bare max depth IsWhy octets f (Err Memory) old held new now is 
 
 -- ---- the next line
 
--- no line's end was found
+-- No line's end was found.
 pub no_end : (bare : Bool) (max depth number : ℕ) (input ahead : List ℕ) (fault : ToolFault) (left old : Option (List ℕ)) (held : List ℕ) (new : Option (List ℕ)) (now : List ℕ)
     → FindsEndHolding max input (Err fault) ahead left old held new now → ShowsNextLine bare max depth number input (Err fault) left old held new now
 no_end bare max depth number input ahead (Refused words) left old held new now why = absurd why
@@ -74,7 +74,7 @@ no_end bare max depth number input ahead (Device word) left old held new now (in
     inr (inl (write, leaves, [], inl refl, subst P (sym (append-nil held)) front))
 no_end bare max depth number input ahead Memory left old held new now why = why
 
--- the line that ends at a place
+-- The line that ends at an index.
 pub line_at : (max n : ℕ) (input ahead rest : List ℕ) → input ≡ ahead ++ rest → EndsAt max ahead (Feed n)
     → input ≡ take n ahead ++ 10 ∷ (drop (n + 1) ahead ++ rest)
 line_at max n input ahead rest parts (there, line, feed) =
@@ -104,7 +104,7 @@ line_stopped bare max depth number input line (Device word) left old mid held th
     inr (inl (write, leaves, more, inr (line, begins, shows), written_part old mid held then more new holds front))
 line_stopped bare max depth number input line Memory left old mid held then new now begins leaves holds out = (leaves, written_out old mid held then new holds out)
 
--- the first line, of which this is the slice, stops the command
+-- The first line, of which this is the slice, stops the command.
 pub line_stops : (bare : Bool) (max depth number : ℕ) (input slice line : List ℕ) (fault : ToolFault) (left old mid : Option (List ℕ)) (held then : List ℕ) (new : Option (List ℕ)) (now : List ℕ)
     → BeginsWithLine max input line → LeavesPart input left → GrowsHolding old held mid then [] → slice ≡ line
     → AppendsShown (ShowsLine bare max depth slice) (IsRefusedLine bare max number slice) (Err fault) mid then new now
@@ -113,7 +113,7 @@ line_stops bare max depth number input slice line fault left old mid held then n
     let P : List ℕ → Type 0 = λ xs. AppendsShown (ShowsLine bare max depth xs) (IsRefusedLine bare max number xs) (Err fault) mid then new now in
     line_stopped bare max depth number input line fault left old mid held then new now begins leaves holds (subst P same appended_text)
 
--- it is too long
+-- The line is too long.
 abbrev FarWhy : ℕ → List ℕ → Type 0
 FarWhy number words = words ≡ at_line (codes "NoMessage") number
 
@@ -143,7 +143,7 @@ far_stops bare max depth number input ahead rest fault result left old mid held 
     let appended_text = stopped_as NoneShown (FarWhy number) fault result mid then new now (reported_far number fault refused) stops in
     far_as bare max depth number input result left old mid held then new now far (ahead, rest, parts, known_input) holds appended_text
 
--- the last line was shown, and all is written
+-- The last line was shown, and everything is written.
 pub last_shown : (bare : Bool) (max depth number : ℕ) (input ahead rest last : List ℕ) (left old mid next : Option (List ℕ)) (held then held_now : List ℕ) (new : Option (List ℕ)) (now : List ℕ)
     → input ≡ ahead ++ rest → rest ≡ [] → IsLine max ahead → left ≡ Some rest → GrowsHolding old held mid then [] → ShowsLine bare max depth ahead last
     → GrowsHolding mid then next held_now last → Grows next new held_now → ShowsNextLine bare max depth number input (Ok false) left old held new now
@@ -153,7 +153,7 @@ last_shown bare max depth number input ahead rest last left old mid next held th
     let here : IsLine max input × ShowsLine bare max depth input last = subst P all (line, shows) in
     (last, here.0, here.1, known_input ∙ ap Some none, holding_out old held next held_now new last (holding_then old held mid then next held_now [] last holds appends_bytes) out)
 
--- the last line was shown, and a write failed
+-- The last line was shown, and a write failed.
 pub last_unwritten : (bare : Bool) (max depth number : ℕ) (input line last : List ℕ) (fault : ToolFault) (left old mid next : Option (List ℕ)) (held then held_now : List ℕ) (new : Option (List ℕ)) (now : List ℕ)
     → BeginsWithLine max input line → LeavesPart input left → GrowsHolding old held mid then [] → ShowsLine bare max depth line last → GrowsHolding mid then next held_now last
     → IsWrite fault → GrowsByFront next new held_now → ShowsNextLine bare max depth number input (Err fault) left old held new now
@@ -171,11 +171,11 @@ last_unwritten bare max depth number input line last (Device word) left old mid 
       subst Q (append-nil (held ++ last)) (holding_front old held next held_now new last [] both (subst P (sym (append-nil held_now)) front)),
     ))
 
--- the input is its only line
+-- The input is its only line.
 pub only_line : (max : ℕ) (input ahead rest : List ℕ) → input ≡ ahead ++ rest → rest ≡ [] → IsLine max ahead → BeginsWithLine max input ahead
 only_line max input ahead rest parts none line = (line, inl (parts ∙ ap (λ (xs : List ℕ). ahead ++ xs) none ∙ append-nil ahead))
 
--- what is laid of a slice
+-- What is appended for a slice.
 pub appended_of : (bare : Bool) (max depth : ℕ) (slice line : List ℕ) (old : Option (List ℕ)) (held : List ℕ) (new : Option (List ℕ)) (now : List ℕ) → slice ≡ line
     → (shown : List ℕ) × ShowsLine bare max depth slice shown × GrowsHolding old held new now shown
     → (shown : List ℕ) × ShowsLine bare max depth line shown × GrowsHolding old held new now shown

@@ -34,7 +34,7 @@ none_on octets seen n before here =
     let P : List ℕ → Type 0 = λ xs. HasNone 10 xs in
     subst P (sym (take-add seen n octets)) (All-append (λ (x : ℕ). (x == 10) ≡ false) (take seen octets) (take n (drop seen octets)) before here)
 
--- it is at a place
+-- The first line feed is at an index.
 none_here : (octets : List ℕ) (seen place : ℕ) → IsFirstByte (is_byte 10) (drop seen octets) (Some place) → HasNone 10 (take seen octets)
     → HasNone 10 (take (seen + place) octets)
 none_here octets seen place (first, is) before =
@@ -48,7 +48,7 @@ pub none_up_to : (octets : List ℕ) (seen place : ℕ) → IsFirstByte (is_byte
 none_up_to octets seen place found before =
     let P : List ℕ → Type 0 = λ xs. IsFirstByte (is_byte 10) xs (Some place) in none_here octets seen place (subst P (after_seen octets seen) found) before
 
--- it isn't there
+-- There is no line feed.
 pub none_at_all : (octets : List ℕ) (seen : ℕ) → IsFirstByte (is_byte 10) (take (length octets - seen) (drop seen octets)) None
     → HasNone 10 (take seen octets) → HasNone 10 (take (length octets) octets)
 none_at_all octets seen missing before =
@@ -73,9 +73,9 @@ is_line max place octets fits within whole none =
 pub none_of_none : (octets : List ℕ) → HasNone 10 (take 0 octets)
 none_of_none octets k d less = absurd (omega (arith, less))
 
--- ---- reading on
+-- ---- reading more
 
--- what was read of an input so far, and where its line ends in that
+-- What was read of an input so far, and where its line ends in that.
 abbrev pub EndsSoFar : ℕ → List ℕ → List ℕ → List ℕ → Option (List ℕ) → LineEnd → Type 0
 EndsSoFar max before input ahead left end = ReadsMore before input ahead left × EndsAt max ahead end
 
@@ -140,7 +140,7 @@ short_of_limit max ahead (Feed n) can_continue placed = cc
 short_of_limit max ahead Open can_continue placed = placed
 short_of_limit max ahead TooFar can_continue placed = cc
 
--- ---- while octets are held
+-- ---- while bytes are buffered
 
 pub holding_end : (max : ℕ) (input ahead : List ℕ) (left old : Option (List ℕ)) (held : List ℕ) (new : Option (List ℕ)) (now : List ℕ) (r : Result LineEnd ToolFault)
     → now ≡ [] → Grows old new held → IfErr r (HasWord (codes "Read")) → FindsEnd max input r ahead left → FindsEndHolding max input r ahead left old held new now

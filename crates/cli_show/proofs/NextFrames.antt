@@ -28,9 +28,9 @@ reads_on before mid now input left new (rest, known_input, same) more =
     let m = more rest known_input in
     (m.0, m.1, same ∙ m.2)
 
--- ---- what is at the front
+-- ---- what is at the start
 
--- a part of a message is at the front
+-- Holds if a part of a message is at the start.
 abbrev pub IsOpen : ℕ → List ℕ → Type 0
 IsOpen max ahead = IsFaultless max ahead × IsProperFront ahead
 
@@ -39,7 +39,7 @@ open_front max ahead (Ok (Some m)) is front = cc
 open_front max ahead (Ok None) is front = front
 open_front max ahead (Err fault) is front = cc
 
--- a part of a message is shorter than any message is long
+-- A part of a message is shorter than the maximum message.
 pub open_is_short : (max : ℕ) (ahead : List ℕ) → IsOpen max ahead → length ahead < 4294967310
 open_is_short max ahead (fine, begun) =
     let f : Frame = begun.0 in
@@ -49,7 +49,7 @@ open_is_short max ahead (fine, begun) =
     let bound : 10 + length f.text < 4294967296 = begun.2.size in
     omega (arith, whole, size, bound)
 
--- the source failed, or memory was wanting for what it gave
+-- The source failed, or an allocation failed for what it returned.
 pub stopped : (max : ℕ) (input ahead rest : List ℕ) (fault : ToolFault) (left : Option (List ℕ)) → input ≡ ahead ++ rest → IsOpen max ahead
     → IsUnread rest fault left → IsStopped max input fault left
 stopped max input ahead rest (Refused words) left parts begun none = absurd none
@@ -59,7 +59,7 @@ stopped max input ahead rest Memory left parts begun is = (ahead, rest, parts, i
 all_of : (input : List ℕ) (left : Option (List ℕ)) → left ≡ Some [] → LeavesPart input left
 all_of input left is = (input, [], sym (append-nil input), is)
 
--- the input ends
+-- The input ends.
 pub at_the_end : (max : ℕ) (input ahead : List ℕ) (result : Result (Option (Header × ℕ)) ToolFault) (left : Option (List ℕ)) → input ≡ ahead
     → left ≡ Some [] → IsOpen max ahead → EndsAs ahead result → FindsNext max input result ahead left
 at_the_end max input ahead (Ok (Some m)) left same is begun (none, found) = cc
@@ -71,7 +71,7 @@ at_the_end max input ahead (Err (Refused words)) left same is begun (some, known
 at_the_end max input ahead (Err (Device word)) left same is begun (some, known_input) = absurd known_input
 at_the_end max input ahead (Err Memory) left same is begun ends = all_of input left is
 
--- ---- a fault at the front
+-- ---- an error at the start
 
 field_before : (ahead rest : List ℕ) → 4 ≤ length ahead → length_field (ahead ++ rest) ≡ length_field ahead
 field_before ahead rest there = ap (λ (xs : List ℕ). from_be_bytes w32 xs) (take-append-le 4 ahead rest there)
@@ -114,7 +114,7 @@ stopped_at max input ahead rest (frame.TooLong n h) (Refused words) left is part
 stopped_at max input ahead rest (frame.TooLong n h) (Device word) left is parts front known_input = absurd known_input
 stopped_at max input ahead rest (frame.TooLong n h) Memory left is parts front known_input = part_left input ahead rest left is parts
 
--- what is at the front, as the command tells it
+-- The command's result for what is at the start.
 pub found_is_returned : (max : ℕ) (input ahead : List ℕ) (found : Result (Option (Header × ℕ)) FrameFault) (known_input : Result (Option (Header × ℕ)) ToolFault)
     (left : Option (List ℕ)) → is_open found ≡ false → FrontAs max ahead found → ReturnsFound found known_input → (rest : List ℕ) × (left ≡ Some rest) × (input ≡ ahead ++ rest)
     → FindsNext max input known_input ahead left

@@ -20,7 +20,7 @@ use Rattle.cli_output.specs.Line.{LineOf}
 use Rattle.cli_output.specs.IoErrors.{LeavesPart, CountsFailure, HasWord, IsOfInput, IsWrite}
 use Rattle.cli_show.specs.Show.{Begins, IsWithin, octets_of, LinesOf, Shows, StopsBy, ShowsNext, IsEnded}
 
--- a message that is there whole is the next
+-- A complete message is the next.
 pub begins_with : (max : ℕ) (input ahead rest text : List ℕ) (h : Header) (size : ℕ) → input ≡ ahead ++ rest → IsFrontOf max ahead h size
     → text ≡ take size (drop 14 ahead) → Begins max input (record { header = h; text = text }) (drop (14 + size) ahead ++ rest)
 begins_with max input ahead rest text h size parts front same =
@@ -33,7 +33,7 @@ begins_with max input ahead rest text h size parts front same =
       (whole.1, whole.2),
     )
 
--- a reading or a write stopped the call before a message was found
+-- A read or a write stopped the call before a message was found.
 pub find_stops : (max depth : ℕ) (input ahead : List ℕ) (fault : ToolFault) (left old : Option (List ℕ)) (held : List ℕ) (new : Option (List ℕ)) (now : List ℕ)
     → FindsHolding max input (Err fault) ahead left old held new now → ShowsNext max depth input (Err fault) left old held new now
 find_stops max depth input ahead (Refused words) left old held new now (inl (word, reads, grows)) = (reads.0, reads.1, grows)
@@ -46,9 +46,9 @@ find_stops max depth input ahead Memory left old held new now (inr (word, leaves
 all_left : (after : List ℕ) (left : Option (List ℕ)) → left ≡ Some after → LeavesPart after left
 all_left after left is = ([], after, refl, is)
 
--- ---- what is held
+-- ---- what is buffered
 
--- a text is held behind another
+-- A text is buffered after another.
 pub holding_then : (old : Option (List ℕ)) (held : List ℕ) (mid : Option (List ℕ)) (then : List ℕ) (new : Option (List ℕ)) (now xs ys : List ℕ)
     → GrowsHolding old held mid then xs → GrowsHolding mid then new now ys → GrowsHolding old held new now (xs ++ ys)
 holding_then old held mid then new now xs ys (first, one, grows) (second, two, more) = (
@@ -57,13 +57,13 @@ holding_then old held mid then new now xs ys (first, one, grows) (second, two, m
   (λ octets known_input. more (octets ++ first) (grows octets known_input) ∙ ap Some (append_assoc octets first second)),
 )
 
--- all that is held was written
+-- All that is buffered was written.
 pub holding_out : (old : Option (List ℕ)) (held : List ℕ) (mid : Option (List ℕ)) (then : List ℕ) (new : Option (List ℕ)) (xs : List ℕ)
     → GrowsHolding old held mid then xs → Grows mid new then → Grows old new (held ++ xs)
 holding_out old held mid then new xs (first, one, grows) more = λ octets known_input.
     more (octets ++ first) (grows octets known_input) ∙ ap Some (append_assoc octets first then ∙ ap (λ o. octets ++ o) one)
 
--- a write failed within what is held and a text behind it
+-- A write failed within what is buffered and a text after it.
 pub holding_front : (old : Option (List ℕ)) (held : List ℕ) (mid : Option (List ℕ)) (then : List ℕ) (new : Option (List ℕ)) (xs ys : List ℕ)
     → GrowsHolding old held mid then xs → GrowsByFront mid new (then ++ ys) → GrowsByFront old new (held ++ xs ++ ys)
 holding_front old held mid then new xs ys (first, one, grows) front = λ octets known_input.
@@ -82,14 +82,14 @@ holds_same old held = ([], sym (append-nil held), (λ octets known_input. known_
 pub holds_none : (old : Option (List ℕ)) (held : List ℕ) (new : Option (List ℕ)) (now : List ℕ) → now ≡ [] → Grows old new held → GrowsHolding old held new now []
 holds_none old held new now none grows = (held, ap (λ o. held ++ o) none, grows)
 
--- what is found once all that was held is written
+-- What is found once the buffer is written.
 pub finds_with : (max : ℕ) (input : List ℕ) (r : Result (Option (Header × ℕ)) ToolFault) (ahead : List ℕ) (left old : Option (List ℕ)) (held : List ℕ) (new : Option (List ℕ)) (now : List ℕ)
     → now ≡ [] → Grows old new held → IfErr r (HasWord (codes "Read")) → FindsNext max input r ahead left → FindsHolding max input r ahead left old held new now
 finds_with max input (Ok (Some found)) ahead left old held new now none grows word finds = (finds, holds_none old held new now none grows)
 finds_with max input (Ok None) ahead left old held new now none grows word finds = (finds, grows)
 finds_with max input (Err fault) ahead left old held new now none grows word finds = inl (word, finds, grows)
 
--- a write stopped the call
+-- A write stopped the call.
 pub write_stops : (max depth : ℕ) (input after line : List ℕ) (f : Frame) (fault : ToolFault) (left old : Option (List ℕ)) (held : List ℕ) (mid : Option (List ℕ)) (then : List ℕ)
     (written : Option (List ℕ)) (now : List ℕ) → IsWrite fault → Begins max input f after → LeavesPart after left → LineOf depth f line → GrowsHolding old held mid then []
     → GrowsByFront mid written (then ++ line) → ShowsNext max depth input (Err fault) left old held written now
@@ -99,7 +99,7 @@ write_stops max depth input after line f (Device given) left old held mid then w
     inr (inr (word, f, after, line, begins, shown, leaves, subst P (append-nil held) (holding_front old held mid then written [] line holds front)))
 write_stops max depth input after line f Memory left old held mid then written now word begins leaves shown holds front = absurd word
 
--- a write stopped the call at the message that is at the front
+-- A write stopped the call at the message that is at the start.
 pub append_stops : (max depth : ℕ) (input ahead rest : List ℕ) (h : Header) (size : ℕ) (fault : ToolFault) (left old : Option (List ℕ)) (held : List ℕ) (mid : Option (List ℕ)) (then : List ℕ)
     (written : Option (List ℕ)) (now : List ℕ) → input ≡ ahead ++ rest → left ≡ Some rest → IsFrontOf max ahead h size → IsWrite fault → GrowsHolding old held mid then []
     → AppendsLine depth (record { header = h; text = take size (drop 14 ahead) }) (Err fault) mid then written now → ShowsNext max depth input (Err fault) left old held written now
@@ -109,7 +109,7 @@ append_stops max depth input ahead rest h size fault left old held mid then writ
     let begun = begins_with max input ahead rest (take size (drop 14 ahead)) h size parts front refl in
     write_stops max depth input (after ++ rest) line f fault left old held mid then written now word begun (after, rest, refl, is) shown holds by_front
 
--- the message that is at the front was shown
+-- The message that is at the start was shown.
 pub append_shows : (max depth : ℕ) (input ahead rest : List ℕ) (h : Header) (size : ℕ) (u : Unit {0}) (passed : List ℕ) (left old : Option (List ℕ)) (held : List ℕ) (mid : Option (List ℕ))
     (then : List ℕ) (written : Option (List ℕ)) (now : List ℕ) → input ≡ ahead ++ rest → left ≡ Some rest → IsFrontOf max ahead h size → passed ≡ drop (14 + size) ahead
     → GrowsHolding old held mid then [] → AppendsLine depth (record { header = h; text = take size (drop 14 ahead) }) (Ok u) mid then written now
@@ -121,7 +121,7 @@ append_shows max depth input ahead rest h size u passed left old held mid then w
     let subsequent_octets = ap (λ (xs : List ℕ). subsequent xs left) is_passed ∙ ap (subsequent after) is in
     (f, after ++ rest, line, begun, shown, subsequent_octets, holding_then old held mid then written now [] line holds grows)
 
--- one message more is there
+-- There is one more message.
 pub one_more : (max : ℕ) (input ahead : List ℕ) (m : Header × ℕ) (left : Option (List ℕ)) → (rest : List ℕ) × (left ≡ Some rest) × (input ≡ ahead ++ rest)
     → IsFrontOf max ahead m.0 m.1
     → (codes "Endless" ≡ codes "Endless") × (f : Frame) × (after : List ℕ) × Begins max input f after × LeavesPart after left
@@ -147,7 +147,7 @@ differ given e w = let first : ◌≡◌ {A = ℕ} 82 87 = ap (λ xs. get_or xs 
 differ_too : (given : List ℕ) → given ≡ codes "Endless" → given ≢ codes "Write"
 differ_too given e w = let first : ◌≡◌ {A = ℕ} 69 87 = ap (λ xs. get_or xs 0 0) (sym e ∙ w) in absurd (omega arith)
 
--- a fault of the input is no failed write
+-- An error of the input is not a failed write.
 pub input_is_no_write : (T : Type 0) (r : Result T ToolFault) (n : ℕ) → IfErr r IsOfInput → CountsFailure {T = T} (codes "Write") r n n
 input_is_no_write T (Ok x) n word = refl
 input_is_no_write T (Err (Refused words)) n word = refl
@@ -155,13 +155,13 @@ input_is_no_write T (Err (Device given)) n (inl word) = inr (differ given.now wo
 input_is_no_write T (Err (Device given)) n (inr word) = inr (differ_too given.now word, refl)
 input_is_no_write T (Err Memory) n word = refl
 
--- a reading's fault is no failed write
+-- An error of a read is not a failed write.
 pub no_write : (T : Type 0) (fault : ToolFault) (n : ℕ) → HasWord (codes "Read") fault → CountsFailure {T = T} (codes "Write") (Err fault) n n
 no_write T (Refused words) n word = refl
 no_write T (Device given) n word = inr (differ given.now word, refl)
 no_write T Memory n word = refl
 
--- one more line
+-- One more line.
 LinesOf-push : (depth : ℕ) (messages : List Frame) (lines line : List ℕ) (f : Frame) → LinesOf depth messages lines → LineOf depth f line
     → LinesOf depth (messages ++ f ∷ []) (lines ++ line)
 LinesOf-push depth [] lines line f none is =
@@ -171,7 +171,7 @@ LinesOf-push depth (m ∷ ms) lines line f (first, rest, one, others, parts) is 
 
 -- ---- a write that failed within some lines
 
--- the line in which a part of them ends
+-- The line in which a part of them ends.
 abbrev Split : ℕ → ℕ → List Frame → List ℕ → ℕ → Type 0
 Split max depth messages lines n =
     (before : List Frame) × (f : Frame) × (after : List Frame) × (first line : List ℕ) × (k : ℕ) × (messages ≡ before ++ f ∷ after) × LinesOf depth before first
@@ -212,11 +212,11 @@ split max depth (m ∷ ms) lines n less (one, rest, shown, others, parts) within
           subst Q sum (split_on max depth m ms one rest j shown fits (split max depth ms rest j (omega (arith, ge, size, less)) others subsequent_octets))
     ])
 
--- what is behind a message
+-- What follows a message.
 leaves_more : (rest more : List ℕ) (left : Option (List ℕ)) → LeavesPart rest left → LeavesPart (more ++ rest) left
 leaves_more rest more left (taken, after, parts, is) = (more ++ taken, after, ap (λ o. more ++ o) parts ∙ sym (append_assoc more taken after), is)
 
--- the messages whose lines were written, and the one in whose line the write failed
+-- The messages whose lines were written, and the one in whose line the write failed.
 split_shows : (max depth : ℕ) (input : List ℕ) (messages : List Frame) (lines rest word : List ℕ) (n : ℕ) (left old new : Option (List ℕ)) → word ≡ codes "Write"
     → input ≡ octets_of messages ++ rest → length messages ≤ 4294967295 → LeavesPart rest left → IfRecorded old (λ octets. new ≡ Some (octets ++ take n lines))
     → Split max depth messages lines n
@@ -265,18 +265,18 @@ fails_in (Some m) max depth input messages lines rest word left old new known_so
 
 -- ---- the run
 
--- a claim on what is left, which was read ahead in part
+-- A claim on what is left, of which a part was read ahead.
 pub along : (ahead : List ℕ) (left : Option (List ℕ)) (P : List ℕ → Type 0) → IfRecorded left (λ rest. P (ahead ++ rest)) → IfRecorded (subsequent ahead left) P
 along ahead None P claim input is = cc
 along ahead (Some rest) P claim input is = let same : ahead ++ rest ≡ input = cc in subst P same (claim rest refl)
 
--- after some messages
+-- After some messages.
 abbrev pub Begun : ℕ → ℕ → List ℕ → ℕ → Option (List ℕ) → Option (List ℕ) → Option (List ℕ) → List ℕ → Type 0
 Begun max depth input count left old new held =
     (messages : List Frame) × (lines rest : List ℕ) × (length messages ≡ count) × All (IsWithin max) messages
     × LinesOf depth messages lines × (input ≡ octets_of messages ++ rest) × (left ≡ Some rest) × GrowsHolding old [] new held lines
 
--- the next message, of what is left
+-- The next message, of what is left.
 abbrev pub Next : ℕ → ℕ → Option (List ℕ) → Result Bool ToolFault → Option (List ℕ) → Option (List ℕ) → List ℕ → Option (List ℕ) → List ℕ → Type 0
 Next max depth before result left old held new now = IfRecorded before (λ input. ShowsNext max depth input result left old held new now)
 
@@ -317,7 +317,7 @@ ends max depth input count before left old mid held new now few (messages, lines
     let n = next rest known_input in
     (messages, lines, rest, reads, within, shown, omega arith, (n.0, n.1, holding_out old [] mid held new lines grows n.2))
 
--- a write failed in the line that is laid
+-- A write failed in the line that is appended.
 fails_as : (w : Option (List ℕ)) (max depth : ℕ) (input : List ℕ) (messages : List Frame) (lines rest after line word : List ℕ) (f : Frame) (left old new : Option (List ℕ)) → old ≡ w → word ≡ codes "Write" → length messages < 4294967295
     → All (IsWithin max) messages → LinesOf depth messages lines → input ≡ octets_of messages ++ rest → Begins max rest f after → LineOf depth f line → LeavesPart after left
     → GrowsByFront old new (lines ++ line)
@@ -353,7 +353,7 @@ fails_as (Some m) max depth input messages lines rest after line word f left old
     )
     leaves (let front_at = front m known_input in omega (arith, front_at.1)) front
 
--- a write failed within what is held
+-- A write failed within what is buffered.
 put_fails : (max depth : ℕ) (input : List ℕ) (messages : List Frame) (lines rest word : List ℕ) (left old mid : Option (List ℕ)) (held : List ℕ) (new : Option (List ℕ)) → word ≡ codes "Write"
     → length messages ≤ 4294967295 → All (IsWithin max) messages → LinesOf depth messages lines → input ≡ octets_of messages ++ rest → LeavesPart rest left → 0 < length held
     → GrowsHolding old [] mid held lines → GrowsByFront mid new held
@@ -384,17 +384,17 @@ stops max depth input count (Device word) before left old mid held new now few (
           (holding_front old [] mid held new lines n.3 grows n.7)
     ]
 
--- memory is wanting before the first message
+-- An allocation fails before the first message.
 pub none_begun : (max depth : ℕ) (input : List ℕ) (left written : Option (List ℕ)) → left ≡ Some input → Shows {T = Unit {0}} max depth input (Err Memory) left written written
 none_begun max depth input left written known_input =
     stops max depth input 0 Memory left left written written [] written [] (omega arith) (begins max depth input left written [] refl known_input) (λ rest is. (all_left rest left is, (λ octets same. same ∙ ap Some (sym (append-nil octets)))))
 
--- what was read ahead is taken
+-- What was read ahead is consumed.
 leaves_after : (ahead rest : List ℕ) (left : Option (List ℕ)) → subsequent ahead left ≡ Some rest → LeavesPart rest left
 leaves_after ahead rest None is = cc
 leaves_after ahead rest (Some others) is = let same : ahead ++ others ≡ rest = cc in (ahead, others, sym same, refl)
 
--- as many messages as the command shows
+-- The maximum number of messages.
 pub stops_full : (max depth : ℕ) (input : List ℕ) (count : ℕ) (r : Result (Unit {0}) ToolFault) (before left old mid : Option (List ℕ)) (held : List ℕ) (new : Option (List ℕ)) → count ≡ 4294967295
     → Begun max depth input count before old mid held → Grows mid new held → IfRecorded before (λ rest. IsEnded max rest r left)
     → Shows {T = Unit {0}} max depth input r left old new
@@ -420,7 +420,7 @@ stops_full max depth input count (Err (Device word)) before left old mid held ne
   ],
 )
 
--- a write failed once as many messages are shown
+-- A write failed after the maximum number of messages was shown.
 pub stops_full_unwritten : (max depth : ℕ) (input : List ℕ) (count : ℕ) (fault : ToolFault) (before left old mid : Option (List ℕ)) (held : List ℕ) (new : Option (List ℕ)) (ahead : List ℕ)
     → count ≡ 4294967295 → before ≡ subsequent ahead left → Begun max depth input count before old mid held → IsWrite fault → 0 < length held → GrowsByFront mid new held
     → Shows {T = Unit {0}} max depth input (Err fault) left old new

@@ -1,4 +1,4 @@
--- What `hsms show` writes of an input.
+-- What `hsms show` writes for an input.
 use Rattle.std.specs.Prelude.{◌≡◌, ◌≢◌, ◌<◌, ◌≤◌, ◌+◌, ◌⊎◌, ◌++◌, ℕ, List, [], ◌∷◌, All, length, take, codes, string_bytes, Bool, true, false, Option, Some, Result, Ok, Err}
 use Rattle.std.specs.List.{flat_map}
 use Rattle.hsms_frame.specs.declared.fault.ReadFault.{ReadFault}
@@ -13,38 +13,38 @@ use Rattle.cli_output.specs.LineBuffer.{GrowsHolding}
 use Rattle.cli_output.specs.IoErrors.{LeavesPart}
 use Rattle.cli_output.specs.Line.{LineOf}
 
--- a message whose header and text are within the limit
+-- Holds for a message whose header and text are within the limit.
 abbrev pub IsWithin : ℕ → Frame → Type 0
 IsWithin max f = IsFrame f × (10 + length f.text ≤ max)
 
--- the octets of messages, one after another
+-- The bytes of messages, one after another.
 abbrev pub octets_of : List Frame → List ℕ
 octets_of messages = flat_map frame_octets messages
 
--- the lines of messages, one after another
+-- The lines of messages, one after another.
 abbrev pub LinesOf : ℕ → List Frame → List ℕ → Type 0
 LinesOf depth [] lines = lines ≡ []
 LinesOf depth (f ∷ fs) lines = (first rest : List ℕ) × LineOf depth f first × LinesOf depth fs rest × (lines ≡ first ++ rest)
 
--- octets at which reading a message is refused: their length field is too small or too large, or they end within a
--- message; and the words for it
+-- The text for bytes that are not a message: their length field is too small or too large, or they end within a
+-- message.
 abbrev pub IsRefused : ℕ → List ℕ → List ℕ → Type 0
 IsRefused max octets words =
     (fault : ReadFault) × (left : Option (List ℕ)) × ReadsAs max octets (Err fault) left × (fault ≢ read.Memory) × (fault ≢ read.Read)
     × (words ≡ read_fault_text fault)
 
--- an input begins with a message, and these octets are behind it
+-- Holds if an input starts with a message, and these bytes follow it.
 abbrev pub Begins : ℕ → List ℕ → Frame → List ℕ → Type 0
 Begins max input f after = (input ≡ frame_octets f ++ after) × IsWithin max f
 
--- these lines were written, and then a part of one more, and not all of it
+-- Holds if these lines were written, and then an incomplete part of one more.
 abbrev pub GrowsThenByFront : Option (List ℕ) → Option (List ℕ) → List ℕ → List ℕ → Type 0
 GrowsThenByFront old new lines line =
     IfRecorded old (λ octets. (n : ℕ) × (n < length line) × (new ≡ Some (octets ++ lines ++ take n line)))
 
--- The answers of a device, where so many messages were shown, rest is what follows them in the input, and lines are
--- theirs: a read failed, and less than a whole message was taken of the rest; a write failed within the next line; or
--- one message more is there than the command shows.
+-- The I/O errors after `count` messages were shown; `rest` is what follows them in the input, and `lines` are their
+-- lines. A read failed, and less than a complete message of the rest was consumed; a write failed within the next line;
+-- or there is one more message than the command shows.
 abbrev pub StopsBy : ℕ → ℕ → ℕ → List ℕ → List ℕ → List ℕ → Option (List ℕ) → Option (List ℕ) → Option (List ℕ) → Type 0
 StopsBy max depth count rest lines word left old new =
     ((word ≡ codes "Read") × StopsWithin max rest left × Grows old new lines)
@@ -53,8 +53,8 @@ StopsBy max depth count rest lines word left old new =
     ⊎ ((word ≡ codes "Endless") × (count ≡ 4294967295) × (f : Frame) × (after : List ℕ) × Begins max rest f after
     × LeavesPart after left × Grows old new lines)
 
--- The answers, where so many messages were shown, rest is what follows them in the input, and lines are theirs: each
--- with what is left of the input, and with what was written before and is now.
+-- The results after `count` messages were shown; `rest` is what follows them in the input, and `lines` are their lines.
+-- Each has what is left of the input, and what was written before and is now.
 abbrev pub Stops : {T : Type 0} → ℕ → ℕ → ℕ → List ℕ → List ℕ → Result T ToolFault → Option (List ℕ) → Option (List ℕ)
     → Option (List ℕ) → Type 0
 Stops max depth count rest lines (Ok _) left old new = (rest ≡ []) × (left ≡ Some []) × Grows old new lines
@@ -63,8 +63,8 @@ Stops max depth count rest lines (Err (Refused words)) left old new =
 Stops max depth count rest lines (Err (Device word)) left old new = StopsBy max depth count rest lines word.now left old new
 Stops max depth count rest lines (Err Memory) left old new = LeavesPart rest left × Grows old new lines
 
--- The input begins with some messages, and their lines were written behind what was there before, up to where the run
--- stopped.
+-- Holds if the input starts with some messages, and their lines were appended to the earlier output, up to where the
+-- run stopped.
 abbrev pub Shows : {T : Type 0} → ℕ → ℕ → List ℕ → Result T ToolFault → Option (List ℕ) → Option (List ℕ) → Option (List ℕ)
     → Type 0
 Shows max depth input result left old new =
@@ -72,7 +72,7 @@ Shows max depth input result left old new =
     × LinesOf depth messages lines × (length messages ≤ 4294967295)
     × Stops max depth (length messages) rest lines result left old new
 
--- one message is read and its line held behind what is held, or none is left and what is held was written
+-- Holds if one message is read and its line is appended to the buffer, or there is none and the buffer was written.
 abbrev pub ShowsNext : ℕ → ℕ → List ℕ → Result Bool ToolFault → Option (List ℕ) → Option (List ℕ) → List ℕ → Option (List ℕ) → List ℕ → Type 0
 ShowsNext max depth input (Ok true) left old held new now =
     (f : Frame) × (after line : List ℕ) × Begins max input f after × LineOf depth f line × (left ≡ Some after)
@@ -87,7 +87,7 @@ ShowsNext max depth input (Err (Device word)) left old held new now =
     ⊎ ((word.now ≡ codes "Write") × (f : Frame) × (after line : List ℕ) × Begins max input f after × LineOf depth f line
     × LeavesPart after left × GrowsByFront old new (held ++ line))
 
--- nothing is left, or why that can't be said: one message more is there, or reading stopped
+-- Holds if nothing is left, or for why that is unknown: there is one more message, or reading stopped.
 abbrev pub IsEnded : ℕ → List ℕ → Result (Unit {0}) ToolFault → Option (List ℕ) → Type 0
 IsEnded max input (Ok _) left = (input ≡ []) × (left ≡ Some [])
 IsEnded max input (Err (Refused words)) left = IsRefused max input (string_bytes words) × LeavesPart input left

@@ -1,4 +1,4 @@
--- What `hsms show --hex` writes of an input: lines of hexadecimal, each of which spells a message.
+-- What `hsms show --hex` writes for an input: lines of hexadecimal, each of which is a message.
 use Rattle.std.specs.Prelude.{◌≡◌, ◌≢◌, ◌<◌, ◌≤◌, ◌+◌, ◌*◌, ◌⊎◌, ◌==◌, ◌||◌, ◌++◌, ℕ, Bool, true, false, List, [], ◌∷◌, length, take, slice_index, codes, decimal, string_bytes, if◌then◌else◌, Option, Some, None, Result, Ok, Err}
 use Rattle.std.specs.List.{flat_map}
 use Rattle.std.specs.Str.Lines.{strip_carriage_return}
@@ -16,13 +16,13 @@ use Rattle.cli_show.specs.Show.{IsWithin}
 use Rattle.cli_show.specs.declared.hex_lines.LineEnd.{LineEnd}
 use Rattle.cli_show.specs.declared.hex_lines.LineEnd.TheVariants.{Feed, Open, TooFar}
 
--- ---- the octets of a line
+-- ---- the bytes of a line
 
--- a space or a tab
+-- True for a space or a tab.
 abbrev pub is_blank : ℕ → Bool
 is_blank c = c == 32 || c == 9
 
--- the octet that two digits spell, in either case
+-- The byte in two digits, in either case.
 abbrev pub joined : Option ℕ → Option ℕ → Option ℕ
 joined (Some high) (Some low) = Some (high * 16 + low)
 joined (Some high) None = None
@@ -31,57 +31,57 @@ joined None low = None
 abbrev pub octet_of : ℕ → ℕ → Option ℕ
 octet_of high low = joined (hex_digit_value high) (hex_digit_value low)
 
--- octets behind others, where both are there
+-- A byte before others, if both exist.
 abbrev pub octet_and : Option ℕ → Option (List ℕ) → Option (List ℕ)
 octet_and (Some octet) (Some octets) = Some (octet ∷ octets)
 octet_and (Some octet) None = None
 octet_and None octets = None
 
--- the octets that a text spells: two digits each, with blanks before, between and behind them
+-- The bytes in a text: two digits each, with blanks before, between and after them.
 unfoldable pub decoded_octets : List ℕ → Option (List ℕ)
 decoded_octets [] = Some []
 decoded_octets (c ∷ []) = if is_blank c then Some [] else None
 decoded_octets (c ∷ d ∷ rest) =
     if is_blank c then decoded_octets (d ∷ rest) else octet_and (octet_of c d) (decoded_octets rest)
 
--- the octets of a line, which may end with a carriage return
+-- The bytes of a line, which may end with a carriage return.
 abbrev pub octets_of_line : List ℕ → Option (List ℕ)
 octets_of_line line = decoded_octets (strip_carriage_return line)
 
 -- ---- the message of a line
 
--- how many octets a line has at most, by the limit for header and text
+-- The maximum length of a line in bytes, by the limit for header and text.
 abbrev pub line_limit : ℕ → ℕ
 line_limit max = 4 * max + 64
 
--- the octets of a message: all, or those of header and text alone
+-- The bytes of a message: all, or those of header and text alone.
 abbrev pub message_octets : Bool → Frame → List ℕ
 message_octets false f = frame_octets f
 message_octets true f = header_octets f.header ++ f.text
 
--- octets are those of a message within the limit
+-- Holds if bytes are those of a message within the limit.
 abbrev pub IsMessageOf : Bool → ℕ → List ℕ → Frame → Type 0
 IsMessageOf bare max octets f = (octets ≡ message_octets bare f) × IsWithin max f
 
--- what is shown of the octets of a line: nothing where there are none, and else the line of their message
+-- What is shown of the bytes of a line: nothing if there are none, otherwise the line of their message.
 abbrev pub ShowsOctets : Bool → ℕ → ℕ → List ℕ → List ℕ → Type 0
 ShowsOctets bare max depth octets shown =
     ((octets ≡ []) × (shown ≡ [])) ⊎ ((f : Frame) × IsMessageOf bare max octets f × LineOf depth f shown)
 
--- what is shown of a line
+-- What is shown of a line.
 abbrev pub ShowsLine : Bool → ℕ → ℕ → List ℕ → List ℕ → Type 0
 ShowsLine bare max depth line shown =
     (octets : List ℕ) × (octets_of_line line ≡ Some octets) × ShowsOctets bare max depth octets shown
 
--- octets that are those of no message within the limit
+-- Holds for bytes that are not a message within the limit.
 abbrev pub IsNoMessage : Bool → ℕ → List ℕ → Type 0
 IsNoMessage bare max octets = (octets ≢ []) × ((f : Frame) → IsMessageOf bare max octets f → ⊥)
 
--- the words for a line that is refused
+-- The text for an invalid line.
 abbrev pub at_line : List ℕ → ℕ → List ℕ
 at_line word number = word ++ codes " line=" ++ decimal number
 
--- why a line is refused, in words: it spells no octets, or they are no message
+-- The text for why a line is invalid: it has no valid bytes, or they are not a message.
 abbrev pub IsRefusedLine : Bool → ℕ → ℕ → List ℕ → List ℕ → Type 0
 IsRefusedLine bare max number line words =
     ((octets_of_line line ≡ None) × (words ≡ at_line (codes "NoHex") number))
@@ -90,47 +90,47 @@ IsRefusedLine bare max number line words =
 
 -- ---- the lines of an input
 
--- lines, each with the line feed that ends it
+-- Lines, each with its line feed.
 abbrev pub ended : List (List ℕ) → List ℕ
 ended lines = flat_map (λ line. line ++ 10 ∷ []) lines
 
--- a line without a line feed, and no longer than a line may be
+-- Holds for a line without a line feed, within the maximum length of a line.
 abbrev pub IsLine : ℕ → List ℕ → Type 0
 IsLine max line = HasNone 10 line × (length line ≤ line_limit max)
 
--- what is shown of some lines
+-- What is shown of some lines.
 abbrev pub ShowsLines : Bool → ℕ → ℕ → List (List ℕ) → List ℕ → Type 0
 ShowsLines bare max depth [] shown = shown ≡ []
 ShowsLines bare max depth (line ∷ lines) shown =
     (first rest : List ℕ) × IsLine max line × ShowsLine bare max depth line first × ShowsLines bare max depth lines rest
     × (shown ≡ first ++ rest)
 
--- the first line of an input, whose end is a line feed or the end of the input
+-- The first line of an input. It ends at a line feed or at the end of the input.
 abbrev pub BeginsWithLine : ℕ → List ℕ → List ℕ → Type 0
 BeginsWithLine max input line = IsLine max line × ((input ≡ line) ⊎ ((after : List ℕ) × (input ≡ line ++ 10 ∷ after)))
 
--- an input begins with more octets than a line may have, and none of them is a line feed
+-- Holds if an input starts with more bytes than a line may have, and none of them is a line feed.
 abbrev pub IsTooFar : ℕ → List ℕ → Type 0
 IsTooFar max input = (front after : List ℕ) × (input ≡ front ++ after) × HasNone 10 front × (line_limit max < length front)
 
--- why an input is refused at its first line, which has this number, in words
+-- The text for why an input is invalid at its first line, which has this number.
 abbrev pub IsRefusedAt : Bool → ℕ → ℕ → List ℕ → List ℕ → Type 0
 IsRefusedAt bare max number input words =
     ((line : List ℕ) × BeginsWithLine max input line × IsRefusedLine bare max number line words)
     ⊎ (IsTooFar max input × (words ≡ at_line (codes "NoMessage") number))
 
--- a front of the input was taken, in which no line ends and which isn't too long for one
+-- Holds if a prefix of the input was consumed, in which no line ends and which is not too long for one.
 abbrev pub StopsInLine : ℕ → List ℕ → Option (List ℕ) → Type 0
 StopsInLine max input left = (taken rest : List ℕ) × (input ≡ taken ++ rest) × (left ≡ Some rest) × IsLine max taken
 
--- nothing, or what is shown of the first line of an input
+-- Nothing, or what is shown of the first line of an input.
 abbrev pub MayShow : Bool → ℕ → ℕ → List ℕ → List ℕ → Type 0
 MayShow bare max depth input more =
     (more ≡ []) ⊎ ((line : List ℕ) × BeginsWithLine max input line × ShowsLine bare max depth line more)
 
--- The answers where some lines were passed, the next one has this number, rest is what follows in the input, and shown is
--- what is shown of those lines: each with what is left of the input, and with what was written before and is now. Where
--- all is well, rest is the last line, which may be empty.
+-- The results after some lines were passed. The next line has this number, `rest` is what follows in the input, and
+-- `shown` is what is shown of the passed lines. Each has what is left of the input, and what was written before and is
+-- now. After success, `rest` is the last line, which may be empty.
 abbrev pub StopsAt : {T : Type 0} → Bool → ℕ → ℕ → ℕ → List ℕ → List ℕ → Result T ToolFault → Option (List ℕ)
     → Option (List ℕ) → Option (List ℕ) → Type 0
 StopsAt bare max depth number rest shown (Ok _) left old new =
@@ -144,8 +144,8 @@ StopsAt bare max depth number rest shown (Err (Device word)) left old new =
     ⊎ ((word.now ≡ codes "Endless") × (number ≡ 4294967296) × (rest ≢ []) × LeavesPart rest left × Grows old new shown)
 StopsAt bare max depth number rest shown (Err Memory) left old new = LeavesPart rest left × Grows old new shown
 
--- The input begins with some lines, and what is shown of them was written behind what was there before, up to where the
--- run stopped.
+-- Holds if the input starts with some lines, and what is shown of them was appended to the earlier output, up to where
+-- the run stopped.
 abbrev pub ShowsHex : {T : Type 0} → Bool → ℕ → ℕ → List ℕ → Result T ToolFault → Option (List ℕ) → Option (List ℕ) → Option (List ℕ)
     → Type 0
 ShowsHex bare max depth input result left old new =
@@ -154,13 +154,13 @@ ShowsHex bare max depth input result left old new =
 
 -- ---- the steps
 
--- where a line ends in octets: they have its line feed at a place, or none, or are too many for a line
+-- Where a line ends in bytes: they have its line feed at an index, or none, or are too many for a line.
 abbrev pub EndsAt : ℕ → List ℕ → LineEnd → Type 0
 EndsAt max octets (Feed n) = (n < length octets) × IsLine max (take n octets) × (slice_index octets n ≡ 10)
 EndsAt max octets Open = IsLine max octets
 EndsAt max octets TooFar = IsTooFar max octets
 
--- the same of the counts alone
+-- Where a line ends, by the counts alone.
 abbrev pub IsPlaced : ℕ → List ℕ → LineEnd → Type 0
 IsPlaced max octets (Feed n) = n < length octets
 IsPlaced max octets Open = length octets ≤ line_limit max
@@ -171,7 +171,7 @@ is_open (Feed n) = false
 is_open Open = true
 is_open TooFar = false
 
--- the next line of an input ends in what was read ahead, or, where no end is there, the input ends
+-- Holds if the next line of an input ends in what was read ahead, or the input ends if the line has no end there.
 abbrev pub FindsEnd : ℕ → List ℕ → Result LineEnd ToolFault → List ℕ → Option (List ℕ) → Type 0
 FindsEnd max input (Ok end) ahead left =
     (rest : List ℕ) × (left ≡ Some rest) × (input ≡ ahead ++ rest) × EndsAt max ahead end × (end ≡ Open → rest ≡ [])
@@ -179,7 +179,7 @@ FindsEnd max input (Err (Refused words)) ahead left = ⊥
 FindsEnd max input (Err (Device word)) ahead left = (word.now ≡ codes "Read") × StopsInLine max input left
 FindsEnd max input (Err Memory) ahead left = LeavesPart input left
 
--- the same, where octets were held on their way to a sink
+-- Holds if the next line's end is searched for while bytes are buffered before a sink.
 abbrev pub FindsEndHolding : ℕ → List ℕ → Result LineEnd ToolFault → List ℕ → Option (List ℕ) → Option (List ℕ) → List ℕ
     → Option (List ℕ) → List ℕ → Type 0
 FindsEndHolding max input (Ok end) ahead left old held new now =
@@ -190,23 +190,23 @@ FindsEndHolding max input (Err (Device word)) ahead left old held new now =
     ⊎ ((word.now ≡ codes "Write") × LeavesPart input left × GrowsByFront old new held)
 FindsEndHolding max input (Err Memory) ahead left old held new now = LeavesPart input left × Grows old new held
 
--- a line spells no octets, or memory is wanting
+-- Holds if a line has no valid bytes, or an allocation failed.
 abbrev pub IsNoHex : ℕ → List ℕ → ToolFault → Type 0
 IsNoHex number line (Refused words) = (octets_of_line line ≡ None) × (string_bytes words ≡ at_line (codes "NoHex") number)
 IsNoHex number line (Device word) = ⊥
 IsNoHex number line Memory = Unit {0}
 
--- a fault that is no device's
+-- Holds for an error that is not an I/O error.
 abbrev pub IsNoDevice : ToolFault → Type 0
 IsNoDevice (Refused words) = Unit {0}
 IsNoDevice (Device word) = ⊥
 IsNoDevice Memory = Unit {0}
 
--- what was held is written and this is the fault still, or a write failed
+-- Holds if the buffer is written and the error is unchanged, or a write failed.
 abbrev pub IsStoppedBy : ToolFault → ToolFault → Option (List ℕ) → List ℕ → Option (List ℕ) → Type 0
 IsStoppedBy fault result old held new = ((result ≡ fault) × Grows old new held) ⊎ (IsWrite result × GrowsByFront old new held)
 
--- nothing is left, or why that can't be said: the input goes on, or reading stopped
+-- Holds if nothing is left, or for why that is unknown: the input continues, or reading stopped.
 abbrev pub IsAllRead : List ℕ → Result (Unit {0}) ToolFault → Option (List ℕ) → Type 0
 IsAllRead input (Ok _) left = (input ≡ []) × (left ≡ Some [])
 IsAllRead input (Err (Refused words)) left = ⊥
@@ -214,8 +214,8 @@ IsAllRead input (Err (Device word)) left =
     ((word.now ≡ codes "Read") × (left ≡ Some input)) ⊎ ((word.now ≡ codes "Endless") × (input ≢ []) × LeavesPart input left)
 IsAllRead input (Err Memory) left = LeavesPart input left
 
--- what is shown of a line was laid behind what is held, or what is held was written and the line is refused, or memory
--- was wanting, or a write failed within what is held and is shown
+-- Holds if what is shown of a line was appended to the buffer; or the buffer was written and the line is invalid, or an
+-- allocation failed; or a write failed within the buffer and what is shown.
 abbrev pub AppendsShown : (List ℕ → Type 0) → (List ℕ → Type 0) → Result (Unit {0}) ToolFault → Option (List ℕ) → List ℕ
     → Option (List ℕ) → List ℕ → Type 0
 AppendsShown Shown IsWhy (Ok _) old held new now = (shown : List ℕ) × Shown shown × GrowsHolding old held new now shown
@@ -224,7 +224,7 @@ AppendsShown Shown IsWhy (Err (Device word)) old held new now =
     (word.now ≡ codes "Write") × (more : List ℕ) × ((more ≡ []) ⊎ Shown more) × GrowsByFront old new (held ++ more)
 AppendsShown Shown IsWhy (Err Memory) old held new now = Grows old new held
 
--- one line is read and what is shown of it held behind what is held, or the run stops
+-- Holds if one line is read and what is shown of it is appended to the buffer, or the run stops.
 abbrev pub ShowsNextLine : Bool → ℕ → ℕ → ℕ → List ℕ → Result Bool ToolFault → Option (List ℕ) → Option (List ℕ) → List ℕ
     → Option (List ℕ) → List ℕ → Type 0
 ShowsNextLine bare max depth number input (Ok true) left old held new now =

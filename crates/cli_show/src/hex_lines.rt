@@ -14,19 +14,19 @@ use hsms_frame::{Ahead, Sink, Source};
 use memchr::memchr;
 use secs_text::Block;
 
-/// Where a line ends in octets.
+/// Where a line ends in bytes.
 #[derive(Clone, Copy)]
 pub enum LineEnd {
-    /// Its line feed is at this place.
+    /// Its line feed is at this index.
     Feed(usize),
     /// They have no line feed.
     Open,
-    /// They have no line feed where a line may have one.
+    /// They have no line feed within the maximum length of a line.
     TooFar,
 }
 
-/// Where the next line ends in what was read ahead; `Open` only where the input ends. Lines that are held are written
-/// before more is read. A line has at most four times `max` and 64 octets.
+/// Returns where the next line ends in what was read ahead. Returns `Open` only at the end of the input. Writes the
+/// buffered lines before it reads more. A line has at most four times `max` and 64 bytes.
 pub fn next_end<R: Source, W: Sink>(
     source: &mut R,
     sink: &mut W,
@@ -53,7 +53,7 @@ pub fn next_end<R: Source, W: Sink>(
     }
 }
 
-// Reads more until the line ends. What was there before isn't looked at again.
+// Reads more until the line ends. Does not check the earlier bytes again.
 #[inline(never)]
 fn read_to_end<R: Source>(
     source: &mut R,
@@ -90,7 +90,7 @@ fn is_to_be_read(end: LineEnd) -> bool
     }
 }
 
-// Where a line ends in octets, of which so many have no line feed.
+// Returns where a line ends in bytes, of which the first `seen` have no line feed.
 #[inline(always)]
 fn end_in(octets: &[u8], seen: usize, max: u32) -> LineEnd
     requires { seen ≤ length octets.now }
@@ -107,7 +107,7 @@ fn end_in(octets: &[u8], seen: usize, max: u32) -> LineEnd
     }
 }
 
-// The place of the first line feed, or the end.
+// Returns the index of the first line feed, or the end.
 #[inline(always)]
 fn place_of_feed(octets: &[u8], seen: usize) -> usize
     requires { seen ≤ length octets.now }

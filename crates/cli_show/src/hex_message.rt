@@ -1,4 +1,4 @@
-//! The octets that a line of hexadecimal spells, and their message.
+//! The bytes in a line of hexadecimal, and their message.
 
 ghost use Rattle.std.specs.Prelude.{◌≡◌, ◌∷◌, ◌^◌, ◌<◌, ◌++◌, ℕ, List, IfOk, IfSome, None, Ok, Some, length, option_map, true};
 ghost use Rattle.std.specs.Int.{w32, to_be_bytes};
@@ -11,7 +11,7 @@ use cli_options::Form;
 use hsms_frame::Header;
 use std::alloc::{AllocError, Global};
 
-/// The octets that a text spells: two digits each, with spaces and tabs before, between and behind them.
+/// Returns the bytes in a text: two digits each, with spaces and tabs before, between and after them.
 pub fn octets_in(alloc: Global, text: &[u8]) -> Result<Option<Vec<u8>>, AllocError>
     ensures { IfOk result (λ found. option_map (λ octets. octets.items) found ≡ decoded_octets text.now) }
 {
@@ -37,7 +37,7 @@ fn is_space(octet: u8) -> bool
     octet == b' ' || octet == b'\t'
 }
 
-// The octet that the first two digits of a text spell, and what follows them.
+// Returns the byte in the first two digits of a text, and what follows them.
 fn octet_at_front(text: &[u8]) -> Option<(u8, &[u8])>
     ensures some { IfSome result (λ x. (high low : ℕ) × (text.now ≡ high ∷ low ∷ x.1.now) × (octet_of high low ≡ Some x.0)) }
     ensures none { result ≡ None → (high low : ℕ) (rest : List ℕ) → text.now ≡ high ∷ low ∷ rest → octet_of high low ≡ None }
@@ -48,7 +48,7 @@ fn octet_at_front(text: &[u8]) -> Option<(u8, &[u8])>
     }
 }
 
-// The value of a digit, in either case.
+// Returns the value of a digit, in either case.
 fn digit(octet: u8) -> Option<u8>
     ensures { result ≡ hex_digit_value octet }
 {
@@ -60,8 +60,8 @@ fn digit(octet: u8) -> Option<u8>
     }
 }
 
-/// The header and the text of the message that octets are, which is within the limit for both together. Those of bare
-/// lines are header and text alone, without the four octets that count them.
+/// Returns the header and the text of the message in the bytes, which is within the limit for both together. The bytes
+/// of bare lines are header and text alone, without the four length bytes.
 pub fn message_of(octets: &[u8], max: u32, form: Form) -> Option<(Header, &[u8])>
     ensures some { IfSome result (λ m. IsMessageOf (is_bare form) max octets.now (record { header = m.0; text = m.1.now })) }
     ensures none { result ≡ None → (f : Frame) → IsMessageOf (is_bare form) max octets.now f → ⊥ }
@@ -72,7 +72,7 @@ pub fn message_of(octets: &[u8], max: u32, form: Form) -> Option<(Header, &[u8])
     }
 }
 
-// What stands behind the four octets that count it.
+// Returns what follows the four length bytes, if they count it.
 fn after_length_field(octets: &[u8]) -> Option<&[u8]>
     ensures some { IfSome result (λ rest. octets.now ≡ to_be_bytes w32 (length rest.now) ++ rest.now) }
     ensures none { result ≡ None → (rest : List ℕ) → length rest < 2 ^ 32
@@ -86,7 +86,7 @@ fn after_length_field(octets: &[u8]) -> Option<&[u8]>
     }
 }
 
-// Ten octets of header, and the text behind them.
+// Returns the ten bytes of header, and the text after them.
 fn header_and_text(octets: &[u8], max: u32) -> Option<(Header, &[u8])>
     ensures some { IfSome result (λ m. IsMessageOf true max octets.now (record { header = m.0; text = m.1.now })) }
     ensures none { result ≡ None → (f : Frame) → IsMessageOf true max octets.now f → ⊥ }

@@ -1,4 +1,4 @@
-//! Messages in notation: those that octets hold, and those that lines of hexadecimal digits spell.
+//! Messages in notation: those in bytes, and those in lines of hexadecimal digits.
 //!
 //! ```
 //! show(alloc, &mut source, &mut sink, 16_777_216, 100)?;

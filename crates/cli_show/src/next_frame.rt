@@ -14,8 +14,8 @@ use hsms_frame::{Ahead, AheadFault, FrameFault, Header, Sink, Source, front};
 use secs_text::Block;
 use std::alloc::Global;
 
-/// The header and the size of the text of a message that is there whole at the front of octets. There is none where less
-/// than that is there, or a fault.
+/// Returns the header and the text size of the complete message at the start of the bytes. Returns `None` if the
+/// message is incomplete or invalid.
 #[inline(always)]
 pub fn whole_front(octets: &[u8], max: u32) -> Option<(Header, usize)>
     ensures { IfSome result (λ message. IsFrontOf max octets.now message.0 message.1) }
@@ -26,7 +26,7 @@ pub fn whole_front(octets: &[u8], max: u32) -> Option<(Header, usize)>
     }
 }
 
-/// As `next_message`, where lines are held: they are written before more is read.
+/// Reads as `next_message` does, while lines are buffered. Writes them before it reads more.
 #[inline(never)]
 pub fn read_while_held<R: Source, W: Sink>(
     alloc: Global,
@@ -53,8 +53,8 @@ pub fn read_while_held<R: Source, W: Sink>(
     }
 }
 
-/// The header of the next message, and how many octets its text has; None at the end of the input. The message then
-/// stands whole at the front of what was read ahead. More is read only where it didn't yet.
+/// Returns the header of the next message, and the size of its text in bytes. Returns `None` at the end of the input.
+/// The complete message is then at the start of what was read ahead. Reads more only if it was not yet.
 #[inline(never)]
 pub fn next_message<R: Source>(
     alloc: Global,
@@ -82,8 +82,8 @@ pub fn next_message<R: Source>(
     found_result(alloc, found)
 }
 
-/// Reads more octets behind the others, and says whether there were any: none only at the end of the input. The read
-/// may wait, so no lines are held then.
+/// Reads and appends more bytes. Returns false only at the end of the input. The read may wait, so no lines are
+/// buffered then.
 pub fn read_more<R: Source>(
     ahead: &mut Ahead,
     source: &mut R,
@@ -108,7 +108,7 @@ pub fn read_more<R: Source>(
     }
 }
 
-// Whether neither a message nor a fault is there.
+// Returns true if neither a message nor an error was found.
 #[inline(always)]
 fn is_to_be_read(found: &Result<Option<(Header, usize)>, FrameFault>) -> bool
     ensures { result ≡ is_open found.now }
@@ -119,7 +119,7 @@ fn is_to_be_read(found: &Result<Option<(Header, usize)>, FrameFault>) -> bool
     }
 }
 
-// The answer where the input ends.
+// Returns the result at the end of the input.
 fn at_end(alloc: Global, octets: &[u8]) -> Result<Option<(Header, usize)>, ToolFault>
     ensures ends { EndsAs octets.now result }
     ensures word { IfErr result (HasWord (codes "Read")) }

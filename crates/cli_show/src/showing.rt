@@ -1,4 +1,4 @@
-//! `hsms show`: messages in octets, as lines.
+//! `hsms show`: messages in bytes, as lines.
 
 ghost use Rattle.std.specs.Prelude.{◌≡◌, ◌≤◌, ◌+◌, ◌++◌, [], IfOk, IfErr, OnOk, codes, drop, length, take, if◌then◌else◌};
 ghost use Rattle.hsms_frame.specs.CallCounts.{count_failure, next_count};
@@ -15,20 +15,20 @@ use hsms_frame::{Ahead, Header, Sink, Source};
 use secs_text::Block;
 use std::alloc::Global;
 
-/// Writes the line of each message of the input, in order, up to the end of the input or the first fault.
+/// Writes the line of each message of the input, in order, up to the end of the input or the first error.
 ///
-/// `max` is the greatest count of octets of header and text of a message. A data message is shown in notation where its
-/// text is empty or one item whose lists are nested at most `depth` deep, and else with its text in hexadecimal. The
-/// source is read in blocks: of a fault other than a failed read, octets behind the messages that are shown may be
-/// taken.
+/// `max` is the maximum number of bytes of header and text of a message. A data message is shown in notation if its
+/// text is empty or one item whose lists are nested at most `depth` levels deep. Otherwise its text is shown in
+/// hexadecimal. The source is read in blocks: after an error other than a failed read, bytes after the shown messages
+/// may be consumed.
 ///
 /// # Errors
 ///
-/// - `Refused`, where the input isn't messages: `TooShort`, `TooLong` or `CutOff`. The lines of the messages before are
+/// - `Refused`, if the input is not messages: `TooShort`, `TooLong` or `CutOff`. The lines of the messages before are
 ///   written.
-/// - `Device`: `Read` or `Write`, where a device failed in this call, and `Endless`, where 4,294,967,295 messages are
-///   shown and one more is there. After a failed write a part of the next line may be written. After a failed read all
-///   messages that were taken whole are shown.
+/// - `Device`: `Read` or `Write`, if a read or write failed in this call. `Endless`, if 4,294,967,295 messages are
+///   shown and there is one more. After a failed write a part of the next line may be written. After a failed read all
+///   messages that were read completely are shown.
 /// - `Memory`. The lines of the messages before are written.
 pub fn show<R: Source, W: Sink>(
     alloc: Global,
@@ -40,7 +40,7 @@ pub fn show<R: Source, W: Sink>(
     requires { depth ≤ 100 }
     ensures lines { IfRecorded (R.state source.old).left (λ input. Shows max depth input result
         (R.state source.new).left (W.state sink.old).written (W.state sink.new).written) }
-    // Where the source doesn't tell its octets, its end was found once all the same.
+    // If the source does not record its bytes, its end was still found once.
     ensures end { OnOk result ((R.state source.new).ends ≡ next_count (R.state source.old).ends) }
     ensures word { IfErr result IsReadWriteOrEndless }
     ensures reads { CountsFailure (codes "Read") result (R.state source.old).failures (R.state source.new).failures }
@@ -57,7 +57,7 @@ pub fn show<R: Source, W: Sink>(
     find_end(alloc, source, &mut ahead, &held, max)
 }
 
-// Looks for the end of the input, where as many messages are shown as the command shows.
+// Checks for the end of the input, after the maximum number of messages was shown.
 fn find_end<R: Source>(
     alloc: Global,
     source: &mut R,
@@ -78,7 +78,7 @@ fn find_end<R: Source>(
     Err(ToolFault::Device("Endless"))
 }
 
-// Shows one message, if there is one. Its line is held. What is held is written only before more is read.
+// Shows one message, if there is one. Its line is buffered, and the buffer is written only before more is read.
 #[inline(always)]
 fn show_next<R: Source, W: Sink>(
     alloc: Global,
@@ -105,7 +105,7 @@ fn show_next<R: Source, W: Sink>(
     Ok(true)
 }
 
-// The same, where more is to be read first.
+// Shows one message, if more must be read first.
 #[inline(never)]
 fn show_read<R: Source, W: Sink>(
     alloc: Global,
@@ -132,7 +132,7 @@ fn show_read<R: Source, W: Sink>(
     Ok(true)
 }
 
-// Lays the line of the message at the front of what was read ahead, and passes the message.
+// Appends the line of the message at the start of what was read ahead, and passes the message.
 #[inline(always)]
 fn append_prefix<W: Sink>(
     sink: &mut W,

@@ -18,22 +18,21 @@ use hsms_frame::{Ahead, Sink, Source};
 use secs_text::Block;
 use std::alloc::Global;
 
-/// Writes the line of each message of the input, in order, up to the end of the input or the first fault. Each line of
+/// Writes the line of each message of the input, in order, up to the end of the input or the first error. Each line of
 /// the input is one message in hexadecimal digits of either case, or nothing.
 ///
-/// A line ends with LF or CR LF, the last one may lack it, and spaces and tabs may stand before, between and behind its
-/// octets. Where the form is `BareLines`, lines are of header and text alone, without the four octets that count them.
-/// `max` and `depth` are as for [`show`](crate::show). A line has at most four times `max` and 64 octets, and no more of
-/// the input is held than it and a block.
+/// A line ends with LF or CR LF, which the last one may lack. Spaces and tabs may be before, between and after its
+/// bytes. With the form `BareLines`, lines are of header and text alone, without the four length bytes. `max` and
+/// `depth` are as for [`show`](crate::show). A line has at most four times `max` and 64 bytes, and no more of the input
+/// is buffered than a line and a block.
 ///
 /// # Errors
 ///
-/// - `Refused`, where a line spells no octets (`NoHex`), or its octets are not exactly one message within `max`, or it
-///   is too long (`NoMessage`), with the number of the line, counted from 1. The lines of the messages before are
-///   written.
-/// - `Device`: `Read` or `Write`, where a device failed in this call, and `Endless`, where 4,294,967,295 lines are
-///   passed and the input goes on. After a failed write a part of the next line may be written. After a failed read all
-///   messages whose lines were taken whole are shown.
+/// - `Refused`, if a line has no valid bytes (`NoHex`), or its bytes are not exactly one message within `max`, or it is
+///   too long (`NoMessage`), with the number of the line, counted from 1. The lines of the messages before are written.
+/// - `Device`: `Read` or `Write`, if a read or write failed in this call. `Endless`, if 4,294,967,295 lines are passed
+///   and the input continues. After a failed write a part of the next line may be written. After a failed read all
+///   messages whose lines were read completely are shown.
 /// - `Memory`. The lines of the messages before are written.
 pub fn show_hex<R: Source, W: Sink>(
     alloc: Global,
@@ -45,7 +44,7 @@ pub fn show_hex<R: Source, W: Sink>(
     ensures lines { IfRecorded (R.state source.old).left
         (λ input. ShowsHex (is_bare showing.form) showing.max showing.depth input result
         (R.state source.new).left (W.state sink.old).written (W.state sink.new).written) }
-    // Where the source doesn't tell its octets, its end was found once all the same.
+    // If the source does not record its bytes, its end was still found once.
     ensures end { OnOk result ((R.state source.new).ends ≡ next_count (R.state source.old).ends) }
     ensures word { IfErr result IsReadWriteOrEndless }
     ensures reads { CountsFailure (codes "Read") result (R.state source.old).failures (R.state source.new).failures }
@@ -63,7 +62,7 @@ pub fn show_hex<R: Source, W: Sink>(
     find_end(source, &mut ahead, &held)
 }
 
-// Looks for the end of the input, where as many lines are passed as the command passes.
+// Checks for the end of the input, after the maximum number of lines was passed.
 fn find_end<R: Source>(source: &mut R, ahead: &mut Ahead, held: &Block) -> Result<(), ToolFault>
     requires { held.now ≡ [] }
     ensures answer { IfRecorded (R.state source.old).left
@@ -81,7 +80,8 @@ fn find_end<R: Source>(source: &mut R, ahead: &mut Ahead, held: &Block) -> Resul
     Ok(())
 }
 
-// Shows the next line, and says whether one may follow it. What is shown is held, and written where the input ends.
+// Shows the next line, and returns whether one may follow it. What is shown is buffered, and written at the end of the
+// input.
 #[inline(always)]
 fn show_next<R: Source, W: Sink>(
     alloc: Global,
@@ -123,7 +123,7 @@ fn show_next<R: Source, W: Sink>(
     }
 }
 
-// Lays what is shown of a line behind what is held. Where the line is refused, what is held is written.
+// Appends what is shown of a line to the buffer. If the line is invalid, the buffer is written.
 fn append_shown<W: Sink>(
     alloc: Global,
     sink: &mut W,
@@ -145,7 +145,7 @@ fn append_shown<W: Sink>(
     }
 }
 
-// The same by the octets of the line.
+// Appends what is shown of the line's bytes to the buffer.
 fn append_octets<W: Sink>(
     alloc: Global,
     sink: &mut W,
@@ -170,7 +170,7 @@ fn append_octets<W: Sink>(
     }
 }
 
-// Writes what is held, and gives the fault for which the command stops: this one, or that of the write.
+// Writes the buffer, and returns the error for which the command stops: this one, or that of the write.
 fn stop<W: Sink>(sink: &mut W, held: &mut Block, fault: ToolFault) -> ToolFault
     requires { IsNoDevice fault }
     ensures stops { IsStoppedBy fault result (W.state sink.old).written held.old (W.state sink.new).written }
@@ -184,7 +184,7 @@ fn stop<W: Sink>(sink: &mut W, held: &mut Block, fault: ToolFault) -> ToolFault
     }
 }
 
-// The octets of a line, which may end with a carriage return.
+// Returns the bytes of a line, which may end with a carriage return.
 fn octets_of_line(alloc: Global, line: &[u8], number: u32) -> Result<Vec<u8>, ToolFault>
     ensures ok { IfOk result (λ octets. octets_of_line line.now ≡ Some octets.items) }
     ensures err { IfErr result (IsNoHex number line.now) }
@@ -199,7 +199,7 @@ fn octets_of_line(alloc: Global, line: &[u8], number: u32) -> Result<Vec<u8>, To
     Ok(octets)
 }
 
-// The refusal of a line, or want of memory for its words.
+// Returns the error for an invalid line, or `Memory` if its text cannot be allocated.
 fn line_refusal(alloc: Global, word: &str, number: u32) -> ToolFault
     ensures { IsRefusedAs (at_line word.now number) result }
 {

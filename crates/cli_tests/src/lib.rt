@@ -1,5 +1,5 @@
-//! What the command writes of an input: tests of `cli_filters` and `cli_explain`, in a crate of their own, since a crate is
-//! proved once more with its tests.
+//! Tests of the output of the command: of `cli_filters` and `cli_explain`. They are in a crate of their own because a
+//! crate is proved once more with its tests.
 #![tactic(auto)]
 
 #[cfg(test)]

@@ -16,9 +16,9 @@ use std::process::Abort;
 
 const SELECT: [u8; 14] = *b"\x00\x00\x00\x0a\xff\xff\x00\x00\x00\x01\x00\x00\x00\x01";
 
-// What comes of a run, in the words of `Debug`. What was written is asked of the store that it was written to. So little
-// is owned where they are looked at, and the one fault that a test hands up is want of memory: with a fault of a test,
-// which holds a text, the check takes several times as long.
+// The result of a run, as `Debug` text. The output is read from the store to which it was written. So little is owned
+// when both are checked. The only error that a test returns is a failed allocation: with a test error, which holds a
+// text, the check takes several times as long.
 type Outcome = InlineText<96>;
 
 const DONE: &str = "Ok(())";
@@ -29,14 +29,14 @@ fn outcome_of(answer: Result<(), ToolFault>) -> Outcome {
     InlineText::of(format_args!("{answer:?}"))
 }
 
-// A store with room for so many octets, that takes so many a call and fails after so many calls.
+// Creates a store with a capacity of `room` bytes. It takes at most `piece` bytes a call, and fails after `fuse` calls.
 fn store_of(alloc: Global, room: usize, piece: usize, fuse: u64) -> Result<Store, AllocError>
     requires { 0 < piece }
 {
     Ok(Store::new(vec![in alloc; 0u8; room]?, piece, fuse))
 }
 
-// An input that gives so many octets a call, and fails after so many calls.
+// Creates an input that returns at most `piece` bytes a call, and fails after `fuse` calls.
 fn feed_of(alloc: Global, input: &[u8], piece: usize, fuse: u64) -> Result<Feed, AllocError>
     requires { 0 < piece }
 {
@@ -55,7 +55,7 @@ fn shown(
     Ok(outcome_of(show(alloc, &mut source, sink, 1048576, 32)))
 }
 
-// An assertion stands in a function of its own, since it is proved in a tenth of the time there.
+// An assertion is in a function of its own, because it is proved in a tenth of the time there.
 
 fn assert_so(rt: &impl Abort, is_so: bool, name: &str) {
     assert!(rt; is_so, "{name}");
@@ -65,7 +65,7 @@ fn assert_octets(rt: &impl Abort, octets: &[u8], want: &[u8], name: &str) {
     assert_so(rt, octets == want, name);
 }
 
-// This comes of a run, and this is written. Want of memory is handed up.
+// Asserts this result of a run and this output. Returns an error if an allocation failed.
 fn judge(
     rt: &impl Abort,
     outcome: Outcome,
@@ -97,7 +97,7 @@ fn check_shown(
     judge(rt, outcome, &sink, want, lines.as_bytes(), lines)
 }
 
-// Messages, and their lines.
+// Messages and their lines.
 const KINDS: &[(&[u8], &str)] = &[
     (&SELECT, "select.req ffff 00000001\n"),
     (
@@ -134,7 +134,7 @@ const KINDS: &[(&[u8], &str)] = &[
     ),
 ];
 
-// A message is shown in one piece, three octets a call, and one.
+// Checks that a message is shown with one byte, three bytes and all bytes a call.
 fn check_kind(rt: &impl Abort, alloc: Global, octets: &[u8], line: &str) -> Result<(), AllocError> {
     check_shown(rt, alloc, octets, 1, DONE, line)?;
     check_shown(rt, alloc, octets, 3, DONE, line)?;
@@ -174,19 +174,19 @@ const TWO: &[u8] = b"\x00\x00\x00\x0a\xff\xff\x00\x00\x00\x01\x00\x00\x00\x01\
 
 const TWO_LINES: &str = "select.req ffff 00000001\ndata 0000 00000001 S1F13 W <L [0]> .\n";
 
-// The fault and each line; or want of memory, and whole lines.
+// Asserts the error and each line; or a failed allocation and complete lines.
 fn assert_lines(rt: &impl Abort, outcome: Outcome, written: &[u8]) {
     if outcome.as_str() == TOO_SHORT {
         assert_octets(rt, written, TWO_LINES.as_bytes(), "each line");
     } else {
         let count = written.len();
-        assert_so(rt, outcome.as_str() == WANT_OF_MEMORY, "want of memory");
+        assert_so(rt, outcome.as_str() == WANT_OF_MEMORY, "out of memory");
         assert_so(rt, count == 0 || count == 25 || count == 62, "a line");
         assert_so(rt, TWO_LINES.as_bytes().starts_with(written), "whole lines");
     }
 }
 
-// Where its own input is refused, this test has nothing to say.
+// If the allocation of its own input fails, this test checks nothing.
 #[test]
 fn refused_lines(rt: HostRuntime) {
     let Ok(mut sink) = store_of(rt.alloc(), 256, 4096, u64::MAX) else {

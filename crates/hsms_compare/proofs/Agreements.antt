@@ -18,7 +18,7 @@ use Rattle.hsms_compare.proofs.Merges.{between-swap}
 use Rattle.hsms_compare.proofs.Numbered.{entries-numbered}
 use Rattle.hsms_compare.proofs.Histories.{agree_along, agree-swap, delivered-as, delivered-more, received-more, sent-append}
 
--- the log has no entry at i that can be merged with the other log
+-- The log has no entry at i that can be merged with the other log.
 abbrev pub IsStuck : List Entry → ℕ → List Entry → Type 0
 IsStuck log i other = IsDelivered other (take (i + 1) log) → length log ≤ i
 
@@ -52,7 +52,7 @@ stuck log i other (OtherSent k) (frame, another, n, r, s, apart) (rest, e) =
     let f = get_or_at (sent (take k other)) another (sent (drop (k + 1) other)) frame n (sym s.number) in
     sym f ∙ ap (λ x. get_or x n frame) (sym b ∙ a) ∙ c))
 
--- ---- no prefix that agrees goes further
+-- ---- no prefix that agrees is longer
 
 prefix_of_take : (xs b r : List Entry) (j : ℕ) → xs ≡ b ++ r → length b ≤ j → take j xs ≡ b ++ drop (length b) (take j xs)
 prefix_of_take xs b r j e le =
@@ -104,7 +104,7 @@ pub is_merge-swap : (end : Role) (merge : Merge) (own other : List Line) → IsM
 is_merge-swap Host merge own other s = between-swap merge.to_host merge.to_equipment own other s
 is_merge-swap Equipment merge own other s = between-swap merge.to_equipment merge.to_host own other s
 
--- both logs stop where they are
+-- Both logs stop here.
 pub merged : (host equipment : List Entry) (i j n : ℕ) (merge : Merge) (ours theirs : Stop) → i ≤ length host → j ≤ length equipment → IsMergeOf Equipment merge (numbered 0 (take j equipment)) (numbered 0 (take i host)) → j ≡ n → StopsAt host i (take n equipment) ours → StopsAt equipment j (take i host) theirs → AgreeUpTo host equipment i j
 merged host equipment i j n merge ours theirs within_host within_equipment s e h h' =
     let P : List Entry → Type 0 = λ x. Agree x (entries (numbered 0 (take i host))) in
@@ -113,7 +113,7 @@ merged host equipment i j n merge ours theirs within_host within_equipment s e h
     encounters host equipment i j within_host within_equipment (agree-swap (take j equipment) (take i host) agree)
     (stuck host i (take j equipment) ours (stops_as host equipment i j n ours e h)) (stuck equipment j (take i host) theirs h')
 
--- how many frames are lost
+-- The number of lost frames.
 pub lost_so : (own other : List Entry) (n : ℕ) → n + length (received (entries (numbered 0 own))) ≡ length (sent (entries (numbered 0 other))) → AreLost other own n
 lost_so own other n e =
     ap (λ x. n + length (received x)) (sym (entries-numbered 0 own)) ∙ e ∙ ap (λ x. length (sent x)) (entries-numbered 0 other)

@@ -1,4 +1,4 @@
--- Two ends that are joined by byte streams.
+-- Two endpoints that are connected by byte streams.
 use Rattle.std.proofs.Common.{◌≡◌, ◌++◌, ℕ, List, [], ◌∷◌, length, refl, sym, ◌∙◌, ap, subst, arith}
 use Rattle.std.proofs.lemmas.List.{append-nil, append_assoc, length-append}
 use Rattle.hsms_frame.specs.Frame.{Frame, frame_octets}
@@ -13,7 +13,7 @@ use Rattle.hsms_compare.proofs.Histories.{agree-empty, agree-many, agree-swap, r
 some_octets : (f : Frame) (z : List ℕ) → [] ≡ frame_octets f ++ z → ⊥
 some_octets f z e = let l = ap length e in let m = length-append (frame_octets f) z in omega arith
 
--- if the bytes of messages are a prefix of those of others, the messages are a prefix of the others
+-- If the bytes of messages are a prefix of those of others, the messages are a prefix of the others.
 prefix_of_octets : (xs ys : List Frame) (more : List ℕ) → AreMessages xs → AreMessages ys → octets_of ys ≡ octets_of xs ++ more → IsPrefix xs ys
 prefix_of_octets [] ys more fit fit_too e = (ys, refl)
 prefix_of_octets (x ∷ xs) [] more fit fit_too e = absurd (some_octets x (octets_of xs ++ more) (e ∙ append_assoc (frame_octets x) (octets_of xs) more))

@@ -15,7 +15,7 @@ use Rattle.hsms_compare.proofs.Merges.{sends_cases}
 
 -- ---- channels and order
 
--- of two prefixes of a list the shorter one is a prefix of the longer
+-- Of two prefixes of a list, the shorter one is a prefix of the longer one.
 prefix_of_prefix : (a b c : List Frame) → IsPrefix a c → IsPrefix b c → length a ≤ length b → IsPrefix a b
 prefix_of_prefix a b c (r, e) (s, f) le = (
   drop (length a) b,
@@ -73,7 +73,7 @@ channels_and_order host equipment = (
 
 -- ---- causes
 
--- a step is of the end or of the other one
+-- A step is of this endpoint or of the other one.
 its_log : (end own : Role) (e : Entry) → (own ≡ end) × (entry_of end own e ≡ e ∷ []) ⊎ (entry_of end own e ≡ [])
 its_log Host Host e = inl (refl, refl)
 its_log Host Equipment e = inr refl

@@ -11,7 +11,7 @@ use Rattle.hsms_compare.specs.Connections.{CanAgreeBefore, CanAgreeFirst, CanAgr
 
 -- ---- the first connection, entry by entry
 
--- up to i no later entry is an `up`
+-- Up to i no later entry is an `up`.
 pub record IsWithin (log : List Entry) (i : ℕ) : Type 0 where
   pub prefix : first_connection log ≡ take i log ++ until_up (drop i log)
   pub rest : later_connections log ≡ from_up (drop i log)
@@ -65,7 +65,7 @@ from_connection-add : (k m : ℕ) (log : List Entry) → from_connection (k + m)
 from_connection-add zero m log = ap (λ n. from_connection n log) (let e : 0 + m ≡ m = omega arith in e)
 from_connection-add (suc k) m log = ap (λ n. from_connection n log) (let e : suc k + m ≡ suc (k + m) = omega arith in e) ∙ from_connection-add k m (later_connections log)
 
--- what is left of both logs, after k connections that agree
+-- The remaining entries of both logs, after k connections that agree.
 pub record HasConsumed (host equipment host_left equipment_left : List Entry) : Type 0 where
   pub k : ℕ
   pub before : CanAgreeBefore k host equipment
@@ -91,7 +91,7 @@ contradicts_as a a' b b' x x' y y' found e f g h c =
     let S : List Entry → Type 0 = λ z. FirstContradiction a' b' x' z (Some found) in
     subst S h (subst R g (subst Q f (subst P e c)))
 
--- a log's first connection and what follows it, as they were split
+-- A log's first connection and what follows it, as they were split.
 pub record IsSplit (left part rest : List Entry) (may_go_on : Bool) : Type 0 where
   pub part_so : part ≡ first_connection left
   pub rest_so : rest ≡ later_connections left
@@ -142,7 +142,7 @@ all_consumed host equipment host_left equipment_left g none m some some_too =
       ]
     ]
 
--- what is left is what is after a position
+-- The remaining entries are those after a position.
 pub record IsAfter (log left : List Entry) : Type 0 where
   pub position : ℕ
   pub within : position ≤ length log

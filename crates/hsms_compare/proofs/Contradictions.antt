@@ -1,4 +1,4 @@
--- What contradicts where two logs no longer agree.
+-- The contradiction of two logs that no longer agree.
 use Rattle.std.proofs.Common.{◌≡◌, ◌++◌, ◌+◌, ◌<◌, ◌≤◌, ℕ, zero, suc, List, [], ◌∷◌, length, take, drop, get_or, refl, sym, ◌∙◌, ap, subst, inl, inr, arith}
 use Rattle.std.specs.Prelude.{◌⊎◌, ◌↔◌, ◌-◌, Bool, true, false, IsTrue}
 use Rattle.std.proofs.lemmas.List.{length-append, length-take, length-take-le, get_or-take, take-take, take-append-drop, drop_all, drop_more, take_rest, take_more, get_or-append-add, get_or-drop}
@@ -15,7 +15,7 @@ use Rattle.hsms_compare.specs.Agreement.{StopsAt, SendsAs, IsDifferent, IsUnsent
 use Rattle.hsms_compare.proofs.Histories.{sent-append}
 use Rattle.hsms_compare.proofs.Merges.{sends_cases, sends-later}
 
--- ---- what a log sends
+-- ---- the frames that a log sends
 
 sends-of_take : (log : List Entry) (j k : ℕ) (frame : Frame) (n : ℕ) → SendsAs (take j log) k frame n → SendsAs log k frame n
 sends-of_take log j k frame n s =
@@ -61,7 +61,7 @@ receives_silent (T3 system) frame e = refl
 receives_silent (Cut cause) frame e = refl
 receives_silent Down frame e = refl
 
--- ---- from why a log goes no further
+-- ---- derived from why a log goes no further
 
 pub stops_for : (log other : List Entry) (i : ℕ) (a b : Stop) → a ≡ b → StopsAt log i other a → StopsAt log i other b
 stops_for log other i a b e h =
@@ -96,7 +96,7 @@ none_more log i x there x_is none before =
     let h = ap (λ (y : Entry). length (sent_by y.event)) x_is in
     omega arith
 
--- the same of what is left of a slice after a position
+-- The same for the rest of a slice after a position.
 pub does_send : (xs : List Entry) (i : ℕ) (b : Bool) → b ≡ true → (IsTrue b ↔ (0 < length (sent (take (length xs - i) (drop i xs))))) → 0 < length (sent (drop i xs))
 does_send xs i b is h =
     let e = ap (λ x. length (sent x)) (take_rest xs i) in

@@ -1,4 +1,4 @@
--- The outcome of a request: it is one, and what is final stays.
+-- The outcome of a request: it is unique, and a final one does not change.
 use Rattle.std.proofs.Common.{◌≡◌, ◌++◌, ◌+◌, ◌-◌, ◌<◌, ℕ, List, [], ◌∷◌, length, take, drop, refl, sym, ◌∙◌, ap, subst, inl, inr, arith}
 use Rattle.std.specs.Prelude.{Some, None}
 use Rattle.std.proofs.lemmas.List.{length-append, take-take, take-append-le, take-append-drop, get_or_append_left}
@@ -18,7 +18,7 @@ use Rattle.hsms_compare.proofs.Agreements.{received-next}
 
 -- ---- one receipt of each number
 
--- a later receipt has a greater number
+-- A later receipt has a greater number.
 later_number : (log : List Entry) (i i' : ℕ) (f f' : Frame) (n n' : ℕ) → ReceivesAs log i f n → ReceivesAs log i' f' n' → i < i' → n < n'
 later_number log i i' f f' n n' r r' lt =
     let e : take (i + 1) (take i' log) ≡ take (i + 1) log = take-take (i + 1) i' log (omega arith) in
@@ -42,7 +42,7 @@ one_receipt log i i' f f' n n' r r' e =
       ]
     ]
 
--- a receipt has a number below how many there are
+-- A receipt's number is less than the number of receipts.
 within_all : (log : List Entry) (i : ℕ) (f : Frame) (n : ℕ) → ReceivesAs log i f n → n < length (received log)
 within_all log i f n r =
     let a = ap (λ x. length (received x)) (sym (take-append-drop (i + 1) log)) in
@@ -176,7 +176,7 @@ one_outcome own other j limit (Replied m k t i w) (ReplyNotReceived m' k' t') h 
 one_outcome own other j limit (Replied m k t i w) (Replied m' k' t' i' w') h g =
     let s = same_answer own j other m m' k k' t t' h.0 g.0 in let d : i ≡ i' = one_delivery other own k k' i i' s.1 h.2 g.2 in ap (λ x. Replied x k t i w) s.0 ∙ ap (λ x. Replied m' x t i w) s.1 ∙ ap (λ x. Replied m' k' x i w) s.2 ∙ ap (λ x. Replied m' k' t' x w) d ∙ ap (λ x. Replied m' k' t' i' x) (h.3 ∙ ap (λ x. time_between own j x) d ∙ sym g.3)
 
--- ---- what stays
+-- ---- facts that more entries do not change
 
 pub sends-more : (log more : List Entry) (k : ℕ) (f : Frame) (n : ℕ) → SendsAs log k f n → SendsAs (log ++ more) k f n
 sends-more log more k f n s =

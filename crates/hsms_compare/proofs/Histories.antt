@@ -73,7 +73,7 @@ agree-delivered host equipment g = (
   delivered-as (log_of Equipment g.history) equipment (log_of Host g.history) host (sym g.of_equipment) (sym g.of_host) (whole g.history g.possible Host),
 )
 
--- the host's next entry may follow, where it is delivered
+-- The host's next entry may follow if it is delivered.
 pub agree-host : (a b : List Entry) (e : Entry) → Agree a b → IsDelivered b (a ++ e ∷ []) → Agree (a ++ e ∷ []) b
 agree-host a b e g d =
     let s : Step = record { end = Host; entry = e } in
@@ -108,7 +108,7 @@ agree-many a b (e ∷ new) g d =
     let d' : IsDelivered b ((a ++ e ∷ []) ++ new) = delivered-as b b (a ++ (e ∷ new)) ((a ++ e ∷ []) ++ new) refl along d in
     subst P along (agree-many (a ++ e ∷ []) b new (agree-host a b e g (delivered-prefix b (a ++ e ∷ []) new d')) d')
 
--- ---- either end may be called the host
+-- ---- either endpoint may be taken as the host
 
 mirrored : Step → Step
 mirrored s = record { end = peer s.end; entry = s.entry }

@@ -21,7 +21,7 @@ use Rattle.hsms_compare.specs.Merge.{IsMergeOf, line_at}
 use Rattle.hsms_compare.specs.LineStops.{AreLineStops, IsLineStop, IsOffered, IsRead, line_of, pending}
 use Rattle.hsms_compare.proofs.Agreements.{IsStuck, is_merge-swap, encounters, stuck}
 
--- what is known between two lines
+-- The state between two lines.
 pub record HasRead (host equipment : List Line) (merge : Merge) (host_next equipment_next : Option NumberedEntry) (left_host left_equipment : List Line) : Type 0 where
   pub own : List Line
   pub other : List Line
@@ -42,7 +42,7 @@ offered_as own other end a b old offer new e h =
     let P : Option NumberedEntry → Type 0 = λ x. IsOffered own other end x old offer new in
     subst P (sym e) h
 
--- where it stops, the merge stays
+-- If a log stops, the merge does not change.
 pub stopped_same : (own other : List Line) (end : Role) (next : Option NumberedEntry) (old : Merge) (ending : LineStop) (new : Merge) → IsOffered own other end next old (Stopped ending) new → new ≡ old
 stopped_same own other end None old Done new h = h
 stopped_same own other end None old (Waits position) new h = absurd h
@@ -89,7 +89,7 @@ same_read host equipment old new host_next equipment_next left left' e h =
     let P : Merge → Type 0 = λ x. HasRead host equipment x host_next equipment_next left left' in
     subst P (sym e) h
 
--- ---- where both stop
+-- ---- both logs stop
 
 entries-split : (all own rest : List Line) → all ≡ own ++ rest → entries all ≡ entries own ++ entries rest
 entries-split all own rest e = ap entries e ∙ map-append (λ (one : Line). one.entry) own rest
@@ -178,12 +178,12 @@ pub smaller : (own other : List Line) (end : Role) (next next' : Option Numbered
 smaller own other end None next' old new left left' s f r = absurd (f own other s)
 smaller own other end (Some next) next' old new left left' s f r = let l = read_length left left' next' r in omega arith
 
--- the same offers to an equal merge
+-- The same offers to an equal merge.
 pub offers_from : (end : Role) (next : Option NumberedEntry) (old old' new : Merge) (a : Offered) → old ≡ old' → ((own other : List Line) → IsMergeOf end old own other → IsOffered own other end next old a new) → (own other : List Line) → IsMergeOf end old' own other → IsOffered own other end next old' a new
 offers_from end next old old' new a e f =
     let P : Merge → Type 0 = λ x. (own other : List Line) → IsMergeOf end x own other → IsOffered own other end next x a new in
     subst P e f
 
--- the host's log stops, so the merge is as it was
+-- The host's log stops, so the merge is unchanged.
 pub still : (host equipment : List Line) (old new : Merge) (host_next equipment_next : Option NumberedEntry) (left left' : List Line) (host_stop : LineStop) → HasRead host equipment old host_next equipment_next left left' → ((own other : List Line) → IsMergeOf Host old own other → IsOffered own other Host host_next old (Stopped host_stop) new) → new ≡ old
 still host equipment old new host_next equipment_next left left' host_stop h f = stopped_same h.own h.other Host host_next old host_stop new (f h.own h.other h.merged)

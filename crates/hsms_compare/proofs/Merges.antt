@@ -25,7 +25,7 @@ frames_of-sent_frame position (frame ∷ frames) = ap (λ x. frame ∷ x) (frame
 frames_of-append : (a b : List SentFrame) → frames_of (a ++ b) ≡ frames_of a ++ frames_of b
 frames_of-append a b = map-append (λ (one : SentFrame). one.frame) a b
 
--- the frames in flight are those that are sent
+-- The frames in flight are those that are sent.
 frames_of-sent_frame_of : (lines : List Line) → frames_of (sent_frames_of lines) ≡ sent (entries lines)
 frames_of-sent_frame_of [] = refl
 frames_of-sent_frame_of (line ∷ lines) =
@@ -46,7 +46,7 @@ sent_so sender receiver flight f =
     sym (frames_of-sent_frame_of sender) ∙ ap frames_of f.all ∙ frames_of-append f.arrived flight
     ∙ ap (λ x. x ++ frames_of flight) f.received_so
 
--- ---- what a line does to it
+-- ---- the effect of a line on the frames in flight
 
 coming-more : (sender receiver : List Line) (line : Line) (old arrived new : List SentFrame) → AreInFlight sender receiver old → old ≡ arrived ++ new → frames_of arrived ≡ received_by line.entry.event → AreInFlight sender (receiver ++ line ∷ []) new
 coming-more sender receiver line old arrived new f split here = record {
@@ -67,7 +67,7 @@ outbound-more sender receiver line old new f grown = record {
 pub between-swap : (coming outbound : List SentFrame) (a b : List Line) → AreMerged coming outbound a b → AreMerged outbound coming b a
 between-swap coming outbound a b s = record { agree = agree-swap (entries a) (entries b) s.agree; coming = s.outbound; outbound = s.coming }
 
--- a line that is delivered leaves two logs that agree
+-- After a line that is delivered, the two logs agree.
 proceeds : (coming outbound : List SentFrame) (own other : List Line) (line : Line) (coming' outbound' : List SentFrame) → AreMerged coming outbound own other → IsStep coming outbound line Merged coming' outbound' → AreMerged coming' outbound' (own ++ line ∷ []) other
 proceeds coming outbound own other line coming' outbound' s f =
     let c : AreInFlight other (own ++ line ∷ []) coming' = coming-more other own line coming f.0 coming' s.coming f.1 f.2 in
@@ -80,7 +80,7 @@ proceeds coming outbound own other line coming' outbound' s f =
       outbound = outbound-more own other line outbound outbound' s.outbound f.3;
     }
 
--- ---- where a frame in flight was sent
+-- ---- the line that sent a frame in flight
 
 no_member : {X : Type 0} (prefix : List X) (x : X) (later : List X) → [] ≡ prefix ++ x ∷ later → ⊥
 no_member [] x later e = absurd (cc)
@@ -91,7 +91,7 @@ record LineFound (lines : List Line) (position : ℕ) (frame : Frame) (n : ℕ) 
   position_is : (line_at lines at).position ≡ position
   sends : SendsAs (entries lines) at frame n
 
--- an event sends one frame or none
+-- An event sends one frame or none.
 pub sends_cases : (event : Event) → (sent_by event ≡ []) ⊎ ((frame : Frame) × (sent_by event ≡ frame ∷ []))
 sends_cases Up = inl refl
 sends_cases (Sent frame) = inr (frame, refl)
@@ -192,7 +192,7 @@ receives coming outbound line frame Merged coming' is silent r =
 receives coming outbound line frame NoneInFlight coming' is silent r = (frame, is, r.0, r.1, refl)
 receives coming outbound line frame (OtherInFlight position) coming' is silent r = (frame, r.0, r.1, is, r.2, r.3, r.4, refl)
 
--- ---- what is in flight
+-- ---- the frames in flight
 
 pub in_flight_so : (end : Role) (merge : Merge) (own other : List Line) → IsMergeOf end merge own other → length (incoming end merge) + length (received (entries own)) ≡ length (sent (entries other))
 in_flight_so end merge own other s =

@@ -18,7 +18,7 @@ use Rattle.hsms_compare.proofs.Agreements.{IsStuck, encounters, stuck}
 use Rattle.hsms_compare.proofs.Finals.{receives-more, sends-more}
 use Rattle.hsms_compare.proofs.Histories.{agree-delivered, agree-host, agree-many, agree-swap, delivered-as, delivered-prefix, received-append, sent-append}
 
--- ---- what is stuck
+-- ---- logs that cannot be merged further
 
 agree_up_to-swap : (host equipment : List Entry) (i j : ℕ) → AgreeUpTo host equipment i j → AgreeUpTo equipment host j i
 agree_up_to-swap host equipment i j u = record {
@@ -56,7 +56,7 @@ agree_as a a' b b' e f g =
     let Q : List Entry → Type 0 = λ x. Agree a' x in
     subst Q f (subst P e g)
 
--- where each log has an entry that the other one lacks, more entries change nothing
+-- If each log has an entry after the prefixes that agree, more entries do not make the logs agree.
 both_stuck : (host equipment more rest : List Entry) (i j : ℕ) → AgreeUpTo host equipment i j → i < length host → j < length equipment → Agree (host ++ more) (equipment ++ rest) → ⊥
 both_stuck host equipment more rest i j u lt lt' g =
     let te : take i (host ++ more) ≡ take i host = take-append-le i host more (omega arith) in
@@ -77,7 +77,7 @@ both_stuck host equipment more rest i j u lt lt' g =
     up.furthest (length (host ++ more)) (length (equipment ++ rest)) (omega arith) (omega arith) all in
     omega (arith, f.0)
 
--- ---- what is received and was not sent so
+-- ---- a received frame that was not sent
 
 over_by : (log other : List Entry) (i : ℕ) (stop : Stop) → i < length log → StopsAt log i other stop → IsDelivered other log → ⊥
 over_by log other i stop lt h d =
@@ -97,7 +97,7 @@ unsent_over log other more rest i (frame, n, r, few) none d =
     over_by (log ++ more) other i Waits t.there (frame, n, t, few)
     (delivered-as (other ++ rest) other (log ++ more) (log ++ more) (sym (ap (λ x. other ++ x) none ∙ append-nil other)) refl d)
 
--- ---- a contradiction stays one, whatever an open log may have
+-- ---- a contradiction remains one, whatever follows in an open log
 
 unsent_host : (ho eo : Bool) (host equipment : List Entry) (i j : ℕ) → AgreeUpTo host equipment i j → IsUnsent equipment host i → (IsTrue eo → j < length equipment) → CanAgree ho eo host equipment → ⊥
 unsent_host ho true host equipment i j u f after g =
@@ -133,7 +133,7 @@ pub agree_iff : (ho eo : Bool) (host equipment : List Entry) (found : Option Con
 agree_iff ho eo host equipment None h = ((λ e. h), (λ g. refl))
 agree_iff ho eo host equipment (Some c) (i, j, u, f) = ((λ e. absurd (cc)), (λ g. absurd (cannot_agree ho eo host equipment i j c u f g)))
 
--- ---- logs that agree, or may
+-- ---- logs that agree, or may agree
 
 may_none : (b : Bool) → MayHave b []
 may_none true = tt
@@ -149,7 +149,7 @@ can_agree_now ho eo host equipment i j u end end' = record {
       (take_all i host (omega arith) ∙ sym (append-nil host)) (take_all j equipment (omega arith) ∙ sym (append-nil equipment)) u.agree;
 }
 
--- entries that send these frames
+-- Entries that send these frames.
 sending : List Frame → List Entry
 sending [] = []
 sending (frame ∷ frames) = record { time = 0; event = Sent frame } ∷ sending frames
@@ -164,7 +164,7 @@ unfolding sending
 received-sending [] = refl
 received-sending (frame ∷ frames) = received-sending frames
 
--- a log that waits has received all that the other one sent
+-- A log that waits has received all that the other one sent.
 all_received : (log : List Entry) (j : ℕ) (other : List Entry) → StopsAt log j other Waits → IsDelivered other (take j log) → sent other ≡ received (take j log)
 all_received log j other (frame, n, r, few) (rest, e) =
     let l = ap length e in
@@ -173,7 +173,7 @@ all_received log j other (frame, n, r, few) (rest, e) =
     let none : rest ≡ [] = nil_from_length rest (omega arith) in
     e ∙ ap (λ x. received (take j log) ++ x) none ∙ append-nil (received (take j log))
 
--- the host's log is open and merged in full: it may still send what the equipment's receives
+-- The host's log is open and merged in full: it may still send what the equipment's log receives.
 pub can_agree_later : (ho eo : Bool) (host equipment : List Entry) (i j : ℕ) → AgreeUpTo host equipment i j → i ≡ length host → ho ≡ true → StopsAt equipment j (take i host) Waits → CanAgree ho eo host equipment
 can_agree_later ho eo host equipment i j u end is_open h =
     let all : take i host ≡ host = take_all i host (omega arith) in

@@ -16,7 +16,7 @@ use Rattle.hsms_compare.specs.Outcome.{IsClosedAt, IsDeliveredAt, IsNotDelivered
 use Rattle.hsms_compare.proofs.Histories.{sent-append, received-append}
 use Rattle.hsms_compare.proofs.Merges.{sends_cases}
 
--- an event receives one frame or none
+-- An event receives one frame or none.
 pub receives_cases : (event : Event) → (received_by event ≡ []) ⊎ ((frame : Frame) × (received_by event ≡ frame ∷ []))
 receives_cases Up = inl refl
 receives_cases (Sent frame) = inl refl
@@ -96,9 +96,9 @@ not_delivered sender receiver k n there some number few =
     let s = sends_at sender k n there some number in
     (s.0, n, s.1, few)
 
--- ---- what closes
+-- ---- entries that close a transaction
 
--- the transaction of an accepted request
+-- The transaction of an accepted request.
 pub closes_as : (event later : Event) (request : Header) → taken_by event ≡ Some request → closes event later ≡ closes_taken request later
 closes_as (Taken frame) later request e = let h : frame.header ≡ request = cc in ap (λ (x : Header). closes_taken x later) h
 closes_as Up later request e = absurd (cc)
@@ -128,7 +128,7 @@ module _ (log : List Entry) (m : ℕ) (request : Header) (taken : taken_by (entr
         | inr other ↦ elim other [ inl l ↦ before p later l closing | inr g ↦ absurd (omega arith) ]
       ]
 
--- an answer sends a frame
+-- An answer sends a frame.
 pub closing_sends : (event later : Event) (request : Header) → taken_by event ≡ Some request → IsTrue (closes event later) → 0 < length (sent_by later)
 closing_sends event Up request e c = let t : false ≡ true = sym (closes_as event Up request e) ∙ c in absurd (cc)
 closing_sends event (Sent frame) request e c = omega arith

@@ -81,7 +81,7 @@ answered_now own other j at time entries after x request d taken at_time never c
           ∙ ap (λ (y : Entry). (entry_at (other ++ x ∷ []) (length other)).time - y.time) (sym (at-more other (x ∷ []) at within));
     })
 
--- an entry that answers sends a frame
+-- An entry that answers sends a frame.
 pub reply_now : (other : List Entry) (at entries sendings : ℕ) (x : Entry) (request : Header) → taken_by (entry_at other at).event ≡ Some request → closes_taken request x.event ≡ true → entries ≡ length other → sendings ≡ length (sent other) → IsRequestAt (other ++ x ∷ []) entries sendings
 reply_now other at entries sendings x request taken closing so sent_so =
     let some : 0 < length (sent_by x.event) = closing_sends (entry_at other at).event x.event request taken (closes_as (entry_at other at).event x.event request taken ∙ closing) in
@@ -108,7 +108,7 @@ taken_on own other j limit number at time request x (d, taken, at_time, never) n
       never-more other at x request taken within never none,
     )
 
--- ---- what stays after an entry of the other log
+-- ---- what does not change after an entry of the other log
 
 pub state_as : (own other : List Entry) (j limit number : ℕ) (a b : RequestState) → a ≡ b → IsState own other j limit number a → IsState own other j limit number b
 state_as own other j limit number a b e h =
@@ -145,7 +145,7 @@ answered-own own other j at answer after x a =
     let P : List Entry → Type 0 = λ y. IsAnsweredAt (own ++ x ∷ []) j y at answer after in
     subst P (append-nil other) (answered-more own other (x ∷ []) [] j at answer after a)
 
--- this entry does not receive the reply
+-- This entry does not receive the reply.
 pub answered_on : (own other : List Entry) (j limit number at answer after reply receipts : ℕ) (x : Entry) → IsState own other j limit number (Answered at answer after reply) → receipts ≡ length (received own) → (receipts ≡ reply → 0 < length (received_by x.event) → ⊥) → IsState (own ++ x ∷ []) other j limit number (Answered at answer after reply)
 answered_on own other j limit number at answer after reply receipts x (a, le, r, few) so none =
     (answered-own own other j at answer after x a, le, r, still (receives_cases x.event))
@@ -162,7 +162,7 @@ answered_on own other j limit number at answer after reply receipts x (a, le, r,
           | inr ge ↦ absurd (none (omega arith) (omega arith))
         ]
 
--- this entry receives it
+-- This entry receives the reply.
 pub replied_now : (own other : List Entry) (j limit number at answer after reply time entries receipts total : ℕ) (x : Entry) → IsRequestAt own j number → IsState own other j limit number (Answered at answer after reply) → entries ≡ length own → receipts ≡ length (received own) → receipts ≡ reply → 0 < length (received_by x.event) → IsTimeOf own j time → total ≡ x.time - time → IsState (own ++ x ∷ []) other j limit number (Done (Replied at answer after entries total))
 replied_now own other j limit number at answer after reply time entries receipts total x (f, s) (a, le, (g, r), few) so receipts_so is some at_time later =
     (refl, (answered-own own other j at answer after x a, le, later_receipt (receives_cases x.event), time_so))

@@ -6,7 +6,7 @@ use Rattle.hsms_compare.specs.declared.connections.LogContradiction.{LogContradi
 use Rattle.hsms_compare.specs.declared.contradiction.Contradiction.{Contradiction}
 use Rattle.hsms_compare.specs.Agreement.{CanAgree, FirstContradiction, is_open}
 
--- the entries before the next `up`, and those from it on
+-- The entries before the next `up`, and the entries from it on.
 abbrev pub until_up : List Entry → List Entry
 until_up [] = []
 until_up (entry ∷ log) = if is_up entry.event then [] else entry ∷ until_up log
@@ -15,22 +15,22 @@ abbrev pub from_up : List Entry → List Entry
 from_up [] = []
 from_up (entry ∷ log) = if is_up entry.event then entry ∷ log else from_up log
 
--- the entries of the first connection: the first entry, and those before the next `up`
+-- The entries of the first connection: the first entry, and those before the next `up`.
 abbrev pub first_connection : List Entry → List Entry
 first_connection [] = []
 first_connection (entry ∷ log) = entry ∷ until_up log
 
--- the entries after it
+-- The entries after the first connection.
 abbrev pub later_connections : List Entry → List Entry
 later_connections [] = []
 later_connections (entry ∷ log) = from_up log
 
--- the entries from the k-th connection on, counted from 0: none if there are fewer
+-- The entries from the k-th connection on, counted from 0: none if there are fewer.
 abbrev pub from_connection : ℕ → List Entry → List Entry
 from_connection zero log = log
 from_connection (suc k) log = from_connection k (later_connections log)
 
--- the first connection may have more: it is the last one of its log, and open
+-- True if the first connection may have more entries: it is the last one of its log, and open.
 abbrev pub is_open_first : List Entry → Bool
 is_open_first log = (length (later_connections log) == 0) && is_open (first_connection log)
 
@@ -41,7 +41,7 @@ CanAgreeFirst host equipment =
 abbrev pub CanAgreeBefore : ℕ → (host equipment : List Entry) → Type 0
 CanAgreeBefore k host equipment = (m : ℕ) → m < k → CanAgreeFirst (from_connection m host) (from_connection m equipment)
 
--- all connections that both logs have
+-- Holds if all connections that both logs have agree.
 abbrev pub CanAgreeThroughout : (host equipment : List Entry) → Type 0
 CanAgreeThroughout host equipment =
     (m : ℕ) → 0 < length (from_connection m host) → 0 < length (from_connection m equipment)
@@ -51,7 +51,7 @@ abbrev pub FirstContradicts : (host equipment : List Entry) → Contradiction �
 FirstContradicts host equipment found =
     FirstContradiction (is_open_first host) (is_open_first equipment) (first_connection host) (first_connection equipment) (Some found)
 
--- the first contradiction, in the k-th connection, which begins at these entries
+-- The first contradiction, in the k-th connection, which begins at these entries.
 pub record IsFirstIn (host equipment : List Entry) (found : LogContradiction) : Type 0 where
   pub k : ℕ
   pub before : CanAgreeBefore k host equipment

@@ -17,17 +17,17 @@ use Rattle.hsms_compare.specs.Merge.{IsMergeStep, line_at}
 abbrev pub line_of : NumberedEntry → Line
 line_of next = record { position = next.position; entry = next.entry }
 
--- the next entry was read, or there is none
+-- Holds if the next entry was read, or there is none.
 abbrev pub IsRead : List Line → Option NumberedEntry → List Line → Type 0
 IsRead old None new = (old ≡ []) × (new ≡ [])
 IsRead old (Some next) new = old ≡ line_of next ∷ new
 
--- the entry that was read and is not merged
+-- The entry that was read and is not merged.
 abbrev pub pending : Option NumberedEntry → List Line
 pending None = []
 pending (Some next) = line_of next ∷ []
 
--- the result of offering the entry that was read
+-- The result of offering the entry that was read.
 abbrev pub IsOffered : (own other : List Line) → Role → Option NumberedEntry → Merge → Offered → Merge → Type 0
 IsOffered own other end None old Accepted new = ⊥
 IsOffered own other end None old (Stopped Done) new = new ≡ old
@@ -39,7 +39,7 @@ IsOffered own other end (Some next) old (Stopped (Waits position)) new =
 IsOffered own other end (Some next) old (Stopped (Differs position sender)) new =
     (position ≡ next.position) × IsMergeStep own other end (line_of next) old (OtherInFlight sender) new
 
--- why a log is merged up to its first i lines with the first j of the other one, and no further
+-- Why a log is merged up to its first i lines with the first j of the other one, and no further.
 abbrev pub IsLineStop : List Line → ℕ → List Line → ℕ → LineStop → Type 0
 IsLineStop lines i other j Done = i ≡ length lines
 IsLineStop lines i other j (Waits position) =
@@ -48,7 +48,7 @@ IsLineStop lines i other j (Differs position sender) =
     (k : ℕ) × ((line_at lines i).position ≡ position) × ((line_at other k).position ≡ sender)
     × StopsAt (entries lines) i (take j (entries other)) (stop.OtherSent k)
 
--- how far two logs agree, and why no further
+-- How far two logs agree, and why no further.
 abbrev pub AreLineStops : (host equipment : List Line) → LineStops → Type 0
 AreLineStops host equipment stops =
     (i : ℕ) × (j : ℕ) × AgreeUpTo (entries host) (entries equipment) i j

@@ -1,4 +1,4 @@
--- The merge of two logs, entry by entry, and the frames in flight between their ends.
+-- The merge of two logs, entry by entry, and the frames in flight between their endpoints.
 use Rattle.std.specs.Prelude.{◌≡◌, ◌≢◌, ◌++◌, ℕ, List, [], ◌∷◌, map, slice_index_or, length}
 use Rattle.hsms_frame.specs.Frame.{Frame}
 use Rattle.hsms_machine.specs.declared.entry.Event.TheVariants.{Up}
@@ -16,11 +16,11 @@ use Rattle.hsms_compare.specs.Agreement.{SendsAs}
 abbrev pub sent_frame : ℕ → Frame → SentFrame
 sent_frame position frame = record { position = position; frame = frame }
 
--- the frame that a line sends, with its position
+-- The frame that a line sends, with its position.
 abbrev pub sent_frames_by : Line → List SentFrame
 sent_frames_by line = map (sent_frame line.position) (sent_by line.entry.event)
 
--- the frames that a log sends, each with the position of its line
+-- The frames that a log sends, each with the position of its line.
 abbrev pub sent_frames_of : List Line → List SentFrame
 sent_frames_of [] = []
 sent_frames_of (line ∷ lines) = sent_frames_by line ++ sent_frames_of lines
@@ -28,13 +28,13 @@ sent_frames_of (line ∷ lines) = sent_frames_by line ++ sent_frames_of lines
 abbrev pub frames_of : List SentFrame → List Frame
 frames_of flight = map (λ (one : SentFrame). one.frame) flight
 
--- these are the frames that the sender's log sends and the receiver's does not receive
+-- Holds if these are the frames that the sender's log sends and the receiver's does not receive.
 pub record AreInFlight (sender receiver : List Line) (flight : List SentFrame) : Type 0 where
   pub arrived : List SentFrame
   pub all : sent_frames_of sender ≡ arrived ++ flight
   pub received_so : frames_of arrived ≡ received (entries receiver)
 
--- two logs that agree, and what is in flight to the first one and from it
+-- Holds for two logs that agree, with these frames in flight to the first one and from it.
 pub record AreMerged (incoming outgoing : List SentFrame) (own other : List Line) : Type 0 where
   pub agree : Agree (entries own) (entries other)
   pub coming : AreInFlight other own incoming
@@ -46,15 +46,15 @@ abbrev pub incoming : Role → Merge → List SentFrame
 incoming Host merge = merge.to_host
 incoming Equipment merge = merge.to_equipment
 
--- these are the lines that are merged, of the log of this end and of the other one
+-- Holds if these lines are merged, of the log of this endpoint and of the other one.
 abbrev pub IsMergeOf : Role → Merge → (own other : List Line) → Type 0
 IsMergeOf end merge own other = AreMerged (incoming end merge) (incoming (peer end) merge) own other
 
 abbrev pub line_at : List Line → ℕ → Line
 line_at lines k = slice_index_or lines k (record { position = 0; entry = record { time = 0; event = Up } })
 
--- The result of adding the next line of an end's log. It is merged; or it receives a frame, and all that was sent is
--- received; or it receives another frame than the one that the line with this position sent.
+-- The result of adding the next line of an endpoint's log. It is merged; or it receives a frame, and all that was
+-- sent is received; or it receives another frame than the one that the line with this position sent.
 abbrev pub IsMergeStep : (own other : List Line) → Role → Line → Merge → MergeResult → Merge → Type 0
 IsMergeStep own other end line old Merged new = IsMergeOf end new (own ++ line ∷ []) other
 IsMergeStep own other end line old NoneInFlight new =
@@ -66,14 +66,14 @@ IsMergeStep own other end line old (OtherInFlight position) new =
 
 -- ---- of private functions
 
--- what a channel returns for a frame that was received, and what it is after that
+-- The result of a channel for a received frame, and the channel after that.
 abbrev pub Receives : List SentFrame → Frame → MergeResult → List SentFrame → Type 0
 Receives old frame Merged new = (position : ℕ) × (old ≡ sent_frame position frame ∷ new)
 Receives old frame NoneInFlight new = (old ≡ []) × (new ≡ old)
 Receives old frame (OtherInFlight position) new =
     (another : Frame) × (later : List SentFrame) × (old ≡ sent_frame position another ∷ later) × (another ≢ frame) × (new ≡ old)
 
--- What the next line changes of what is in flight. It receives the first frame or none, and sends what it sends; or it
+-- How the next line changes what is in flight. It receives the first frame or none, and sends its own frames. Or it
 -- receives a frame and none is in flight, or another one is the first.
 abbrev pub IsStep : (coming outbound : List SentFrame) → Line → MergeResult → (coming' outbound' : List SentFrame) → Type 0
 IsStep coming outbound line Merged coming' outbound' =

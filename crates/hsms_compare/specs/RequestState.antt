@@ -11,20 +11,20 @@ use Rattle.hsms_compare.specs.Agreement.{SendsAs}
 use Rattle.hsms_compare.specs.Outcome.{IsOutcome, IsDeliveredAt, IsAnsweredAt, IsNeverClosed, taken_by}
 use Rattle.hsms_compare.specs.Laws.{is_final}
 
--- the own entry at j sends the frame of this number
+-- Holds if the own entry at j sends the frame with this number.
 abbrev pub IsRequestAt : List Entry → ℕ → ℕ → Type 0
 IsRequestAt own j number = (frame : Frame) × SendsAs own j frame number
 
 abbrev pub IsTimeOf : List Entry → ℕ → ℕ → Type 0
 IsTimeOf log i time = time ≡ (entry_at log i).time
 
--- the counts of a log
+-- The counts of a log.
 pub record HasCounts (log : List Entry) (counts : LogCounts) : Type 0 where
   pub entries_so : counts.entries ≡ length log
   pub received_so : counts.received ≡ length (received log)
   pub sent_so : counts.sent ≡ length (sent log)
 
--- the state of the frame that the own entry at j sends, by both logs so far
+-- The state of the frame that the own entry at j sends, by both logs so far.
 abbrev pub IsState : (own other : List Entry) → ℕ → ℕ → ℕ → RequestState → Type 0
 IsState own other j limit number InFlight = length (received other) ≤ number
 IsState own other j limit number (Taken at time request) =

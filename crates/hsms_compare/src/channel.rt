@@ -1,4 +1,4 @@
-//! The frames in flight from one end to the other.
+//! The frames in flight from one endpoint to the other.
 
 ghost use Rattle.std.specs.Prelude.{◌≡◌, ◌↔◌, IsTrue, IfOk};
 
@@ -67,7 +67,7 @@ impl Channel {
         Ok(())
     }
 
-    /// Removes the first frame in flight, if it is the given one.
+    /// Removes the first frame in flight if it is the given one.
     pub fn receive(&mut self, frame: &Frame) -> MergeResult
         ensures { Receives self.old frame.now result self.new }
     {
@@ -82,7 +82,7 @@ impl Channel {
     }
 }
 
-/// Checks whether two frames have the same header and text.
+/// Returns whether two frames have the same header and text.
 fn is_same(one: &Frame, other: &Frame) -> bool
     ensures { IsTrue result ↔ (one.now ≡ other.now) }
 {

@@ -16,7 +16,7 @@ use std::alloc::{AllocError, Global};
 /// How far a log is merged, and why no further.
 #[derive(Clone, Copy, Debug, PartialEq, Eq)]
 pub struct Reach {
-    /// The number of entries that are merged, from the first one on.
+    /// The number of merged entries, from the first one on.
     pub entries: usize,
     pub stop: Stop,
 }
@@ -32,8 +32,9 @@ pub struct Comparison {
     pub lost_to_host: usize,
 }
 
-/// Returns the first contradiction of the logs of one connection, or `None` if they agree with what may follow them: a
-/// log that does not end with `down` is open, and what the other one received beyond it may have been sent later.
+/// Returns the first contradiction of the logs of one connection. Returns `None` if they agree with what may follow
+/// them. A log that does not end with `down` is open, and what the other one received beyond it may have been sent
+/// later.
 ///
 /// # Errors
 ///
@@ -51,7 +52,7 @@ pub fn first_contradiction(
     contradiction_of(alloc, host, is_open(host), equipment, is_open(equipment))
 }
 
-/// Returns the first contradiction of two logs, of which those that are open may have more.
+/// Returns the first contradiction of two logs. An open log may have more entries.
 pub fn contradiction_of(
     alloc: Global,
     host: &[Entry],
@@ -66,7 +67,7 @@ pub fn contradiction_of(
     Ok(contradiction_at(host, host_open, equipment, equipment_open, comparison))
 }
 
-/// Checks whether a log may have more entries: it does not end with `down`.
+/// Returns whether a log may have more entries: it does not end with `down`.
 pub fn is_open(log: &[Entry]) -> bool
     ensures { result ≡ may_have_more log.now }
 {
@@ -87,7 +88,7 @@ fn is_down(event: &Event) -> bool
     }
 }
 
-/// Returns what contradicts at the end of what agrees.
+/// Returns the contradiction at the end of the entries that agree.
 fn contradiction_at(
     host: &[Entry],
     host_open: bool,
@@ -129,7 +130,7 @@ fn contradiction_at(
     }
 }
 
-/// Checks whether a log sends a frame.
+/// Returns whether a log sends a frame.
 fn sends_any(log: &[Entry]) -> bool
     ensures { IsTrue result ↔ (0 < length (sent log.now)) }
 {
@@ -141,7 +142,7 @@ fn sends_any(log: &[Entry]) -> bool
     false
 }
 
-/// Checks whether an event sends a frame.
+/// Returns whether an event sends a frame.
 pub fn is_sent(event: &Event) -> bool
     ensures { IsTrue result ↔ (0 < length (sent_by event.now)) }
 {
@@ -196,7 +197,8 @@ pub fn compare(alloc: Global, host: &[Entry], equipment: &[Entry]) -> Result<Com
     }
 }
 
-/// Merges the log of this end from an index on, as far as it agrees with what is merged of the other log.
+/// Merges the log of this endpoint from an index on, up to the first entry that does not agree with what is merged of
+/// the other log.
 fn advance(
     alloc: Global,
     merge: &mut Merge,

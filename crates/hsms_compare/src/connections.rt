@@ -12,7 +12,7 @@ pub struct LogContradiction {
     pub host: usize,
     /// The index in the equipment's log of the first entry of its connection.
     pub equipment: usize,
-    /// What contradicts. Its entries are counted from these two.
+    /// The contradiction. Its entries are counted from these two.
     pub contradiction: Contradiction,
 }
 
@@ -22,8 +22,8 @@ impl LogContradiction {
     ghost use Rattle.hsms_compare.specs.Connections.{CanAgreeThroughout, IsFirstIn, first_connection, later_connections};
     ghost use Rattle.hsms_compare.specs.Agreement.{is_open as may_have_more};
 
-    /// Returns the first contradiction of two logs, or `None` if all connections agree that both logs have. Connections
-    /// are paired in order. The last one of a log is open if it does not end with `down`.
+    /// Returns the first contradiction of two logs. Returns `None` if all connections that both logs have agree.
+    /// Connections are paired in order. The last one of a log is open if it does not end with `down`.
     ///
     /// # Errors
     ///
@@ -63,7 +63,7 @@ impl LogContradiction {
         Ok(None)
     }
 
-    /// Checks whether a connection may have more: no other one follows in its log, and it is open.
+    /// Returns whether a connection may have more entries: no other one follows in its log, and it is open.
     fn is_open_last(connection: &[Entry], rest: &[Entry]) -> bool
         ensures { result ≡ ((length rest.now == 0) && may_have_more connection.now) }
     {

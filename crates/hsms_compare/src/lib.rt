@@ -1,7 +1,7 @@
-//! Compares the session logs of both ends of a connection: do they describe one conversation, and what happened to each
-//! request? Two logs agree if some possible history is logged so at both ends: an order of all their entries in which,
-//! at each time, what an end has received is a prefix of what the other end has sent. TCP promises that, and no more.
-//! What is sent and never received is lost, which is no contradiction.
+//! Comparison of the session logs of both endpoints of a connection: do they describe one conversation, and what
+//! happened to each request? Two logs agree if some possible history gives both of them. A history is an order of all
+//! their entries. It is possible if at each time what an endpoint has received is a prefix of what the other one has
+//! sent. TCP promises that, and no more. What is sent and never received is lost, which is no contradiction.
 //!
 //! ```
 //! match first_contradiction(alloc, host.as_slice(), equipment.as_slice())? {

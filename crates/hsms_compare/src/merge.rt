@@ -5,8 +5,8 @@ use crate::stop::MergeResult;
 use hsms_machine::{Entry, Event, Role};
 use std::alloc::{AllocError, Global};
 
-/// Two logs of one connection, merged so far: what is merged agrees, and these frames are in flight between the ends.
-/// It holds no log.
+/// Two logs of one connection, merged so far: what is merged agrees, and these frames are in flight between the
+/// endpoints. It owns no log.
 #[derive(Drop)]
 pub struct Merge {
     to_host: Channel,
@@ -29,7 +29,7 @@ impl Merge {
         }
     }
 
-    /// Drops what is in flight: the next entries are those of another connection.
+    /// Drops the frames in flight: the next entries are those of another connection.
     pub fn clear(&mut self)
         ensures { IsMergeOf Host self.new [] [] }
     {
@@ -37,7 +37,7 @@ impl Merge {
         self.to_equipment.clear();
     }
 
-    /// Returns the number of frames in flight to this end. At the end of a connection these frames are lost.
+    /// Returns the number of frames in flight to this endpoint. At the end of a connection these frames are lost.
     pub fn in_flight(&self, end: Role) -> usize
         ensures { (own other : List Line) → IsMergeOf end self.now own other
             → result + length (received (entries own)) ≡ length (sent (entries other)) }
@@ -48,13 +48,13 @@ impl Merge {
         }
     }
 
-    /// Adds the next entry of this end's log, if what is merged still agrees with it; otherwise the merge stays as it
-    /// is. The entries of both logs may be added in any order. `position` names the entry, as an index or a line number
-    /// does.
+    /// Adds the next entry of this endpoint's log if it still agrees with what is merged. Otherwise the merge does
+    /// not change. The entries of both logs may be added in any order. `position` names the entry, as an index or a
+    /// line number does.
     ///
     /// # Errors
     ///
-    /// Returns `AllocError` if an allocation for a sent frame fails. The merge stays as it is.
+    /// Returns `AllocError` if an allocation for a sent frame fails. The merge does not change.
     pub fn add(
         &mut self,
         alloc: Global,
@@ -84,7 +84,7 @@ impl Merge {
         }
     }
 
-    /// Receives the entry's frame from what is coming, or sends it with what is going.
+    /// Receives the entry's frame from the incoming channel, or sends it to the outgoing one.
     fn step(
         alloc: Global,
         coming: &mut Channel,

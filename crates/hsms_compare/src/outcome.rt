@@ -1,8 +1,8 @@
-//! The outcome of a request, by the logs of both ends.
+//! The outcome of a request, by the logs of both endpoints.
 
-/// The outcome of a frame that an end sent, by the logs of both ends. `received`, `discarded` and `answered` are
-/// entries of the other log, `reply` is one of the own log: all are counted from 0. `took` and `after` are
-/// milliseconds, each within one log.
+/// The outcome of a frame that an endpoint sent, by the logs of both endpoints. `received`, `discarded` and
+/// `answered` are entries of the other log, and `reply` is one of the own log, all counted from 0. `took` and `after`
+/// are milliseconds, each within one log.
 #[derive(Clone, Copy, Debug, PartialEq, Eq)]
 pub enum Outcome {
     /// The other log does not receive it.
@@ -27,8 +27,8 @@ pub enum Outcome {
         answered: u64,
         took: u64,
     },
-    /// The other log accepts it and answers it in time, and the own log receives the answer, `after` the frame was
-    /// sent.
+    /// The other log accepts it and answers it in time, and the own log receives the answer, `after` milliseconds
+    /// after the frame was sent.
     Replied {
         received: u64,
         answered: u64,

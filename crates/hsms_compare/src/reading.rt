@@ -5,7 +5,7 @@ use crate::stop::MergeResult;
 use hsms_machine::{Entry, Role};
 use std::alloc::{AllocError, Global};
 
-/// An entry that was read, and its position: the number of its line.
+/// An entry that was read, and its position: its line number.
 #[derive(Debug, Drop)]
 pub struct NumberedEntry {
     pub position: u64,
@@ -25,12 +25,12 @@ pub trait Entries {
         ensures { IfOk result (λ next. IsRead (left self.old) next (left self.new)) };
 }
 
-/// Why a log can not be merged any further with the other one, by positions.
+/// Why a log cannot be merged any further with the other one, by positions.
 #[derive(Clone, Copy, Debug)]
 pub enum LineStop {
     /// It has no more entries.
     Done,
-    /// The entry at this position receives a frame, and the other log has sent none that is not received.
+    /// The entry at this position receives a frame, and the other log has sent no frame that is not received yet.
     Waits(u64),
     /// The entry at the first position receives another frame than the one that the other log sent, with the entry at
     /// the second position.
@@ -44,7 +44,7 @@ pub enum Offered {
     Stopped(LineStop),
 }
 
-/// Why each of two logs can not be merged any further.
+/// Why each of two logs cannot be merged any further.
 #[derive(Clone, Copy, Debug)]
 pub struct LineStops {
     pub host: LineStop,
@@ -57,8 +57,8 @@ impl LineStops {
     ghost use Rattle.hsms_compare.specs.Merge.{IsMergeOf};
     ghost use Rattle.hsms_compare.specs.LineStops.{IsOffered, AreLineStops};
 
-    /// Reads the logs of one connection as far as they agree, and returns why each goes no further. It holds the frames
-    /// in flight and one entry of each log.
+    /// Reads the logs of one connection up to the last entries that agree, and returns why each goes no further.
+    /// Buffers the frames in flight and one entry of each log.
     ///
     /// # Errors
     ///
@@ -91,7 +91,7 @@ impl LineStops {
         }
     }
 
-    /// Merges the entry that was read, if there is one and it can be merged.
+    /// Merges the entry that was read, if there is one and it agrees.
     fn offer(
         alloc: Global,
         merge: &mut Merge,

@@ -13,25 +13,27 @@ pub struct LogCounts {
     pub sent: u64,
 }
 
-/// How far a request has come. `received_at` and `answered_at` are entries of the other end's log, counted from 0.
+/// The progress of a request. `received_at` and `answered_at` are entries of the other endpoint's log, counted from
+/// 0.
 #[derive(Clone, Copy, Debug)]
 pub enum RequestState {
-    /// The other end has not received it.
+    /// The other endpoint has not received it.
     InFlight,
-    /// The other end has accepted it at this time, with this header, and has not answered.
+    /// The other endpoint has accepted it at this time, with this header, and has not answered.
     Taken {
         received_at: u64,
         time: u64,
         request: Header,
     },
-    /// The other end has answered in time, with its frame of this number, and the own end has not received the answer.
+    /// The other endpoint has answered in time, with its frame of this number, and the own endpoint has not received
+    /// the answer.
     Answered {
         received_at: u64,
         answered_at: u64,
         took: u64,
         number: u64,
     },
-    /// Its outcome, whatever follows.
+    /// Its outcome is final, whatever follows.
     Done(Outcome),
 }
 
@@ -66,8 +68,8 @@ impl RequestState {
         }
     }
 
-    /// Returns the state after the next entry of the other end's log, which has these counts before it. `number` is
-    /// that of the request among the frames that the own end sent.
+    /// Returns the state after the next entry of the other endpoint's log, which has these counts before it. `number`
+    /// is the request's number among the frames that the own endpoint sent.
     pub fn after_other(
         self,
         number: u64,
@@ -91,8 +93,8 @@ impl RequestState {
         }
     }
 
-    /// Returns the state after the next entry of the own log, which has these counts before it. `time` is that of the
-    /// request.
+    /// Returns the state after the next entry of the own log, which has these counts before it. `time` is the
+    /// request's time.
     pub fn after_own(self, time: u64, entry: &Entry, counts: LogCounts) -> RequestState
         ensures { (own other : List Entry) (j limit number : ℕ)
             → IsRequestAt own j number → IsState own other j limit number self

@@ -1,11 +1,11 @@
-//! Why a log can not be merged any further.
+//! Reasons why a log cannot be merged any further.
 
-/// Why a log can not be merged any further with the other one.
+/// Why a log cannot be merged any further with the other one.
 #[derive(Clone, Copy, Debug, PartialEq, Eq)]
 pub enum Stop {
     /// It has no more entries.
     Ended,
-    /// Its next entry receives a frame, and the other log has sent none that is not received.
+    /// Its next entry receives a frame, and the other log has sent no frame that is not received yet.
     Waits,
     /// Its next entry receives another frame than the one that the other log sent, with the entry at this index.
     OtherSent(u64),

@@ -13,8 +13,8 @@ use crate::outcome::Outcome;
 use hsms_frame::Header;
 use hsms_machine::{Entry, Event, Message, concludes};
 
-/// Returns the outcome of the frame that the own log sends with the entry at an index, or `None` if that entry sends no
-/// frame. An answer is in time within `limit` milliseconds, by the other end's clock.
+/// Returns the outcome of the frame that the own log sends with the entry at an index. Returns `None` if that entry
+/// sends no frame. An answer is in time within `limit` milliseconds, by the other endpoint's clock.
 pub fn outcome_of(own: &[Entry], other: &[Entry], index: usize, limit: u64) -> Option<Outcome>
     ensures some { IfSome result (IsOutcome own.now other.now index limit) }
     ensures none { IfNone result (sent_by (entry_at own.now index).event ≡ []) }
@@ -109,7 +109,7 @@ fn receipt(log: &[Entry], number: usize) -> Option<usize>
     None
 }
 
-/// Checks whether an event receives a frame.
+/// Returns whether an event receives a frame.
 pub fn is_received(event: &Event) -> bool
     ensures { IsTrue result ↔ (0 < length (received_by event.now)) }
 {
@@ -153,7 +153,7 @@ fn closing(log: &[Entry], index: usize, request: Header) -> Option<usize>
     None
 }
 
-/// Checks whether an event closes the transaction of an accepted request.
+/// Returns whether an event closes the transaction of an accepted request.
 pub fn closes(request: Header, event: &Event) -> bool
     ensures { result ≡ closes_taken request event.now }
 {

@@ -1,4 +1,4 @@
--- Two endpoints that are joined by byte streams.
+-- Two endpoints that are connected by byte streams.
 use Rattle.std.proofs.Common.{◌≡◌, ◌++◌, ℕ, List, [], ◌∷◌, refl, sym, ◌∙◌, ap, subst}
 use Rattle.std.proofs.lemmas.List.{append-nil, append_assoc}
 use Rattle.std.proofs.lemmas.List.Concat.{flat_map-append}
@@ -36,7 +36,7 @@ same_octets (entry ∷ log) =
     ap (λ x. x ++ octets_received log) (octets_by entry.event) ∙ ap (λ x. octets_of (received_by entry.event) ++ x) (same_octets log)
     ∙ sym (octets_of-append (received_by entry.event) (received log))
 
--- an end was delivered the messages that it received, and then what is pending
+-- The bytes delivered to an endpoint are those of its received messages, followed by the pending ones.
 IsKept : OwnEnd → Type 0
 IsKept own = own.delivered ≡ octets_of (received own.log) ++ own.state.pending
 
@@ -68,7 +68,7 @@ streamed_turn desk own other input next kept t = (
   sym t.octets ∙ kept_on desk own other input next kept t ∙ ap (λ x. octets_of (received x) ++ next.state.pending) t.logged,
 )
 
--- the turns of both ends
+-- The turns of both endpoints.
 record Turns (host equipment host' equipment' : OwnEnd) : Type 0 where
   turns : List Turn
   streamed : AreStreamed host.log equipment.log host.delivered equipment.delivered turns

@@ -1,4 +1,4 @@
--- Two endpoints that are joined by byte streams.
+-- Two endpoints that are connected by byte streams.
 use Rattle.std.specs.Prelude.{◌≡◌, ◌++◌, ℕ, List, [], ◌∷◌}
 use Rattle.secs_text.specs.Content.{Content}
 use Rattle.hsms_machine.specs.declared.entry.Entry.{Entry}
@@ -15,18 +15,18 @@ use Rattle.hsms_compare.specs.ByteStreams.{CarriesMessages, octets_of}
 abbrev pub Desk : Type 0
 Desk = ℕ → Content → Answered
 
--- an endpoint, what it has logged, and the bytes of the inputs that it accepted
+-- An endpoint, its log, and the bytes of the inputs that it accepted.
 pub record OwnEnd : Type 0 where
   pub state : EndState
   pub log : List Entry
   pub delivered : List ℕ
 
--- one that has processed no input
+-- An endpoint that has processed no input.
 abbrev pub fresh : Parameters → ℕ → OwnEnd
 fresh settings first_system = record { state = initial_state settings first_system; log = []; delivered = [] }
 
--- an endpoint processes an input, as `drive` has it, and the bytes that it has accepted are a prefix of those that the
--- other one has sent
+-- Holds if an endpoint processes an input as in `drive`. The bytes that it has accepted are a prefix of those that
+-- the other one has sent.
 pub record IsTurn (desk : Desk) (own other : OwnEnd) (input : InputEvent) (next : OwnEnd) : Type 0 where
   pub accepted : List InputEvent
   pub entries : List Entry
@@ -36,7 +36,7 @@ pub record IsTurn (desk : Desk) (own other : OwnEnd) (input : InputEvent) (next 
   pub in_transit : List ℕ
   pub streamed : octets_of (sent other.log) ≡ next.delivered ++ in_transit
 
--- two endpoints process these inputs, one after the other
+-- Holds if two endpoints process these inputs, one after the other.
 abbrev pub AreTurns : (at_host at_equipment : Desk) (host equipment : OwnEnd) → List (Role × InputEvent)
     → (host' equipment' : OwnEnd) → Type 0
 AreTurns at_host at_equipment host equipment [] host' equipment' = (host' ≡ host) × (equipment' ≡ equipment)
@@ -45,8 +45,8 @@ AreTurns at_host at_equipment host equipment ((Host, input) ∷ inputs) host' eq
 AreTurns at_host at_equipment host equipment ((Equipment, input) ∷ inputs) host' equipment' =
     (next : OwnEnd) × IsTurn at_equipment equipment host input next × AreTurns at_host at_equipment host next inputs host' equipment'
 
--- the logs of two such ends agree, whatever inputs they process and wherever it stops, if the numbers of each message are in
--- their ranges (as they are in each log that a program holds)
+-- The logs of two such endpoints agree, for all inputs and wherever it stops. The numbers of each message must be in
+-- their ranges (as they are in each log that a program holds).
 abbrev pub OwnEndsAgree : Type 0
 OwnEndsAgree =
     (at_host at_equipment : Desk) (settings others : Parameters) (first second : ℕ) (inputs : List (Role × InputEvent))

@@ -2,8 +2,8 @@
 
 ghost use Rattle.hsms_compare_ends.specs.OwnEnds.{OwnEndsAgree};
 
-/// Two endpoints that process any inputs in any order, each of which receives the bytes that the other one sent, in
-/// chunks of any size, up to any byte: their logs agree.
+/// Ensures that the logs of two endpoints agree. They process any inputs in any order, and each receives the bytes
+/// that the other one sent, in chunks of any size, up to any byte.
 pub fn own_ends_agree()
     ensures { OwnEndsAgree }
 {}

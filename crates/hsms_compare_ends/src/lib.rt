@@ -1,4 +1,4 @@
-//! Two endpoints of `hsms_endpoint` that are joined by byte streams: their logs describe one conversation.
+//! Two endpoints of `hsms_endpoint` that are connected by byte streams: their logs describe one conversation.
 #![tactic(auto)]
 
 pub mod laws;

@@ -1,4 +1,4 @@
-//! Pairs of logs as text, with the results that are expected.
+//! Pairs of logs as text, with the expected results.
 
 mod connections;
 mod pairs;
@@ -14,7 +14,7 @@ use std::alloc::{AllocError, Global};
 use std::fmt::InlineText;
 use std::process::Abort;
 
-/// Why a test ends: an allocation fails, or a line can not be read.
+/// Why a test ends: an allocation fails, or a line cannot be read.
 #[derive(Clone, Copy, Debug)]
 enum Stop {
     Memory,
@@ -28,9 +28,9 @@ impl From<AllocError> for Stop {
 }
 
 // The pairs are one text, since a constant of many parts takes the check longer. Each begins with `# ` and its name.
-// Its lines begin with a word: `host` and `equipment` add an entry to a log. The others state a result for the logs so
-// far: `contradiction` that of the first contradiction; `first` that of the first contradiction of several connections;
-// `outcome` that of the host's entry with this index and limit, and `answer` that of the equipment's.
+// Its lines begin with a keyword: `host` and `equipment` add an entry to a log. The others state a result for the
+// logs so far: `contradiction` that of the first contradiction; `first` that of the first contradiction of several
+// connections; `outcome` that of the host's entry with this index and limit, and `answer` that of the equipment's.
 
 /// Returns the entry of a line.
 fn entry_of(alloc: Global, line: &str) -> Result<Entry, Stop> {

@@ -1,4 +1,4 @@
--- What holds of an end after a frame was taken or discarded.
+-- The state of an endpoint after a frame was accepted or discarded.
 use Rattle.std.proofs.Common.{◌≡◌, ◌==◌, ℕ, Bool, true, false, ◌&&◌, ◌||◌, List, [], ◌∷◌, ◌++◌, option_to_list, Option, Some, None, refl, sym, ap, subst, ◌∙◌, inl, inr, arith, if◌then◌else◌}
 use Rattle.secs_text.specs.Content.{Content}
 use Rattle.secs_item.specs.Encoding.{IsText}
@@ -39,7 +39,7 @@ use Rattle.hsms_endpoint.proofs.Steadiness.{kept_phase, sound_down}
 use Rattle.hsms_endpoint.proofs.AwaitingReplies.{taken_awaits, discarded_awaits, sound_awaits, peers_transactions_are_none_between_calls, does_nothing}
 use Rattle.hsms_endpoint.proofs.Acts.{does_then}
 
--- ---- rules that a frame doesn't break
+-- ---- rules that a frame does not break
 
 subsequent : (Applies : Rule → Type 0) (rule : Rule) (rules : List Rule) (answer : Option Rule) → (answer ≡ Some rule → ⊥) → IsFirst Applies (rule ∷ rules) answer → (Applies rule → ⊥) × IsFirst Applies rules answer
 subsequent Applies rule rules answer never h = elim h [ inl p ↦ absurd (never p.1) | inr q ↦ (q.0, q.1) ]
@@ -106,7 +106,7 @@ module _ (end : State) (frame : Frame) (can : CanTake end frame) where
       sym (ap (λ k. is_direction k (is_from_active end.tracker.settings.link Incoming) (is_from_equipment end.tracker.settings.role Incoming) (stream_of frame.header == 9)) kind)
       ∙ surely (is_direction (kind_of frame.header) (is_from_active end.tracker.settings.link Incoming) (is_from_equipment end.tracker.settings.role Incoming) (stream_of frame.header == 9)) past_direction.0
 
-  -- a message that neither selects nor separates leaves the phase
+  -- A message that neither selects nor separates does not change the phase.
   same_phase : (kind : Kind) → kind_of frame.header ≡ kind → is_separate_kind kind ≡ false → is_select_response kind ≡ false → phase_after end.tracker.phase (Taken frame) ≡ end.tracker.phase
   unfolding separates establishes
   same_phase kind is e f =
@@ -205,13 +205,13 @@ module _ (end : State) (frame : Frame) (can : CanTake end frame) where
   separated_sound mid end' is down =
       sound_down (after_event end (Taken frame)) end' can.awaits.settings can.awaits.within can.awaits.limit (down ∙ ap (λ (s : State). after_event s Down) is)
 
--- ---- what was handled
+-- ---- frames that were handled
 
--- the end when the desk has been asked so often
+-- The endpoint with these counts of messages passed to the handler.
 abbrev asked_so : State → List (ℕ × ℕ) → State
 asked_so end asked = record end { asked = asked }
 
--- the desk has no part in what may be taken
+-- The counts do not affect which frames may be accepted.
 can_take_asked : (end : State) (frame : Frame) (asked : List (ℕ × ℕ)) → CanTake end frame → CanTake (asked_so end asked) frame
 unfolding IsValidEvent
 can_take_asked end frame asked can =
@@ -231,7 +231,7 @@ can_take_asked end frame asked can =
       broken = can.broken;
     }
 
--- the desk was asked about a primary of this header
+-- A primary with this header was passed to the handler.
 pub counted : (end : State) (header : Header) (stream function : ℕ) (asked : List (ℕ × ℕ)) → stream ≡ stream_of header → function ≡ function_of header → asked ≡ once_more (name_of stream function) end.asked → record end { asked = asked } ≡ after_asking end header
 counted end header stream function asked is_stream is_function more =
     ap (λ (a : List (ℕ × ℕ)). record end { asked = a })
@@ -245,13 +245,13 @@ handled_as : (desk : ℕ → Content → Answered) (end end' : State) (before en
 handled_as desk end end' before entries frame broken answer is answers does sound framer =
     record { new = does.new; added = does.added; handled = (broken, answer, is, answers, does.done); run = does.run; sound = sound; framer = framer }
 
--- a taken frame of this kind
+-- An accepted frame of this kind.
 pub handled_kind : (desk : ℕ → Content → Answered) (end end' : State) (before entries : List Entry) (frame : Frame) (kind : Kind) (answer : Answered) → BreaksAsTaken end.tracker frame None → kind_of frame.header ≡ kind → (kind ≡ Primary → IsAnsweredBy (desk (times (name_in frame.header) end.asked)) end.settings.depth frame answer) → Performs (asked_so end (asked_with kind None (name_in frame.header) end.asked)) before (logs (Taken frame) ∷ answers_taken end.settings (is_selected end.tracker.phase) kind frame.header answer) end' entries → IsSound end' → end'.framer ≡ end.framer → HasHandled desk end before frame end' entries
 handled_kind desk end end' before entries frame kind answer is kind_is answers does sound framer =
     handled_as desk end end' before entries frame None answer is (λ e primary. answers (sym kind_is ∙ primary))
     (subst (λ k. Performs (asked_so end (asked_with k None (name_in frame.header) end.asked)) before (logs (Taken frame) ∷ answers_taken end.settings (is_selected end.tracker.phase) k frame.header answer) end' entries) (sym kind_is) does) sound framer
 
--- a taken primary that the desk was asked about
+-- An accepted primary that was passed to the handler.
 pub handled_primary : (desk : ℕ → Content → Answered) (end after mid end' : State) (before middle entries : List Entry) (frame : Frame) (answer : Answered) → BreaksAsTaken end.tracker frame None → kind_of frame.header ≡ Primary → IsAnsweredBy (desk (times (name_in frame.header) end.asked)) end.settings.depth frame answer
     → after ≡ after_asking end frame.header → HasLogged after before (Taken frame) mid middle
     → Settles mid middle (answers_primary mid.settings frame.header answer) end' entries → HasHandled desk end before frame end' entries
@@ -264,7 +264,7 @@ handled_primary desk end after mid end' before middle entries frame answer is ki
     (peers_transactions_are_none_between_calls end' second.awaits)
     (second.framer ∙ ap (λ (s : State). s.framer) first.after ∙ ap (λ (s : State). s.framer) asked)
 
--- a taken request that was answered at once
+-- An accepted request that was answered at once.
 pub handled_settled : (desk : ℕ → Content → Answered) (end mid end' : State) (before middle entries : List Entry) (frame : Frame) (kind : Kind) → BreaksAsTaken end.tracker frame None → kind_of frame.header ≡ kind → (kind ≡ Primary → ⊥)
     → asked_with kind None (name_in frame.header) end.asked ≡ end.asked → HasLogged end before (Taken frame) mid middle
     → Settles mid middle (answers_taken end.settings (is_selected end.tracker.phase) kind frame.header quiet) end' entries → HasHandled desk end before frame end' entries
@@ -275,7 +275,7 @@ handled_settled desk end mid end' before middle entries frame kind is kind_is ne
     (peers_transactions_are_none_between_calls end' second.awaits)
     (second.framer ∙ ap (λ (s : State). s.framer) first.after)
 
--- about such a message the desk isn't asked
+-- Such a message is not passed to the handler.
 silent_asks : (kind : Kind) (name : ℕ) (asked : List (ℕ × ℕ)) → is_silent kind ≡ true → asked_with kind None name asked ≡ asked
 silent_asks Primary name asked s = absurd (let d : false ≡ true = s in cc)
 silent_asks Reply name asked s = refl
@@ -326,7 +326,7 @@ handled_discarded desk end end' before entries frame rule is does sound framer =
     handled_as desk end end' before entries frame (Some rule) quiet is (λ e primary. absurd (let d : ◌≡◌ {A = Option Rule} (Some rule) None = e in cc))
     (subst (λ asked. Performs (asked_so end asked) before (logs (Discarded frame) ∷ reaction end.settings (is_selected end.tracker.phase) frame.header (Some rule) quiet) end' entries) (sym (discarded_asks (kind_of frame.header) rule (name_in frame.header) end.asked)) does) sound framer
 
--- ---- a frame that is judged
+-- ---- a frame that is checked
 
 pub checked_valid : (end : State) → IsSound end → is_up end.tracker.phase ≡ true → (frame : Frame) (answer : Option Rule) → IsFirst (Breaks (facts_of end.tracker) end.tracker.settings (record { time = end.moment; event = Taken frame })) all_rules answer → IsValidEvent end (received_as frame answer)
 checked_valid end sound up frame None input_event = frame_taken end sound up frame input_event
@@ -359,7 +359,7 @@ module _ (end : State) (frame : Frame) (rule : Rule) (can : CanDiscard end frame
   discarded_readable mid is e =
       ap (λ (s : State). s.tracker.phase) is ∙ discarded_phase ∙ unreadable_selected (subst (λ r. BreaksAsTaken end.tracker frame (Some r)) e can.broken)
 
--- a rule that has no reaction
+-- A rule without a reaction.
 pub no_reaction : (settings : Parameters) (selected : Bool) (header : Header) (rule : Rule)
     → (rule ≡ PType → ⊥) → (rule ≡ SType → ⊥) → (rule ≡ NotSelected → ⊥) → (rule ≡ Text → ⊥)
     → (rule ≡ NoTransaction → ⊥) → (rule ≡ Session → ⊥)
@@ -388,7 +388,7 @@ pub data_kind : (header : Header) → is_data header ≡ is_data_kind (kind_of h
 unfolding is_data
 data_kind header = refl
 
--- ---- what was sent for a discarded frame
+-- ---- messages sent for a discarded frame
 
 pub nothing_settles : (end : State) (before : List Entry) (acts : List Act) → acts ≡ [] → PeerAwaits end [] [] → Settles end before acts end before
 nothing_settles end before acts none awaits =
@@ -401,7 +401,7 @@ pub warned_settles : (end end' : State) (before entries : List Entry) (acts othe
 warned_settles end end' before entries acts others same awaits h =
     settles_as end end' before entries acts others same (record { does = h.does; awaits = h.awaits [] [] awaits; framer = h.same.framer })
 
--- ---- what may follow a frame that was judged
+-- ---- what may follow a checked frame
 
 pub can_take : (end : State) (frame : Frame) (answer : Option Rule) → IsSound end → is_up end.tracker.phase ≡ true → answer ≡ None → BreaksAsTaken end.tracker frame answer → IsValidEvent end (received_as frame answer) → CanTake end frame
 can_take end frame answer sound up none broken is_valid =
@@ -411,7 +411,7 @@ pub can_discard : (end : State) (frame : Frame) (answer : Option Rule) (rule : R
 can_discard end frame answer rule sound up some broken is_valid =
     record { awaits = sound_awaits end sound up; is_valid = subst (λ (a : Option Rule). IsValidEvent end (received_as frame a)) some is_valid; broken = subst (λ (a : Option Rule). BreaksAsTaken end.tracker frame a) some broken }
 
--- ---- kinds and rules that are told apart
+-- ---- distinguishing kinds and rules
 
 pub silent_of : (kind : Kind) → (kind ≡ SelectReq → ⊥) → (kind ≡ LinktestReq → ⊥) → (kind ≡ Separate → ⊥) → (kind ≡ Primary → ⊥) → is_silent kind ≡ true
 silent_of SelectReq n1 n2 n3 n4 = absurd (n1 refl)
@@ -425,12 +425,12 @@ silent_of Reject n1 n2 n3 n4 = refl
 silent_of OtherSType n1 n2 n3 n4 = refl
 silent_of OtherPType n1 n2 n3 n4 = refl
 
--- what an answer to nothing calls for
+-- The reaction to a response without a request.
 pub answers_nothing : (settings : Parameters) (selected : Bool) (header : Header) (rule : Rule) (b : Bool) → rule ≡ NoTransaction → b ≡ is_control_response (kind_of header) → answers_discarded settings selected header rule ≡ (if b then rejects header 3 else [])
 answers_nothing settings selected header rule b is e =
     ap (λ (r : Rule). answers_discarded settings selected header r) is ∙ ap (λ (b : Bool). if b then rejects header 3 else []) (sym e)
 
--- what data for another device calls for
+-- The reaction to data for another device.
 pub other_device : (settings : Parameters) (selected : Bool) (header : Header) (rule : Rule) (b : Bool) → rule ≡ Session → b ≡ (is_data header && selected) → answers_discarded settings selected header rule ≡ (if b then warns settings 1 header else [])
 other_device settings selected header rule b is e =
     ap (λ (r : Rule). answers_discarded settings selected header r) is ∙ ap (λ (b : Bool). if b then warns settings 1 header else []) (sym e)

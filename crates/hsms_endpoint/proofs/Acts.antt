@@ -1,4 +1,4 @@
--- Acts one after the other.
+-- Consecutive acts.
 use Rattle.std.proofs.Common.{◌≡◌, ℕ, ◌+◌, ◌%◌, ◌^◌, List, [], ◌∷◌, ◌++◌, Option, None, refl, sym, ap, subst, ◌∙◌, append_assoc}
 use Rattle.std.specs.Prelude.{Result, OnOk}
 use Rattle.std.proofs.lemmas.Result.{on_ok_weaker}
@@ -20,7 +20,7 @@ use Rattle.hsms_endpoint.specs.End.{Extends}
 use Rattle.hsms_endpoint.specs.ActionSteps.{Performs, IsValidEvent}
 use Rattle.hsms_endpoint.proofs.ValidOutputs.{first_same}
 
--- what follows where a call was done
+-- A consequence that holds if a call succeeded.
 pub then_ok : {T E P Q : Type 0} (r : Result T E) → OnOk r P → (P → Q) → OnOk r Q
 then_ok r h f = on_ok_weaker r f h
 
@@ -52,7 +52,7 @@ does_then end next end' before middle entries acts more h k =
       run = extends_then end.tracker next.tracker end'.tracker h.new k.new h.run k.run;
     }
 
--- one event, logged
+-- One event was logged.
 pub does_event : (end end' : State) (before entries : List Entry) (event : Event) → end' ≡ after_event end event → entries ≡ before ++ record { time = end.moment; event = event } ∷ [] → Extends end.tracker (record { time = end.moment; event = event } ∷ []) end'.tracker → Performs end before (logs event ∷ []) end' entries
 does_event end end' before entries event is added run =
     record {
@@ -62,7 +62,7 @@ does_event end end' before entries event is added run =
       run = run;
     }
 
--- a frame sent with own system bytes: it is logged, and the next number is one more
+-- A frame was sent with own system bytes: it is logged, and the next value is one more.
 pub does_number : (end mid end' : State) (before entries : List Entry) (frame : Frame) (number : ℕ) → Performs end before (logs (Sent frame) ∷ []) mid entries → end' ≡ record mid { next = (number + 1) % 2 ^ 32 } → IsFirstFree end.tracker end.next number → (asked : ℕ → Frame) → asked number ≡ frame → Performs end before (asks asked ∷ []) end' entries
 does_number end mid end' before entries frame number h is free asked same =
     let logged : known mid ≡ with_event (known end) (Sent frame) = h.done.2.1 in
@@ -79,7 +79,7 @@ does_number end mid end' before entries frame number h is free asked same =
       run = subst (λ (v : View). Extends end.tracker h.new v) (ap (λ (s : State). s.tracker) (sym is)) h.run;
     }
 
--- a lawful event that the tracker took in
+-- A valid event that the tracker accepted.
 pub logged : (end : State) (event : Event) (tracker : View) (before entries : List Entry) (answer : Option Rule) → IsValidEvent end event → IsFirst (Breaks (facts_of end.tracker) end.tracker.settings (record { time = end.moment; event = event })) all_rules answer → (answer ≡ None → tracker ≡ view_after end.tracker (record { time = end.moment; event = event })) → (answer ≡ None → Extends end.tracker (record { time = end.moment; event = event } ∷ []) tracker) → entries ≡ before ++ record { time = end.moment; event = event } ∷ [] → Performs end before (logs event ∷ []) (record end { tracker = tracker }) entries
 unfolding IsValidEvent
 logged end event tracker before entries answer is_valid input_event next run added =

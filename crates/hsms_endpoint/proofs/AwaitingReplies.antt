@@ -1,4 +1,4 @@
--- What an end owes its peer, while it handles a frame.
+-- The answers that an endpoint owes its peer while it handles a frame.
 use Rattle.std.proofs.Common.{◌≡◌, ℕ, ◌-◌, ◌≤◌, suc, Bool, true, false, ◌&&◌, ◌||◌, not, nat_lt, List, [], ◌∷◌, ◌++◌, length, filter, option_to_list, Option, None, Some, append-nil, refl, sym, ap, subst, ◌∙◌, arith, if◌then◌else◌}
 use Rattle.std.specs.List.{list_any}
 use Rattle.hsms_frame.specs.declared.header.Header.{Header}
@@ -48,7 +48,7 @@ and_false : (a b late : Bool) → (a ≡ true → b ≡ true) → (b && late) �
 and_false true b late h e = sym (ap (λ x. x && late) (h refl)) ∙ e
 and_false false b late h e = refl
 
--- ---- the transactions that stay
+-- ---- the transactions that remain
 
 pick_in_time : (late : Transaction → Bool) (b : Bool) (x : Transaction) (ys : List Transaction) → late x ≡ false → list_any late (ys ++ []) ≡ false → list_any late ((if b then x ∷ ys else ys) ++ []) ≡ false
 pick_in_time late true x ys e f = or_both (late x) _ e f
@@ -142,7 +142,8 @@ sound_awaits end sound up =
       unselected = steady.unselected;
     }
 
--- the peer's transactions are none between calls: an end that owes no answer is as it is between calls
+-- Between calls the peer has no open transactions. An endpoint that owes no answer satisfies the invariant between
+-- calls.
 pub peers_transactions_are_none_between_calls : (end : State) → PeerAwaits end [] [] → IsSound end
 peers_transactions_are_none_between_calls end awaits =
     record {
@@ -154,7 +155,7 @@ peers_transactions_are_none_between_calls end awaits =
       steady = λ up. record { calm = awaits.calm; taken_data = awaits.taken_data; taken_control = awaits.taken_control; few = awaits.few; unselected = awaits.unselected };
     }
 
--- the next number has no part in it
+-- The next value for system bytes does not affect it.
 pub awaits_numbered : (end : State) (number : ℕ) (primaries controls : List Transaction) → PeerAwaits end primaries controls → PeerAwaits (record end { next = number }) primaries controls
 awaits_numbered end number primaries controls awaits =
     record {
@@ -180,7 +181,7 @@ taken_mild moment frame stays = record { not_up = refl; not_down = refl; can_con
 discarded_mild : (moment : ℕ) (frame : Frame) → IsMild moment (Discarded frame)
 discarded_mild moment frame = record { not_up = refl; not_down = refl; can_continue = refl; no_data = refl; no_control = refl }
 
--- what of a header opens nothing and ends nothing
+-- The properties of a header that opens nothing and ends nothing.
 pub record IsQuiet (header : Header) : Type 0 where
   pub stays : separates header ≡ false
   pub no_data : is_data_request header ≡ false
@@ -196,7 +197,7 @@ sent_mild moment frame quiet =
       no_control = none_if is_control_request moment frame.header quiet.no_control;
     }
 
--- a frame that was taken: the peer waits for an answer to it, if it is a request, and to nothing else
+-- After an accepted frame the peer waits for an answer to it, if it is a request, and for nothing else.
 pub taken_awaits : (end : State) (frame : Frame) → PeerAwaits end [] [] → separates frame.header ≡ false → PeerAwaits (after_event end (Taken frame)) (option_to_list (opened_by is_data_request end.moment frame.header)) (option_to_list (opened_by is_control_request end.moment frame.header))
 taken_awaits end frame awaits stays = awaits_after end (Taken frame) [] [] awaits (taken_mild end.moment frame stays)
 
@@ -209,7 +210,7 @@ left_by header opened = filter (λ (transaction : Transaction). not (concludes t
 pub sent_awaits : (end : State) (frame : Frame) (primaries controls : List Transaction) → PeerAwaits end primaries controls → IsQuiet frame.header → PeerAwaits (after_event end (Sent frame)) (left_by frame.header primaries) (left_by frame.header controls)
 sent_awaits end frame primaries controls awaits quiet = awaits_after end (Sent frame) primaries controls awaits (sent_mild end.moment frame quiet)
 
--- nothing is done
+-- Nothing is done.
 pub does_nothing : (end : State) (before : List Entry) → Performs end before [] end before
 does_nothing end before =
     record {
@@ -219,7 +220,7 @@ does_nothing end before =
       run = λ log has. subst (λ es. HasView end.tracker.settings es end.tracker) (sym (append-nil log)) has;
     }
 
--- what the end owes, as its tracker says
+-- The answers that the endpoint owes are those of its tracker.
 pub awaits_own : (end : State) (primaries controls : List Transaction) → PeerAwaits end primaries controls → PeerAwaits end end.tracker.taken_data end.tracker.taken_control
 awaits_own end primaries controls awaits =
     subst (λ xs. PeerAwaits end end.tracker.taken_data xs) (sym awaits.taken_control) (subst (λ xs. PeerAwaits end xs controls) (sym awaits.taken_data) awaits)

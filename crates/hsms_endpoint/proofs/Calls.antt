@@ -1,4 +1,4 @@
--- What the calls of an end answer.
+-- The results of the calls of an endpoint.
 use Rattle.std.proofs.Common.{◌≡◌, ℕ, max, ◌<◌, ◌≤◌, Bool, true, false, List, [], ◌∷◌, Some, None, refl, sym, ap, subst, ◌∙◌, inl, inr, ◌⊎◌, Vec, Global, arith}
 use Rattle.std.specs.Prelude.{Result, Err, IsErrAnd}
 use Rattle.std.proofs.lemmas.Result.{err_from_is_err_and}
@@ -50,7 +50,7 @@ unfolding Encounters
 linktest_encounters spent end s u room =
     inr (not_spent spent s, inr (up_is_up (is_up end.tracker.phase) u, inr ((λ b. b), inr ((λ b. b), inr ((λ b. b), inr ((λ b. let le : 64 ≤ own_open_of end.tracker = b.1 in absurd (omega arith)), inr ((λ b. b), inr ((λ b. b), refl))))))))
 
--- ---- what a call answers, said of what is inside an end
+-- ---- the result of a call, in terms of the endpoint's internals
 
 abbrev pub inside_of : {D : Type 0} → D → State → Bool → EndOf D
 inside_of desk end spent = record { desk = desk; known = known_of end spent }
@@ -61,7 +61,7 @@ accepted_at {D} answers desk end end' spent at input entries fresh is encounters
     (subst (λ (b : Bool). Accepts answers (inside_of desk end b) input entries (inside_of desk end' false)) (sym fresh)
     (record { encounters = subst (λ (b : Bool). Encounters (known_of end b) input None) fresh encounters; turn = turn; run = run; desk = refl }))
 
--- a call that needs a connection is refused at once
+-- A call that needs a connection is rejected at once.
 refused_by : {D : Type 0} (desk : D) (end : State) (spent : Bool) (at : EndOf D) (input : InputEvent) (fault : EndFault) → inside_of desk end spent ≡ at → (is_up end.tracker.phase ≡ false → IsNotUp (known_of end spent) input) → IsRefusedAs spent (is_up end.tracker.phase) fault → Refuses at input fault at
 unfolding Encounters
 refused_by {D} desk end spent at input Spent is down r = (subst (λ (k : EndOf D). Encounters k.known input (Some Spent)) is (inl (r, refl)), refl)
@@ -79,14 +79,14 @@ refused_at_once {D} answers desk end spent at input fault result is down refused
     let input_event = err_from_is_err_and result err in
     subst (λ (r : Result (Vec Entry Global) EndFault). Answers answers at input r at) (sym (input_event.1 ∙ ap (λ (e : EndFault). Err e) input_event.2)) (refused_by desk end spent at input fault is down refused)
 
--- memory was refused in a call that meets no fault, or may meet `TooLong`
+-- An allocation failed in a call that has no error, or may have `TooLong`.
 pub out_of_memory : {D : Type 0} (answers : D → ℕ → Content → Answered) (desk : D) (end end' : State) (spent : Bool) (at : EndOf D) (input : InputEvent) (result : Result (Vec Entry Global) EndFault) → inside_of desk end spent ≡ at → Encounters (known_of end spent) input None ⊎ Encounters (known_of end spent) input (Some TooLong) → IsErrAnd result (λ e. e ≡ Memory) → Answers answers at input result (inside_of desk end' true)
 out_of_memory {D} answers desk end end' spent at input result is encounters err =
     let input_event = err_from_is_err_and result err in
     subst (λ (r : Result (Vec Entry Global) EndFault). Answers answers at input r (inside_of desk end' true)) (sym (input_event.1 ∙ ap (λ (e : EndFault). Err e) input_event.2))
     (subst (λ (k : EndOf D). Encounters k.known input None ⊎ Encounters k.known input (Some TooLong)) is encounters, refl)
 
--- an input whose turn is these acts, from this end on
+-- An input whose turn is these acts, starting from this endpoint.
 pub accepted : {D : Type 0} (answers : D → ℕ → Content → Answered) (desk : D) (end from end' : State) (spent : Bool) (at : EndOf D) (input : InputEvent) (acts : List Act) (first entries : List Entry) → spent ≡ false → inside_of desk end spent ≡ at → first ≡ [] → Encounters (known_of end spent) input None → from.tracker ≡ end.tracker → ((es : List Entry) (k : EndState) → Acts (known from) acts es k → Turn (answers desk) (known end) input es k) → Performs from first acts end' entries → Accepts answers at input entries (inside_of desk end' false)
 accepted {D} answers desk end from end' spent at input acts first entries fresh is empty encounters same turn h =
     let done : Performs from [] acts end' entries = subst (λ es. Performs from es acts end' entries) empty h in

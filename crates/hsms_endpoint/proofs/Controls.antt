@@ -1,4 +1,4 @@
--- The responses and Rejects of an own end are lawful, and settle what it owes.
+-- The responses and Rejects of an endpoint are valid, and settle the answers that it owes.
 use Rattle.std.proofs.Common.{◌≡◌, ℕ, ◌+◌, ◌<◌, ◌==◌, Bool, true, false, ◌&&◌, ◌||◌, not, List, [], ◌∷◌, ◌++◌, refl, sym, ap, subst, ◌∙◌, inr, arith, if◌then◌else◌}
 use Rattle.std.specs.List.{list_any}
 use Rattle.std.specs.Int.{from_bool}
@@ -102,7 +102,7 @@ answers_linktest request e =
     ap (λ k. (request.system == request.system) && answers_kind k LinktestRsp request (linktest_rsp request).header) e
     ∙ ap (λ b. b && true) (same_system request.system)
 
--- the one request is answered
+-- The one request is answered.
 pub left_answered : (request : Transaction) (response : Header) → answers request.header response ≡ true → left_by response (request ∷ []) ≡ []
 left_answered request response e = ap (λ b. (if not (b || rejects request.header response) then request ∷ [] else []) ++ []) e
 

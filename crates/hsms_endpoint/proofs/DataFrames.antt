@@ -1,4 +1,4 @@
--- The data that an own end sends breaks no rule of frames.
+-- The data messages that an endpoint sends break no rule of frames.
 use Rattle.std.proofs.Common.{◌≡◌, ◌+◌, ◌≤◌, ◌==◌, Bool, true, false, ◌&&◌, ◌||◌, length, refl, sym, ap, subst, ◌∙◌, arith}
 use Rattle.secs_item.specs.Encoding.{IsText}
 use Rattle.hsms_frame.specs.Frame.{Frame}
@@ -31,7 +31,7 @@ not_select Primary zero d c = let e : false ≡ true = c in cc
 not_select Reply zero d c = let e : false ≡ true = c in cc
 not_select kind zero d c = let e : false ≡ true = d in cc
 
--- what of data the rules ask, by its kind
+-- The properties of data that the rules require, by its kind.
 pub record IsSendable (view : View) (frame : Frame) (kind : Kind) : Type 0 where
   pub kind_is : kind_of frame.header ≡ kind
   pub carries : is_data_kind kind ≡ true

@@ -1,4 +1,4 @@
--- Inputs one after the other.
+-- Consecutive inputs.
 use Rattle.std.proofs.Common.{◌≡◌, ℕ, ◌+◌, ◌<◌, ◌≤◌, List, [], ◌∷◌, ◌++◌, map, take, get_or, Some, length, refl, sym, ap, subst, ◌∙◌, append-nil, append_assoc, arith}
 use Rattle.std.proofs.lemmas.List.{map-append, take_more, take_all}
 use Rattle.secs_text.specs.Content.{Content}
@@ -19,7 +19,7 @@ use Rattle.hsms_endpoint.specs.Driving.{HasDriven}
 use Rattle.hsms_endpoint.proofs.Acts.{settings_of}
 use Rattle.hsms_endpoint.proofs.KeptRequests.{drive_keeps_octets}
 
--- one input more
+-- One more input.
 drives_more : (desk : ℕ → Content → Answered) (inputs : List InputEvent) (end middle : EndState) (accepted : List InputEvent) (entries : List Entry) (input : InputEvent) (one : List InputEvent) (first : List Entry) (next : EndState) → Drives desk end inputs accepted entries middle → Responds desk middle input one first next → Drives desk end (inputs ++ input ∷ []) (accepted ++ one) (entries ++ first) next
 drives_more desk [] end middle accepted entries input one first next h response = (
   next,
@@ -59,7 +59,7 @@ undriven {D} answers settings desk first_system entries end none is =
       same_desk = refl;
     }))
 
--- an input that was accepted
+-- An input that was accepted.
 pub one_accepted : {D : Type 0} (answers : D → ℕ → Content → Answered) (settings : Parameters) (desk : D) (first_system : ℕ) (inputs : List InputEvent) (entries more : List Entry) (end end' : EndOf D) (input : InputEvent) (new : List Entry) → HasDriven answers settings desk first_system inputs entries end → Accepts answers end input new end' → more ≡ entries ++ new → HasDriven answers settings desk first_system (inputs ++ input ∷ []) more end'
 one_accepted {D} answers settings desk first_system inputs entries more end end' input new h a added =
     let same : settings ≡ end.known.view.settings = settings_of settings entries end.known.view h.seen in
@@ -76,7 +76,7 @@ one_accepted {D} answers settings desk first_system inputs entries more end end'
       same_desk = a.desk ∙ h.same_desk;
     })
 
--- a fault that is not want of memory changes nothing
+-- Any error but a failed allocation changes nothing.
 refused : {D : Type 0} (end end' : EndOf D) (input : InputEvent) (fault : EndFault) → (fault ≡ Memory → ⊥) → Refuses end input fault end' → Encounters end.known input (Some fault) × (end' ≡ end)
 refused end end' input Spent n h = h
 refused end end' input NotUp n h = h
@@ -88,7 +88,7 @@ refused end end' input TooLong n h = h
 refused end end' input TooDeep n h = h
 refused end end' input Memory n h = absurd (n refl)
 
--- an input that was refused
+-- An input that was rejected.
 pub one_refused : {D : Type 0} (answers : D → ℕ → Content → Answered) (settings : Parameters) (desk : D) (first_system : ℕ) (inputs : List InputEvent) (entries : List Entry) (end end' : EndOf D) (input : InputEvent) (fault : EndFault) → HasDriven answers settings desk first_system inputs entries end → Refuses end input fault end' → (fault ≡ Memory → ⊥) → HasDriven answers settings desk first_system (inputs ++ input ∷ []) entries end'
 one_refused {D} answers settings desk first_system inputs entries end end' input fault h r n =
     let is = refused end end' input fault n r in
@@ -101,7 +101,7 @@ one_refused {D} answers settings desk first_system inputs entries end end' input
       same_desk = h.same_desk;
     })
 
--- the next input of those in memory
+-- The next of the inputs in memory.
 pub next_passed : (inputs : List Input) (i : ℕ) (item : Input) → i < length inputs → item ≡ get_or inputs i item → map input_event (take i inputs) ++ input_event item ∷ [] ≡ map input_event (take (i + 1) inputs)
 next_passed inputs i item lt is =
     ap (λ (x : Input). map input_event (take i inputs) ++ input_event x ∷ []) is

@@ -1,4 +1,4 @@
--- What the call `tick` answers.
+-- The result of the call `tick`.
 use Rattle.std.proofs.Common.{◌≡◌, ℕ, Bool, true, false, List, [], None, refl, sym, ◌∙◌, inr}
 use Rattle.secs_text.specs.Content.{Content}
 use Rattle.hsms_machine.specs.declared.entry.Entry.{Entry}

@@ -1,4 +1,4 @@
--- Own data that is overdue, logged one after the other.
+-- Overdue own data, logged one after the other.
 use Rattle.std.proofs.Common.{◌≡◌, ℕ, ◌+◌, ◌-◌, ◌<◌, ◌≤◌, ◌==◌, Bool, true, false, ◌&&◌, ◌||◌, not, nat_lt, nat_le, List, [], ◌∷◌, ◌++◌, length, map, filter, Option, None, Some, refl, sym, ap, subst, ◌∙◌, inl, inr, arith, if◌then◌else◌, append-nil, append_assoc}
 use Rattle.std.specs.List.{list_any}
 use Rattle.std.proofs.lemmas.Bool.Decides.{nat_tests}
@@ -28,9 +28,9 @@ use Rattle.hsms_endpoint.proofs.ValidOutputs.{none_of}
 use Rattle.hsms_endpoint.proofs.Steadiness.{up_is_not_before, up_is_not_over}
 use Rattle.hsms_endpoint.proofs.Ordering.{as_it_was, first_removed, all_in_time, none_picked, first_picked}
 
--- ---- what is read of the first transaction
+-- ---- the first transaction
 
--- the transaction that was opened first is overdue
+-- The transaction that was opened first is overdue.
 pub record IsOverdueFirst (limit moment : ℕ) (opened : List Transaction) (header : Header) : Type 0 where
   pub first : Transaction
   pub later : List Transaction
@@ -205,7 +205,7 @@ fewer_left end next header late e is =
     let less : length h.later < length end.tracker.sent_data = fewer end late header h in
     omega arith
 
--- what has expired is all that was overdue
+-- The data that has expired is all data that was overdue.
 pub all_expired : (start end : State) (before entries : List Entry) (headers : List Header) (h : HasExpired start before end entries headers) → is_data_overdue end ≡ false → h.expired ≡ expired_at start.tracker start.moment
 all_expired start end before entries headers h none =
     sym (h.onward ∙ ap (λ xs. h.expired ++ xs) (none_picked (λ (opened : Transaction). nat_lt end.tracker.settings.t3 (end.moment - opened.time)) end.tracker.sent_data none) ∙ append-nil h.expired)

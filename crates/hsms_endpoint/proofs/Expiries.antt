@@ -1,4 +1,4 @@
--- What is logged because a timer ran out, as a whole.
+-- All entries that are logged because a timer expired.
 use Rattle.std.proofs.Common.{◌≡◌, ℕ, ◌-◌, ◌≤◌, max, true, false, nat_lt, List, [], ◌∷◌, ◌++◌, map, filter, Option, None, Some, refl, sym, ap, subst, ◌∙◌, arith, if◌then◌else◌}
 use Rattle.hsms_frame.specs.declared.header.Header.{Header}
 use Rattle.hsms_machine.specs.declared.entry.Entry.{Entry}
@@ -21,7 +21,7 @@ use Rattle.hsms_endpoint.proofs.Acts.{does_then}
 use Rattle.hsms_endpoint.proofs.Ordering.{ordered_later}
 use Rattle.hsms_endpoint.proofs.ExpiredData.{all_expired}
 
--- a sound end whose time goes on
+-- A sound endpoint whose time advances.
 pub late_at : (end : State) (now : ℕ) → IsSound end → IsInOrder end.tracker → is_up end.tracker.phase ≡ true → IsLate (at_later end now)
 late_at end now sound order up =
     let steady = sound.steady up in
@@ -51,7 +51,7 @@ selected_if phase.Selected up n = refl
 selected_if phase.Over up n = absurd (let d : false ≡ true = up in cc)
 selected_if phase.Gone up n = absurd (let d : false ≡ true = up in cc)
 
--- where own data expired, the session is selected
+-- If own data expired, the session is selected.
 may_warn_of : (start : State) → IsLate start → (xs : List Transaction) → xs ≡ expired_at start.tracker start.moment → MayWarn start.tracker.phase (headers_of xs)
 may_warn_of start late [] e = tt
 may_warn_of start late (x ∷ xs) e =

@@ -1,4 +1,4 @@
--- In which order a tick logs.
+-- The order in which a tick logs.
 use Rattle.std.proofs.Common.{◌≡◌, ℕ, Bool, true, false, List, [], ◌∷◌, ◌++◌, map, max, Option, Some, None, refl, ap, subst, ◌∙◌, if◌then◌else◌}
 use Rattle.std.specs.List.{list_any}
 use Rattle.secs_text.specs.Content.{Content}
@@ -15,7 +15,7 @@ use Rattle.hsms_endpoint.specs.Reaction.{is_equipment}
 use Rattle.hsms_endpoint.specs.Turn.{expired_at, expiry, expiry_warning, cut_by, after_expiries, overdue_cause, Turn, tick}
 use Rattle.hsms_endpoint.specs.Laws.{expiry_at, expiries_at}
 
--- acts, and acts behind them
+-- Acts, and the acts after them.
 record Splits (acts more : List Act) (end : EndState) (entries : List Entry) (end' : EndState) : Type 0 where
   middle : EndState
   first : List Entry

@@ -1,4 +1,4 @@
--- Among more consecutive numbers than there are open own transactions one is free.
+-- If there are more consecutive numbers than open own transactions, one of the numbers is free.
 use Rattle.std.proofs.Common.{◌≡◌, ℕ, zero, suc, ◌+◌, ◌^◌, ◌<◌, ◌≤◌, nat_eq, Bool, true, false, ◌||◌, List, [], ◌∷◌, ◌++◌, length, map, refl, sym, ap, subst, ◌∙◌, inl, inr, ◌⊎◌, arith, length-append}
 use Rattle.std.specs.List.{list_any, AllByRecursion, IsDistinct}
 use Rattle.std.specs.Cmp.{nat_eq_equiv}
@@ -9,7 +9,7 @@ use Rattle.hsms_machine.specs.declared.view.View.{View}
 use Rattle.hsms_machine.specs.View.{in_use_of, own_open_of}
 use Rattle.hsms_endpoint.specs.SystemBytes.{number_on, IsFree}
 
--- the numbers from the next one on, the last first
+-- The numbers from the next one on, the last one first.
 abbrev numbers : ℕ → ℕ → List ℕ
 numbers next zero = []
 numbers next (suc n) = number_on next n ∷ numbers next n
@@ -40,7 +40,7 @@ eq_from a b e = grind (arith, nat_tests)
 eq_turned : (a b : ℕ) → nat_eq a b ≡ nat_eq b a
 eq_turned a b = grind (arith, nat_tests)
 
--- each of the numbers stands so many places on
+-- Each of the numbers is fewer than n further on.
 number_of : (next n q : ℕ) → list_any (nat_eq q) (numbers next n) ≡ true → (k : ℕ) × (k < n) × (q ≡ number_on next k)
 number_of next zero q e = absurd (let d : false ≡ true = e in cc)
 number_of next (suc n) q e = elim (or_cases _ _ e) [
@@ -78,7 +78,7 @@ not_free : (b : Bool) → (b ≡ false → ⊥) → b ≡ true
 not_free true f = refl
 not_free false f = absurd (f refl)
 
--- where so many consecutive numbers are taken, at least as many transactions are open
+-- If n consecutive numbers are in use, at least n transactions are open.
 pub crowded : (view : View) (next n : ℕ) → n ≤ 2 ^ 32 → ((k : ℕ) → k < n → ¬ IsFree view (number_on next k)) → n ≤ own_open_of view
 crowded view next n le taken =
     let all : List ℕ = systems view.sent_data ++ systems view.sent_control in

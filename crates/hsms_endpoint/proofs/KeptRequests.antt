@@ -1,4 +1,4 @@
--- The octets that come are kept.
+-- No received byte is lost.
 use Rattle.std.proofs.Common.{◌≡◌, ℕ, Bool, true, false, ◌&&◌, ◌==◌, List, [], ◌∷◌, ◌++◌, map, max, Option, Some, None, refl, sym, ap, ◌∙◌, append-nil, append_assoc, if◌then◌else◌}
 use Rattle.secs_text.specs.Content.{Content}
 use Rattle.hsms_frame.specs.declared.header.Header.{Header}
@@ -26,7 +26,7 @@ use Rattle.hsms_endpoint.specs.Reaction.{is_equipment, warns, aborts, rejects, i
 use Rattle.hsms_endpoint.specs.Turn.{opening_of, expiry, expiry_warning, cut_by, after_expiries, expiries, expired_at, overdue_cause, received_as, with_asked, Handles, warns_too_long, Rests, is_down, waits, too_short, too_long, Receives, with_octets, InputEvent, start, tick, bytes, send, linktest, separate, lost, Turn}
 use Rattle.hsms_endpoint.specs.Drive.{Responds, is_refused, is_accepted, Drives, octets_of, input_octets, octets_in, octets_received}
 
--- ---- what acts receive
+-- ---- the bytes that acts receive
 
 abbrev pub receipt : Act → List ℕ
 receipt (logs event) = octets_in event
@@ -40,7 +40,7 @@ receipts_append : (acts more : List Act) → receipts (acts ++ more) ≡ receipt
 receipts_append [] more = refl
 receipts_append (act ∷ acts) more = ap (λ xs. receipt act ++ xs) (receipts_append acts more) ∙ sym (append_assoc (receipt act) (receipts acts) (receipts more))
 
--- acts that receive nothing, one list after the other
+-- Two consecutive lists of acts that receive nothing.
 none_append : (acts more : List Act) → receipts acts ≡ [] → receipts more ≡ [] → receipts (acts ++ more) ≡ []
 none_append acts more a m = receipts_append acts more ∙ ap (λ xs. xs ++ receipts more) a ∙ m
 
@@ -57,7 +57,7 @@ acts_receive (asks frame ∷ acts) end entries end' h =
     let rest = acts_receive acts (with_number end (frame h.0) h.0) h.1 end' h.4 in
     (ap octets_received h.3 ∙ rest.0, rest.1)
 
--- ---- an end receives nothing by what it does of its own
+-- ---- an endpoint receives nothing by its own acts
 
 warns_none : (settings : Parameters) (function : ℕ) (header : Header) → receipts (warns settings function header) ≡ []
 warns_none settings function header = none_if (is_equipment settings.role) (asks (warning settings function header) ∷ []) refl
@@ -139,9 +139,9 @@ too_long_none end header =
     none_append (warns_too_long end header) (cut_by Length)
     (none_if (is_selected end.view.phase && (header.stype == 0) && (header.ptype == 0) && (header.session == end.settings.device)) (warns end.settings 11 header) (warns_none end.settings 11 header)) refl
 
--- ---- what is received of octets
+-- ---- the part of the bytes that is received
 
--- acts that receive nothing leave what is pending
+-- Acts that receive nothing do not change the pending bytes.
 kept_by : (acts : List Act) (end : EndState) (entries : List Entry) (end' : EndState) → receipts acts ≡ [] → Acts end acts entries end' → end.pending ≡ octets_received entries ++ end'.pending
 kept_by acts end entries end' none h =
     let received = acts_receive acts end entries end' h in
@@ -157,7 +157,7 @@ received_frame : (frame : Frame) (broken : Option Rule) → octets_in (received_
 received_frame frame None = refl
 received_frame frame (Some broken) = refl
 
--- a frame that is handled is received, and leaves what is pending
+-- Handling a frame receives it, and does not change the pending bytes.
 handled_keeps : (desk : ℕ → Content → Answered) (end : EndState) (frame : Frame) (entries : List Entry) (end' : EndState) → Handles desk end frame entries end' → (octets_received entries ≡ frame_octets frame) × (end'.pending ≡ end.pending)
 handled_keeps desk end frame entries end' h =
     let broken : Option Rule = h.0 in
@@ -193,7 +193,7 @@ receives_keep desk end (frame ∷ frames) entries end' h =
 
 -- ---- a turn
 
--- a turn without octets
+-- A turn without bytes.
 quiet_turn : (acts : List Act) (end from : EndState) (entries : List Entry) (end' : EndState) → receipts acts ≡ [] → Acts from acts entries end' → from.pending ≡ end.pending → end.pending ++ [] ≡ octets_received entries ++ end'.pending
 quiet_turn acts end from entries end' none h same = append-nil end.pending ∙ sym same ∙ kept_by acts from entries end' none h
 

@@ -1,4 +1,4 @@
--- What equipment tells of the own data that expired.
+-- The messages with which equipment reports its expired own data.
 use Rattle.std.proofs.Common.{◌≡◌, ℕ, Bool, true, false, refl, ◌+◌, ◌<◌, List, [], ◌∷◌, ◌++◌, length, map, take, get_or, sym, ap, subst, ◌∙◌, arith, if◌then◌else◌}
 use Rattle.std.proofs.lemmas.List.{map-append, take_more}
 use Rattle.hsms_frame.specs.declared.header.Header.{Header}
@@ -13,7 +13,7 @@ use Rattle.hsms_endpoint.specs.ActionSteps.{Performs}
 use Rattle.hsms_endpoint.specs.Expiring.{warns_of, warnings_of, MayWarn}
 use Rattle.hsms_endpoint.proofs.Acts.{does_then}
 
--- what a host tells is nothing
+-- A host reports nothing.
 pub no_warning : (equipment : Bool) → ◌≡◌ {A = List Act} [] (if equipment then [] else [])
 no_warning true = refl
 no_warning false = refl
@@ -22,7 +22,7 @@ emitted_more : (equipment : Bool) (input_event : List Act) (one : Act) → (if e
 emitted_more true input_event one = refl
 emitted_more false input_event one = refl
 
--- one warning more
+-- One more warning.
 pub one_warned : (start end next : State) (before entries more : List Entry) (headers : List Header) (i : ℕ) (none : Header) → i < length headers → end.settings ≡ start.settings → Performs start before (warnings_of start.settings (take i headers)) end entries → Performs end entries (warns end.settings 9 (get_or headers i none)) next more → Performs start before (warnings_of start.settings (take (i + 1) headers)) next more
 one_warned start end next before entries more headers i none lt settings h one =
     let header : Header = get_or headers i none in

@@ -1,4 +1,4 @@
--- Messages that are sent: they are lawful, and leave a sound end sound.
+-- Sent messages: they are valid, and a sound endpoint remains sound.
 use Rattle.std.proofs.Common.{◌≡◌, ℕ, ◌+◌, ◌-◌, ◌<◌, ◌≤◌, ◌%◌, ◌^◌, ◌==◌, Bool, true, false, ◌&&◌, ◌||◌, not, nat_le, List, length, Option, None, Some, option_map, refl, sym, ap, subst, ◌∙◌, inr, arith, if◌then◌else◌}
 use Rattle.std.specs.Prelude.{IfSome}
 use Rattle.std.proofs.lemmas.Bool.Decides.{nat_tests}
@@ -53,11 +53,11 @@ has_room len most length max len_is most_is least le = omega arith
 pub has_no_room : (len most length max : ℕ) → len ≡ length → most ≡ max → 256 ≤ most → most - 10 < len → 10 + length ≤ max → ⊥
 has_no_room len most length max len_is most_is least gt le = omega arith
 
--- what is too deep has no fitting text
+-- An item that is too deep has no fitting text.
 pub too_deep : (settings : Parameters) (item : Option Value) → is_within_depth settings.depth item ≡ false → None ≡ fitting_text settings item
 too_deep settings item deep = sym (ap (λ (b : Bool). if b then fitting settings.max (text_of item) else None) deep)
 
--- the text of an item that is within depth, by whether it has one and how long this is
+-- The text of an item that is within the depth, by whether it has one and how long it is.
 module _ {V : Type 0} (items : V → List ℕ) (settings : Parameters) (item : Option Value) (shallow : is_within_depth settings.depth item ≡ true) where
   fitted : (o : Option V) → option_map items o ≡ text_of item → fitting settings.max (option_map items o) ≡ fitting_text settings item
   fitted o is = ap (λ t. fitting settings.max t) is ∙ sym (ap (λ (b : Bool). if b then fitting settings.max (text_of item) else None) shallow)
@@ -94,7 +94,7 @@ pub text_fits : (settings : Parameters) (item : Option Value) (text : List ℕ) 
 text_fits settings item text e =
     fits settings.max (text_of item) text (fits_within (is_within_depth settings.depth item) (fitting settings.max (text_of item)) text e)
 
--- ---- a message that nothing hinders
+-- ---- a message that no error prevents
 
 pub record IsUnhindered (unselected even nine full deep : Bool) : Type 0 where
   pub selected : unselected ≡ false
@@ -227,7 +227,7 @@ module _ (end : State) (sound : IsSound end) (message : Content) (text : List �
       (renumbered (after_event end (Sent (message_frame end.settings message text number))) ((number + 1) % 2 ^ 32)
       (sent_sound end (message_frame end.settings message text number) sending_up (sound.steady sending_up) send sound.settings sound.within sound.limit))
 
--- the item itself, where it was lent
+-- Mapping the item when it was borrowed.
 pub option_through : {A B C : Type 0} (f : A → B) (g : B → C) (o : Option A) → option_map (λ x. g (f x)) o ≡ option_map g (option_map f o)
 option_through f g None = refl
 option_through f g (Some x) = refl

@@ -6,7 +6,7 @@ use Rattle.hsms_machine.specs.View.{in_use_of, own_open_of}
 use Rattle.hsms_endpoint.specs.SystemBytes.{number_on, IsFree, IsFirstFree}
 use Rattle.hsms_endpoint.proofs.FullEndpoint.{crowded}
 
--- ---- places
+-- ---- comparing positions
 
 lt_yes : (a b : ℕ) → nat_lt a b ≡ true → a < b
 lt_yes a b e = grind (arith, nat_tests)
@@ -29,9 +29,9 @@ apart_or_same a b = decided (nat_lt a b) (nat_lt b a) refl refl
     decided false true e f = inl (inr (lt_yes b a f))
     decided false false e f = inr (let no : b ≤ a = lt_no a b e in let nor : a ≤ b = lt_no b a f in omega arith)
 
--- ---- which of them are free
+-- ---- the free positions
 
--- one of so many places is free, or none
+-- One of the first n positions is free, or none is.
 abbrev Looks : View → ℕ → ℕ → Type 0
 Looks view next n = ((places : ℕ) × (places < n) × IsFree view (number_on next places)) ⊎ ((k : ℕ) → k < n → ¬ IsFree view (number_on next k))
 

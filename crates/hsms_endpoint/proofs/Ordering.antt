@@ -13,7 +13,7 @@ unfiltered : (xs : List Transaction) → filter (λ (transaction : Transaction).
 unfiltered [] = refl
 unfiltered (x ∷ xs) = ap (λ ys. x ∷ ys) (unfiltered xs)
 
--- a pool that loses nothing
+-- A pool from which nothing is removed.
 pub as_it_was : (xs : List Transaction) → filter (λ (transaction : Transaction). not false) xs ++ [] ≡ xs
 as_it_was xs = append-nil _ ∙ unfiltered xs
 
@@ -30,7 +30,7 @@ others_stay system (x ∷ xs) all = kept_step (x.header.system == system) x (fil
 removed_step : (b : Bool) (x : Transaction) (ys : List Transaction) → b ≡ true → cond (not b) (x ∷ ys) ys ≡ ys
 removed_step b x ys e = ap (λ t. cond (not t) (x ∷ ys) ys) e
 
--- an expiry of the first one leaves the others
+-- The expiry of the first transaction leaves the others.
 pub first_removed : (moment : ℕ) (x : Transaction) (xs : List Transaction) → IsOrdered moment (x ∷ xs) → filter (λ (opened : Transaction). not (opened.header.system == x.header.system)) (x ∷ xs) ++ [] ≡ xs
 first_removed moment x xs h =
     append-nil _
@@ -48,7 +48,7 @@ later_in_time limit moment time [] all e = refl
 later_in_time limit moment time (x ∷ xs) all e =
     or_both (nat_lt limit (moment - x.time)) _ (in_time_too limit moment time x.time all.0 e) (later_in_time limit moment time xs all.1 e)
 
--- where the first one is in time, each one is
+-- If the first transaction is in time, all are.
 pub all_in_time : (limit moment at : ℕ) (x : Transaction) (xs : List Transaction) → IsOrdered at (x ∷ xs) → nat_lt limit (moment - x.time) ≡ false → list_any (λ (opened : Transaction). nat_lt limit (moment - opened.time)) (x ∷ xs) ≡ false
 all_in_time limit moment at x xs h e = or_both (nat_lt limit (moment - x.time)) _ e (later_in_time limit moment x.time xs h.1 e)
 
@@ -59,13 +59,13 @@ neither : (a b : Bool) → (a || b) ≡ false → (a ≡ false) × (b ≡ false)
 neither true b e = absurd (let d : true ≡ false = e in cc)
 neither false b e = (refl, e)
 
--- where none passes the test, none is picked
+-- If none passes the test, none is selected.
 pub none_picked : (test : Transaction → Bool) (xs : List Transaction) → list_any test xs ≡ false → filter test xs ≡ []
 none_picked test [] e = refl
 none_picked test (x ∷ xs) e =
     let both : (test x ≡ false) × (list_any test xs ≡ false) = neither _ _ e in
     none_kept test x (filter test xs) both.0 (none_picked test xs both.1)
 
--- the first one, where it passes the test, is picked first
+-- If the first one passes the test, it is selected first.
 pub first_picked : (test : Transaction → Bool) (x : Transaction) (xs : List Transaction) → test x ≡ true → filter test (x ∷ xs) ≡ x ∷ filter test xs
 first_picked test x xs e = ap (λ t. cond t (x ∷ filter test xs) (filter test xs)) e

@@ -43,7 +43,7 @@ broken_rule_is_one : (view : View) (frame : Frame) (one other : Option Rule) →
 broken_rule_is_one view frame one other h k =
     first_rule_is_one (FrameBreaks (facts_of view) view.settings Incoming frame) (format_rules ++ transaction_rules) one other h k
 
--- the desk's answer counts for a primary alone
+-- The handler's answer matters only for a primary.
 answers_agree : (settings : Parameters) (selected : Bool) (k : Kind) (header : Header) (one other : Answered) → (k ≡ kind.Primary → one ≡ other) → answers_taken settings selected k header one ≡ answers_taken settings selected k header other
 answers_agree settings selected kind.Primary header one other same = ap (λ answer. answers_primary settings header answer) (same refl)
 answers_agree settings selected kind.Reply header one other same = refl
@@ -56,12 +56,12 @@ answers_agree settings selected kind.Separate header one other same = refl
 answers_agree settings selected kind.OtherSType header one other same = refl
 answers_agree settings selected kind.OtherPType header one other same = refl
 
--- and only where it is taken
+-- It matters only if the primary is accepted.
 reaction_agrees : (settings : Parameters) (selected : Bool) (header : Header) (broken : Option Rule) (one other : Answered) → (broken ≡ None → kind_of header ≡ kind.Primary → one ≡ other) → reaction settings selected header broken one ≡ reaction settings selected header broken other
 reaction_agrees settings selected header None one other same = answers_agree settings selected (kind_of header) header one other (same refl)
 reaction_agrees settings selected header (Some rule) one other same = refl
 
--- ---- where no further message is at the front
+-- ---- no further message at the start of the pending bytes
 
 abbrev Answer : Type 0
 Answer = Result (Option Frame) FrameFault
@@ -77,7 +77,7 @@ last_acts end (Err (TooShort n)) = cut_by Length
 last_acts end (Err (TooLong n header)) = warns_too_long end header ++ cut_by Length
 last_acts end (Err Memory) = []
 
--- the connection is up, and what is pending gives no message
+-- The connection is up, and the pending bytes give no message.
 record Stops (end : EndState) (entries : List Entry) (end' : EndState) : Type 0 where
   up : is_up end.view.phase ≡ true
   answer : Answer
@@ -138,7 +138,7 @@ module _ (one_answer : OneAnswerToPending) where
     ]
   ]
 
-  -- where a message is taken off, the front doesn't rest
+  -- If a message is removed from the pending bytes, `Rests` does not hold.
   no_rest : (end : EndState) (entries : List Entry) (end' : EndState) (frame : Frame) (off : EndState) → Rests end entries end' → TakesOff end frame off → ⊥
   no_rest end entries end' frame off h k = elim (rests_as end entries end' h) [
     | inl p ↦ both (is_up end.view.phase) k.up p.0

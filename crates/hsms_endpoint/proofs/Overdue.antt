@@ -1,4 +1,4 @@
--- A connection that is cut since a timer ran out.
+-- A connection that is cut because a timer expired.
 use Rattle.std.proofs.Common.{◌≡◌, ◌≢◌, ℕ, ◌-◌, ◌<◌, ◌≤◌, Bool, true, false, ◌&&◌, ◌||◌, nat_lt, nat_le, List, [], ◌∷◌, ◌++◌, Option, None, Some, is_some, refl, sym, ap, subst, ◌∙◌, inl, inr, ◌⊎◌, arith, if◌then◌else◌}
 use Rattle.std.specs.List.{list_any}
 use Rattle.std.proofs.lemmas.Bool.Decides.{nat_tests}
@@ -25,7 +25,7 @@ use Rattle.hsms_endpoint.proofs.ValidOutputs.{none_of, first_same, down_valid}
 use Rattle.hsms_endpoint.proofs.Steadiness.{up_is_not_before, up_is_not_over}
 use Rattle.hsms_endpoint.proofs.ExpiredData.{none_overdue, found_overdue}
 
--- ---- T6 is read of the request that was sent first
+-- ---- T6 depends on the request that was sent first
 
 or_true : (a b : Bool) → a ≡ true → (a || b) ≡ true
 or_true a b e = ap (λ x. x || b) e
@@ -51,7 +51,7 @@ module _ (end : State) (late : IsLate end) where
   t6_is_due None e = sym (t6_in_time (sym e))
   t6_is_due (Some header) e = sym (t6_overdue header (sym e))
 
--- ---- T7 is told by the rule that a `down` breaks
+-- ---- T7 is derived from the rule that a `down` breaks
 
 either : (b : Bool) → (b ≡ true) ⊎ (b ≡ false)
 either true = inl refl
@@ -205,7 +205,7 @@ module _ (end : State) (late : IsLate end) (in_time : is_data_overdue end ≡ fa
   by_cause false false true cause e6 e7 e = subst (λ (c : Cause). IsValidEvent end (Cut c)) (let d : ◌≡◌ {A = Option Cause} (Some T8) (Some cause) = e in cc) (cut_t8_valid (sym e6) (sym e7))
   by_cause false false false cause e6 e7 e = absurd (let d : ◌≡◌ {A = Option Cause} None (Some cause) = e in cc)
 
-  -- an end that is cut since a timer ran out
+  -- An endpoint that is cut because a timer expired.
   cut_overdue_valid : (cause : Cause) → overdue_cause (known end) ≡ Some cause → IsValidEvent end (Cut cause)
   cut_overdue_valid cause e = by_cause (is_t6_overdue end.tracker end.moment) (is_t7_overdue end.tracker end.moment) (is_t8_overdue (known end)) cause refl refl e
 
@@ -215,7 +215,7 @@ module _ (end : State) (late : IsLate end) (in_time : is_data_overdue end ≡ fa
   calm_if false false true e6 e7 e = absurd (let d : ◌≡◌ {A = Option Cause} (Some T8) None = e in cc)
   calm_if false false false e6 e7 e = calm_by (sym e6) (sym e7)
 
-  -- nothing is overdue after tick: an end that isn't cut is as it is between calls
+  -- Nothing is overdue after a tick: an endpoint that is not cut satisfies the invariant between calls.
   pub nothing_is_overdue_after_tick : overdue_cause (known end) ≡ None → IsSound end
   nothing_is_overdue_after_tick e =
       record {
@@ -233,18 +233,18 @@ module _ (end : State) (late : IsLate end) (in_time : is_data_overdue end ≡ fa
         };
       }
 
-  -- a timer ran out
+  -- A timer expired.
   pub can_cut_overdue : (cause : Cause) → overdue_cause (known end) ≡ Some cause → CanCut end cause
   can_cut_overdue cause e =
       record { settings = late.settings; within = late.within; limit = late.limit; up = late.up; is_valid = cut_overdue_valid cause e }
 
-  -- ---- what the end looks at
+  -- ---- the values that the endpoint checks
 
   pub cause_t6 : (oldest : Option Header) → is_some oldest ≡ true → oldest ≡ overdue_of end.settings.t6 end.moment (oldest_of end.tracker.sent_control) → Some T6 ≡ overdue_cause (known end)
   cause_t6 oldest some e =
       ap (λ b. if b then Some T6 else if is_t7_overdue end.tracker end.moment then Some T7 else if is_t8_overdue (known end) then Some T8 else None) (sym some ∙ t6_is_due end late oldest e)
 
-  -- T6 isn't overdue
+  -- T6 is not overdue.
   module _ (t6 : is_t6_overdue end.tracker end.moment ≡ false) where
     past_t6 : overdue_cause (known end) ≡ (if is_t7_overdue end.tracker end.moment then Some T7 else if is_t8_overdue (known end) then Some T8 else None)
     past_t6 = ap (λ b. if b then Some T6 else if is_t7_overdue end.tracker end.moment then Some T7 else if is_t8_overdue (known end) then Some T8 else None) t6

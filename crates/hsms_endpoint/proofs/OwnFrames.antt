@@ -1,4 +1,4 @@
--- The frames that an own end sends break no rule of frames.
+-- The frames that an endpoint sends break no rule of frames.
 use Rattle.std.proofs.Common.{◌≡◌, ℕ, ◌+◌, ◌<◌, Bool, true, false, ◌||◌, refl, sym, ap, ◌∙◌, inl, inr, ◌⊎◌, arith}
 use Rattle.hsms_frame.specs.Frame.{Frame}
 use Rattle.hsms_frame.specs.declared.kinds.Kind.TheVariants.{SelectReq, LinktestReq, Separate, OtherSType, OtherPType}
@@ -14,7 +14,7 @@ use Rattle.hsms_machine.specs.ViewRules.{facts_of}
 use Rattle.hsms_endpoint.specs.SystemBytes.{IsFree}
 use Rattle.hsms_endpoint.specs.Frame.{select_req, linktest_req, separate_req}
 
--- no rule of frames is broken
+-- Holds if no rule of frames is broken.
 abbrev pub IsFine : View → Frame → Type 0
 IsFine view frame = (rule : Rule) → FrameBreaks (facts_of view) view.settings Outgoing frame rule → ⊥
 

@@ -1,4 +1,4 @@
--- What an own end sends after a primary is lawful, and settles what it owes.
+-- The messages that an endpoint sends after a primary are valid, and settle the answers that it owes.
 use Rattle.std.proofs.Common.{◌≡◌, ℕ, ◌+◌, ◌≤◌, ◌%◌, ◌==◌, Bool, true, false, ◌&&◌, ◌||◌, not, List, [], ◌∷◌, ◌++◌, length, option_to_list, Some, None, refl, sym, ap, subst, ◌∙◌, inl, arith, if◌then◌else◌}
 use Rattle.std.proofs.lemmas.Bool.Decides.{nat_tests}
 use Rattle.secs_item.specs.Encoding.{IsText}
@@ -80,7 +80,7 @@ no_wait n = grind (arith, nat_tests)
 same_stream : (n : ℕ) → ((n % 128) % 128 == n % 128) ≡ true
 same_stream n = grind (arith, nat_tests)
 
--- ---- what is owed
+-- ---- the answers that are owed
 
 abbrev pub opened_at : ℕ → Header → Transaction
 opened_at time header = record { time = time; header = header }
@@ -172,7 +172,7 @@ next_either n = grind (arith, nat_tests)
 pub text_reply : (settings : Parameters) (primary : Header) (text : List ℕ) → IsText settings.depth text → 10 + length text ≤ settings.max → IsReplyTo settings primary (record { header = data_header_of settings.device (stream_of primary) (primary.byte3 + 1) false primary.system; text = text })
 text_reply settings primary text is size = record { function = primary.byte3 + 1; either = next_either primary.byte3; header = refl; size = size; text = is }
 
--- ---- what is sent by the desk's answer
+-- ---- messages sent for the handler's answer
 
 pub not_replied : (end : State) (header : Header) (answer : Answered) (before : List Entry) → IsAsked end header → wait_of header ≡ false → Settles end before (replies_by end.settings header answer) end before
 not_replied end header answer before asked is =
@@ -200,7 +200,7 @@ aborts_by settings header NoStream never = refl
 aborts_by settings header NoFunction never = refl
 aborts_by settings header Illegal never = refl
 
--- nothing is told before the reply
+-- No error is reported before the reply.
 pub unwarned : (end end' : State) (header : Header) (answer : Answer) (before entries : List Entry) → (answer ≡ NoStream → ⊥) → (answer ≡ NoFunction → ⊥) → (answer ≡ Illegal → ⊥)
     → Settles end before (replies_by end.settings header (answered answer)) end' entries → Settles end before (answers_primary end.settings header (answered answer)) end' entries
 unwarned end end' header (Reply item) before entries n1 n2 n3 sent = sent
@@ -209,7 +209,7 @@ unwarned end end' header NoStream before entries n1 n2 n3 sent = absurd (n1 refl
 unwarned end end' header NoFunction before entries n1 n2 n3 sent = absurd (n2 refl)
 unwarned end end' header Illegal before entries n1 n2 n3 sent = absurd (n3 refl)
 
--- an error is told before the reply
+-- An error is reported before the reply.
 pub warned_and_replied : (end mid end' : State) (header : Header) (answer : Answered) (before middle entries : List Entry) (acts : List Act)
     → acts ++ replies_by end.settings header answer ≡ answers_primary end.settings header answer
     → Interjects end before acts mid middle → Settles mid middle (replies_by mid.settings header answer) end' entries
@@ -223,7 +223,7 @@ warned_and_replied end mid end' header answer before middle entries acts is warn
       framer = sent.framer ∙ warned.same.framer;
     }
 
--- the error is told by the function of stream 9 that stands for it
+-- The error is reported by its function of stream 9.
 pub reported_as : (settings : Parameters) (header : Header) (answer error : Answer) (function by : ℕ) → answer ≡ error → function ≡ by
     → warns settings by header ++ replies_by settings header (answered error) ≡ answers_primary settings header (answered error)
     → warns settings function header ++ replies_by settings header (answered answer) ≡ answers_primary settings header (answered answer)

@@ -13,7 +13,7 @@ use Rattle.hsms_endpoint.specs.Invariant.{IsSound}
 use Rattle.hsms_endpoint.specs.Receiving.{HasReceivedAll}
 use Rattle.hsms_endpoint.proofs.Calls.{not_spent, up_is_up, inside_of, accepted_at}
 
--- the pending octets, and when they came, have no part in it
+-- The pending bytes and the time of the last one do not affect soundness.
 pub processed_sound : (end end' : State) (octets : List ℕ) → end' ≡ after_octets end octets → IsSound end → IsSound end'
 processed_sound end end' octets is sound =
     subst IsSound (sym is)

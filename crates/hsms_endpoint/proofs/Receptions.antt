@@ -32,7 +32,7 @@ begun desk end before sound =
       sound = sound;
     }
 
--- the framer's limit is that of the settings
+-- The framer's limit is the one of the settings.
 pub within_max : (end : State) (result : Result (Option Frame) FrameFault) (rest : List ℕ) → IsSound end → FramesAs end.framer.max end.framer.pending result rest → FramesAs end.settings.max end.framer.pending result rest
 within_max end result rest sound front = subst (λ max. FramesAs max end.framer.pending result rest) sound.limit front
 
@@ -81,15 +81,15 @@ is_too_short desk start end end' before entries more n h up front cut = at_rest 
 pub is_too_long : (desk : ℕ → Content → Answered) (start end end' : State) (before entries more : List Entry) (n : ℕ) (header : Header) → HasReceived desk start before end entries → is_up end.tracker.phase ≡ true → FramesAs end.settings.max end.framer.pending (Err (TooLong n header)) end.framer.pending → Completes end entries (warns_too_long (known end) header ++ cut_by Length) end' more → HasReceivedAll desk start before end' more
 is_too_long desk start end end' before entries more n header h up front cut = at_rest desk start end end' before entries more cut.does.new h (too_long n header up front cut.does.done) cut.does.added cut.does.run cut.sound
 
--- the framer is as it was
+-- The framer is unchanged.
 pub same_framer : (f g : FramerState) → g.max ≡ f.max → g.pending ≡ f.pending → g ≡ f
 same_framer f g m p = ap (λ n. record { max = n; pending = g.pending }) m ∙ ap (λ octets. record { max = f.max; pending = octets }) p
 
--- a message is of some octets
+-- A message has at least one byte.
 pub shorter : (frame : Frame) (pending rest : List ℕ) → pending ≡ frame_octets frame ++ rest → length rest < length pending
 shorter frame pending rest e = let h = simp length-append at (ap length e) in omega arith
 
--- the pending octets have no part in it
+-- The pending bytes do not affect soundness.
 pub reframed : (end end' : State) (rest : List ℕ) → end' ≡ off_of end rest → IsSound end → IsSound end'
 reframed end end' rest is sound =
     subst IsSound (sym is)

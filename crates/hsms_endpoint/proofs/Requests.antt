@@ -1,4 +1,4 @@
--- The own requests of a sound end: they are lawful, and leave it sound.
+-- The own requests of a sound endpoint: they are valid, and it remains sound.
 use Rattle.std.proofs.Common.{◌≡◌, ℕ, ◌+◌, ◌<◌, ◌%◌, ◌^◌, true, false, refl, sym, ap, subst, ◌∙◌, inl, arith, Option, Some, None}
 use Rattle.hsms_frame.specs.Frame.{Frame}
 use Rattle.hsms_machine.specs.declared.entry.Event.TheVariants.{Up, Sent, Taken, Discarded, Cut, Down}
@@ -76,7 +76,7 @@ module _ (end : State) (sound : IsSound end) (up : is_up end.tracker.phase ≡ t
   separated_sound end' end'' number is down =
       sound_down (after_number end (separate_req number) number) end'' sound.settings sound.within sound.limit (down ∙ ap (λ (s : State). after_event s Down) is)
 
--- ---- an end that is cut
+-- ---- an endpoint that is cut
 
 cut_phase : (p : Phase) (cause : Cause) → is_up p ≡ true → phase_after p (Cut cause) ≡ phase.Over
 cut_phase phase.Before cause up = absurd (let d : false ≡ true = up in cc)
@@ -89,7 +89,7 @@ pub cut_down_valid : (end : State) (cause : Cause) → is_up end.tracker.phase �
 cut_down_valid end cause up end' is =
     subst (λ (s : State). IsValidEvent s Down) (sym is) (down_over_valid (after_event end (Cut cause)) (cut_phase end.tracker.phase cause up) (omega arith))
 
--- octets may be no message
+-- Bytes may be invalid.
 pub can_cut : (end : State) → IsSound end → is_up end.tracker.phase ≡ true → CanCut end Length
 can_cut end sound up =
     record { settings = sound.settings; within = sound.within; limit = sound.limit; up = up; is_valid = cut_valid end up (sound.steady up).calm }
@@ -107,7 +107,7 @@ module _ (end : State) (sound : IsSound end) (up : is_up end.tracker.phase ≡ t
   pub frame_discarded : (frame : Frame) (rule : Rule) → IsFirst (Breaks (facts_of end.tracker) end.tracker.settings (record { time = end.moment; event = Taken frame })) all_rules (Some rule) → IsValidEvent end (Discarded frame)
   frame_discarded frame rule input_event = discarded_valid end up (sound.steady up).calm frame rule (frame_broken frame (Some rule) input_event)
 
--- ---- an end that starts
+-- ---- an endpoint that starts
 
 pub is_before_phase : (p : Phase) → is_before p ≡ true → p ≡ phase.Before
 is_before_phase phase.Before e = refl

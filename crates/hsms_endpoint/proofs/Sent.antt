@@ -1,4 +1,4 @@
--- What the call `send` answers.
+-- The result of the call `send`.
 use Rattle.std.proofs.Common.{◌≡◌, ℕ, ◌≤◌, ◌%◌, ◌==◌, Bool, true, false, ◌&&◌, not, nat_le, List, [], ◌∷◌, Option, Some, None, IsTrue, refl, sym, ap, subst, ◌∙◌, inl, inr, ◌⊎◌, arith}
 use Rattle.std.proofs.lemmas.Bool.Decides.{nat_tests}
 use Rattle.secs_text.specs.Content.{Content}
@@ -16,7 +16,7 @@ use Rattle.hsms_endpoint.specs.End.{Refuses}
 use Rattle.hsms_endpoint.specs.Sending.{hindrance_by, hindrance_of}
 use Rattle.hsms_endpoint.proofs.Calls.{inside_of}
 
--- the test tells whether the fact holds
+-- The test is true if and only if the fact holds.
 record Emits (test : Bool) (Fact : Type 0) : Type 0 where
   yes : test ≡ true → Fact
   no : test ≡ false → Fact → ⊥
@@ -121,7 +121,7 @@ module _ (spent : Bool) (end : State) (message : Content) (s : spent ≡ false) 
       by_text None is = inr (send_too_long e is)
       by_text (Some text) is = inl (send_encounters text e is)
 
--- a fault that is not want of memory changes nothing
+-- Any error but a failed allocation changes nothing.
 pub refuses : {D : Type 0} (at end' : EndOf D) (input : InputEvent) (fault : EndFault) → (fault ≡ Memory → ⊥) → Encounters at.known input (Some fault) → end' ≡ at → Refuses at input fault end'
 refuses at end' input Spent n encounters same = (encounters, same)
 refuses at end' input NotUp n encounters same = (encounters, same)
@@ -133,13 +133,13 @@ refuses at end' input TooLong n encounters same = (encounters, same)
 refuses at end' input TooDeep n encounters same = (encounters, same)
 refuses at end' input Memory n encounters same = absurd (n refl)
 
--- what hinders a message is answered
+-- The error that prevents a message is returned.
 pub send_refused : {D : Type 0} (desk : D) (end : State) (spent : Bool) (at : EndOf D) (message : Content) (fault : EndFault) → spent ≡ false → inside_of desk end spent ≡ at → is_up end.tracker.phase ≡ true → hindrance_of end message ≡ Some fault → Refuses at (send message) fault at
 send_refused {D} desk end spent at message fault fresh is up e =
     refuses at at (send message) fault (not_memory end message fault e)
     (subst (λ (k : EndOf D). Encounters k.known (send message) (Some fault)) is (hindered spent end message fresh up fault e)) refl
 
--- a message whose text is too long leaves the end as it was
+-- A message whose text is too long does not change the endpoint.
 pub too_long_refused : {D : Type 0} (desk : D) (end : State) (spent : Bool) (at : EndOf D) (message : Content) → spent ≡ false → inside_of desk end spent ≡ at → is_up end.tracker.phase ≡ true → hindrance_of end message ≡ None → fitting_text end.settings message.item ≡ None → Refuses at (send message) TooLong (inside_of desk end false)
 too_long_refused {D} desk end spent at message fresh is up e long =
     (subst (λ (k : EndOf D). Encounters k.known (send message) (Some TooLong)) is (send_too_long spent end message fresh up e long), subst (λ (b : Bool). inside_of desk end b ≡ at) fresh is)

@@ -1,4 +1,4 @@
--- What an end does is determined.
+-- The acts of an endpoint are deterministic.
 use Rattle.std.proofs.Common.{◌≡◌, ℕ, refl, List, [], ◌∷◌, Option, sym, ap, subst, ◌∙◌, inl, inr}
 use Rattle.hsms_machine.specs.declared.entry.Entry.{Entry}
 use Rattle.hsms_machine.specs.declared.entry.Event.TheVariants.{Sent}

@@ -1,4 +1,4 @@
--- What holds of an end between calls is kept by what it does.
+-- The invariant of an endpoint between calls is preserved by its acts.
 use Rattle.std.proofs.Common.{◌≡◌, ℕ, ◌+◌, ◌-◌, ◌≤◌, Bool, true, false, ◌&&◌, ◌||◌, not, nat_lt, List, [], ◌∷◌, ◌++◌, length, filter, option_to_list, None, Some, refl, sym, ap, subst, ◌∙◌, inl, inr, ◌⊎◌, arith, if◌then◌else◌}
 use Rattle.std.specs.List.{list_any}
 use Rattle.std.proofs.lemmas.Bool.Decides.{nat_tests}
@@ -23,7 +23,7 @@ use Rattle.hsms_endpoint.specs.ActionSteps.{IsValidEvent}
 use Rattle.hsms_endpoint.specs.Invariant.{IsFresh, IsSteady, IsSound}
 use Rattle.hsms_endpoint.proofs.ValidOutputs.{none_of}
 
--- ---- a connection that goes down
+-- ---- a connection that is closed
 
 pub down_phase : (p : Phase) → phase_after p Down ≡ phase.Gone
 down_phase phase.Before = refl
@@ -32,7 +32,7 @@ down_phase phase.Selected = refl
 down_phase phase.Over = refl
 down_phase phase.Gone = refl
 
--- nothing more is asked of an end whose connection is down
+-- An endpoint whose connection is down has no further obligations.
 pub sound_gone : (end : State) → end.settings ≡ end.tracker.settings → IsWithinLimits end.settings → end.framer.max ≡ end.settings.max → end.tracker.phase ≡ phase.Gone → IsSound end
 sound_gone end settings within limit gone =
     record {
@@ -54,7 +54,7 @@ up_is_not_before p up e = let d : false ≡ true = ap is_up (sym e) ∙ up in cc
 pub up_is_not_over : (p : Phase) → is_up p ≡ true → p ≡ phase.Over → ⊥
 up_is_not_over p up e = let d : false ≡ true = ap is_up (sym e) ∙ up in cc
 
--- ---- a connection that comes up
+-- ---- a connection that is established
 
 no_time : (limit now : ℕ) → nat_lt limit (now - now) ≡ false
 no_time limit now = grind (arith, nat_tests)
@@ -130,7 +130,7 @@ or_second false b e = e
 pub or_both : (a b : Bool) → a ≡ false → b ≡ false → (a || b) ≡ false
 or_both a b e f = ap (λ x. x || b) e ∙ f
 
--- the transactions of a pool after a frame was sent that may open one
+-- The transactions of a pool after sending a frame that may open one.
 abbrev with_opened : (Header → Bool) → ℕ → Header → List Transaction → List Transaction
 with_opened test now header opened =
     filter (λ (transaction : Transaction). not false) opened ++ option_to_list (opened_by test now header)
@@ -163,7 +163,7 @@ none_opened test now header opened e t =
 none_concluded : (header : Header) (taken : List Transaction) → taken ≡ [] → filter (λ (opened : Transaction). not (concludes opened.header header)) taken ++ [] ≡ []
 none_concluded header taken e = ap (λ (xs : List Transaction). filter (λ (opened : Transaction). not (concludes opened.header header)) xs ++ []) e
 
--- what of a frame keeps a steady end steady
+-- The properties of a sent frame that preserve a steady endpoint.
 pub record IsSteadySend (end : State) (frame : Frame) : Type 0 where
   pub stays : separates frame.header ≡ false
   pub no_selection : establishes frame.header ≡ false
@@ -207,7 +207,7 @@ module _ (end : State) (frame : Frame) (up : is_up end.tracker.phase ≡ true) (
         steady = λ e. sent_steady;
       }
 
--- the next number has no part in it
+-- The next value for system bytes does not affect soundness.
 pub renumbered : (end : State) (number : ℕ) → IsSound end → IsSound (record end { next = number })
 renumbered end number sound =
     record {

@@ -27,7 +27,7 @@ first_none Applies (rule ∷ rules) answer never h = elim h [
   | inr q ↦ first_none Applies rules answer never q.1
 ]
 
--- there is one first rule at most
+-- There is at most one first rule.
 pub first_same : (Applies : Rule → Type 0) (rules : List Rule) (a b : Option Rule) → IsFirst Applies rules a → IsFirst Applies rules b → a ≡ b
 first_same Applies [] a b h k = h ∙ sym k
 first_same Applies (rule ∷ rules) a b h k = elim h [
@@ -57,7 +57,7 @@ without_last Applies (rule ∷ rules) last answer never h = elim h [
   | inr q ↦ inr (q.0, without_last Applies rules last answer never q.1)
 ]
 
--- the answer applies
+-- The rule that is returned applies.
 pub applies : (Applies : Rule → Type 0) (rules : List Rule) (rule : Rule) → IsFirst Applies rules (Some rule) → Applies rule
 applies Applies [] rule h = absurd (let e : ◌≡◌ {A = Option Rule} (Some rule) None = h in cc)
 applies Applies (first ∷ rules) rule h = elim h [
@@ -65,7 +65,7 @@ applies Applies (first ∷ rules) rule h = elim h [
   | inr q ↦ applies Applies rules rule q.1
 ]
 
--- ---- events of a connection that is up and calm
+-- ---- events of a connection that is up, with nothing overdue
 
 t7_in_time : (p : Phase) (late : Bool) → (p ≡ phase.Selected → ⊥) → is_up p ≡ true → (is_connected p && late) ≡ true → (is_unselected p && late) ≡ false → ⊥
 t7_in_time phase.Before late n up t f = let d : false ≡ true = up in cc
@@ -100,7 +100,7 @@ module _ (end : State) (up : is_up end.tracker.phase ≡ true) (calm : IsCalm en
   sent_never frame fine NoCause b = b
   sent_never frame fine rule b = fine rule b
 
-  -- a frame that breaks no rule of frames may be sent
+  -- A frame that breaks no rule of frames may be sent.
   pub sent_valid : (frame : Frame) → ((rule : Rule) → FrameBreaks (facts_of end.tracker) end.tracker.settings Outgoing frame rule → ⊥) → IsValidEvent end (Sent frame)
   unfolding IsValidEvent
   sent_valid frame fine = none_of _ all_rules (sent_never frame fine)
@@ -129,12 +129,12 @@ module _ (end : State) (up : is_up end.tracker.phase ≡ true) (calm : IsCalm en
   cut_never NoCause b = b
   cut_never rule b = b
 
-  -- octets that are no message cut a connection that is up
+  -- Bytes that are no message cut an established connection.
   pub cut_valid : IsValidEvent end (Cut Length)
   unfolding IsValidEvent
   cut_valid = none_of (Breaks (facts_of end.tracker) end.tracker.settings (entry_of end (Cut Length))) all_rules cut_never
 
-  -- the rule that a taken frame breaks is one of those of frames
+  -- The rule that an accepted frame breaks is one of the rules of frames.
   pub taken_broken : (frame : Frame) (answer : Option Rule) → IsFirst (Breaks (facts_of end.tracker) end.tracker.settings (entry_of end (Taken frame))) all_rules answer → IsFirst (FrameBreaks (facts_of end.tracker) end.tracker.settings Incoming frame) (format_rules ++ transaction_rules) answer
   taken_broken frame answer h =
       let Applies : Rule → Type 0 = Breaks (facts_of end.tracker) end.tracker.settings (entry_of end (Taken frame)) in
@@ -157,12 +157,12 @@ module _ (end : State) (up : is_up end.tracker.phase ≡ true) (calm : IsCalm en
   discarded_never frame broken is NoCause b = b.1 broken is
   discarded_never frame broken is rule b = b
 
-  -- a frame that breaks a rule as taken may be discarded
+  -- A frame that would break a rule if it were accepted may be discarded.
   pub discarded_valid : (frame : Frame) (broken : Rule) → IsFirst (FrameBreaks (facts_of end.tracker) end.tracker.settings Incoming frame) (format_rules ++ transaction_rules) (Some broken) → IsValidEvent end (Discarded frame)
   unfolding IsValidEvent
   discarded_valid frame broken h = none_of _ all_rules (discarded_never frame broken (applies (FrameBreaks (facts_of end.tracker) end.tracker.settings Incoming frame) (format_rules ++ transaction_rules) broken h))
 
--- once the session is over the connection may go down
+-- Once the session has ended the connection may be closed.
 down_over_never : (end : State) → end.tracker.phase ≡ phase.Over → end.tracker.last_time ≤ end.moment → (rule : Rule) → Breaks (facts_of end.tracker) end.tracker.settings (entry_of end Down) rule → ⊥
 down_over_never end over time Backwards b = absurd (omega arith)
 down_over_never end over time NotUp b = elim b [

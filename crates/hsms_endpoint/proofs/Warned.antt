@@ -1,4 +1,4 @@
--- Equipment that tells of an error: its message is lawful, and changes nothing of what the end owes.
+-- Equipment that reports an error: its message is valid, and does not change the answers that the endpoint owes.
 use Rattle.std.proofs.Common.{◌≡◌, ℕ, ◌+◌, ◌<◌, ◌%◌, ◌^◌, ◌==◌, suc, Bool, true, false, ◌&&◌, ◌||◌, not, List, [], ◌∷◌, ◌++◌, filter, refl, sym, ap, subst, ◌∙◌, if◌then◌else◌}
 use Rattle.std.specs.List.{AllByRecursion}
 use Rattle.std.specs.Prelude.{slice_index}
@@ -44,7 +44,7 @@ no_answer Separate request response = refl
 no_answer OtherSType request response = refl
 no_answer OtherPType request response = refl
 
--- a primary ends no transaction
+-- A primary ends no transaction.
 pub no_end : (request other : Header) → kind_of other ≡ Primary → concludes request other ≡ false
 unfolding answers rejects
 no_end request other e =

@@ -1,4 +1,4 @@
--- What an end does at one moment: entries of its log one after the other (this project's own).
+-- What an endpoint does at one time: consecutive entries of its log (project-specific).
 use Rattle.std.specs.Prelude.{◌≡◌, ℕ, ◌+◌, ◌^◌, ◌%◌, List, [], ◌∷◌}
 use Rattle.hsms_frame.specs.Frame.{Frame}
 use Rattle.hsms_machine.specs.declared.entry.Entry.{Entry}
@@ -13,19 +13,19 @@ pub data Act : Type 0 where
   logs : Event → Act
   asks : (ℕ → Frame) → Act
 
--- an event at the end's moment
+-- An event at the endpoint's current time.
 abbrev pub entry_now : EndState → Event → Entry
 entry_now end event = record { time = end.moment; event = event }
 
--- the end after an event at its moment
+-- The endpoint after an event at its current time.
 abbrev pub with_event : EndState → Event → EndState
 with_event end event = record end { view = view_after end.view (entry_now end event) }
 
--- the end after a frame was sent with this number; the next one is one more
+-- The endpoint after a frame was sent with these system bytes; the next value is one more.
 abbrev pub with_number : EndState → Frame → ℕ → EndState
 with_number end frame number = record (with_event end (Sent frame)) { next = (number + 1) % 2 ^ 32 }
 
--- the acts, in order, give these entries, and lead from one end to the other
+-- Holds if the acts, in order, give these entries and lead from one endpoint state to the other.
 abbrev pub Acts : EndState → List Act → List Entry → EndState → Type 0
 Acts end [] entries end' = (entries ≡ []) × (end' ≡ end)
 Acts end (logs event ∷ acts) entries end' =

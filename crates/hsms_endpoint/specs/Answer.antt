@@ -1,10 +1,10 @@
--- What a desk says to a message (SEMI E5: replies, and the errors that stream 9 tells).
+-- What a message handler returns for a message (SEMI E5: replies, and the errors that stream 9 reports).
 use Rattle.std.specs.Prelude.{Option, option_map}
 use Rattle.secs_item.specs.Item.{Value, view}
 use Rattle.hsms_endpoint.specs.declared.answer.Answer.{Answer}
 use Rattle.hsms_endpoint.specs.declared.answer.Answer.TheVariants.{Reply, Quiet, NoStream, NoFunction, Illegal}
 
--- an answer, apart from where its item lies in memory
+-- An answer, apart from where its item is in memory.
 pub data Answered : Type 0 where
   replies : Option Value → Answered
   quiet : Answered

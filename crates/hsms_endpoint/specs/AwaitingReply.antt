@@ -1,5 +1,5 @@
--- An end while it handles a frame: as between calls, but that the peer may wait for answers. Private functions alone
--- speak of this.
+-- An endpoint while it handles a frame: as between calls, but the peer may wait for answers. Only private functions
+-- use this.
 use Rattle.std.specs.Prelude.{◌≡◌, ◌≤◌, ℕ, ◌+◌, ◌==◌, ◌||◌, Bool, true, false, List, [], ◌∷◌, length, Option, Some, None, option_to_list, if◌then◌else◌}
 use Rattle.secs_item.specs.Item.{Value}
 use Rattle.secs_item.specs.Encoding.{IsText, IsTextOf}
@@ -31,7 +31,7 @@ use Rattle.hsms_endpoint.specs.declared.state.State.{State}
 use Rattle.hsms_endpoint.specs.Turn.{is_up, is_unselected, BreaksAsTaken}
 use Rattle.hsms_endpoint.specs.ActionSteps.{IsCalm, IsValidEvent, Performs}
 
--- the connection is up, nothing is overdue, and the peer waits for answers to these requests
+-- Holds if the connection is up, nothing is overdue, and the peer waits for answers to these requests.
 pub record PeerAwaits (end : State) (primaries controls : List Transaction) : Type 0 where
   pub settings : end.settings ≡ end.tracker.settings
   pub within : IsWithinLimits end.settings
@@ -43,7 +43,7 @@ pub record PeerAwaits (end : State) (primaries controls : List Transaction) : Ty
   pub few : own_open_of end.tracker ≤ 64
   pub unselected : is_unselected end.tracker.phase ≡ true → end.tracker.sent_data ≡ []
 
--- an event at this moment that neither ends anything nor opens an own transaction
+-- Holds for an event at this time that neither ends anything nor opens an own transaction.
 pub record IsMild (moment : ℕ) (event : Event) : Type 0 where
   pub not_up : is_up_event event ≡ false
   pub not_down : is_down_event event ≡ false
@@ -51,25 +51,25 @@ pub record IsMild (moment : ℕ) (event : Event) : Type 0 where
   pub no_data : opened_as_at SentData moment event ≡ None
   pub no_control : opened_as_at SentControl moment event ≡ None
 
--- what of an end doesn't change while it sends
+-- The parts of an endpoint that sending does not change.
 pub record IsSame (end end' : State) : Type 0 where
   pub settings : end'.settings ≡ end.settings
   pub framer : end'.framer ≡ end.framer
   pub phase : end'.tracker.phase ≡ end.tracker.phase
 
--- these acts were done, the peer waits for nothing, and the same octets are pending
+-- Holds if these acts were done, the peer waits for nothing, and the pending bytes are unchanged.
 pub record Settles (end : State) (before : List Entry) (acts : List Act) (end' : State) (entries : List Entry) : Type 0 where
   pub does : Performs end before acts end' entries
   pub awaits : PeerAwaits end' [] []
   pub framer : end'.framer ≡ end.framer
 
--- these acts were done, and the peer waits for what it did
+-- Holds if these acts were done, and the peer waits for the same requests as before.
 pub record Interjects (end : State) (before : List Entry) (acts : List Act) (end' : State) (entries : List Entry) : Type 0 where
   pub does : Performs end before acts end' entries
   pub awaits : (primaries controls : List Transaction) → PeerAwaits end primaries controls → PeerAwaits end' primaries controls
   pub same : IsSame end end'
 
--- the reply to a primary by the desk's answer, if the primary asks for one
+-- The reply to a primary by the handler's answer, if the primary requests a reply.
 abbrev pub reply_by : Parameters → Header → Answered → Frame
 reply_by settings primary (replies item) = reply_of settings primary item
 reply_by settings primary _ = abort_of settings primary
@@ -78,7 +78,7 @@ abbrev pub replies_by : Parameters → Header → Answered → List Act
 replies_by settings primary answer =
     if wait_of primary then logs (Sent (reply_by settings primary answer)) ∷ [] else []
 
--- the peer waits for an answer to this Select.req, and for nothing else
+-- Holds if the peer waits for an answer to this Select.req, and for nothing else.
 pub record IsAskedToSelect (end : State) (header : Header) (selected : Bool) : Type 0 where
   pub time : ℕ
   pub awaits : PeerAwaits end [] (record { time = time; header = header } ∷ [])
@@ -86,20 +86,20 @@ pub record IsAskedToSelect (end : State) (header : Header) (selected : Bool) : T
   pub passive : end.settings.link ≡ Passive
   pub before : is_selected end.tracker.phase ≡ selected
 
--- the peer waits for an answer to this Linktest.req, and for nothing else
+-- Holds if the peer waits for an answer to this Linktest.req, and for nothing else.
 pub record IsAskedForLink (end : State) (header : Header) : Type 0 where
   pub time : ℕ
   pub awaits : PeerAwaits end [] (record { time = time; header = header } ∷ [])
   pub kind : kind_of header ≡ LinktestReq
 
--- this primary was taken; the peer waits for an answer to it, if it has the W bit, and to nothing else
+-- Holds if this primary was accepted. The peer waits for an answer to it if it has the W bit, and for nothing else.
 pub record IsAsked (end : State) (header : Header) : Type 0 where
   pub time : ℕ
   pub awaits : PeerAwaits end (option_to_list (opened_by is_data_request time header)) []
   pub kind : kind_of header ≡ Primary
   pub selected : end.tracker.phase ≡ Selected
 
--- what of a frame makes it a reply to the primary
+-- The parts of a frame that make it a reply to the primary.
 pub record IsReplyTo (settings : Parameters) (primary : Header) (frame : Frame) : Type 0 where
   pub function : ℕ
   pub either : ((function == 0) || (function == primary.byte3 + 1)) ≡ true
@@ -107,7 +107,7 @@ pub record IsReplyTo (settings : Parameters) (primary : Header) (frame : Frame) 
   pub size : 10 + length frame.text ≤ settings.max
   pub text : IsText settings.depth frame.text
 
--- a message of this kind is taken without a reaction
+-- True if a message of this kind is accepted without a reaction.
 abbrev pub is_silent : Kind → Bool
 is_silent Primary = false
 is_silent SelectReq = false
@@ -115,17 +115,17 @@ is_silent LinktestReq = false
 is_silent Separate = false
 is_silent _ = true
 
--- the answer is the desk's to the message that the frame stands for
+-- Holds if the answer is the handler's answer to the message that the frame encodes.
 abbrev pub IsAnsweredBy : (Content → Answered) → ℕ → Frame → Answered → Type 0
 IsAnsweredBy desk depth frame answer = (item : Option Value) × IsTextOf depth frame.text item × (answer ≡ desk (message_of frame.header item))
 
--- the frame may be taken next
+-- Holds if the frame may be accepted next.
 pub record CanTake (end : State) (frame : Frame) : Type 0 where
   pub awaits : PeerAwaits end [] []
   pub is_valid : IsValidEvent end (Taken frame)
   pub broken : BreaksAsTaken end.tracker frame None
 
--- the frame may be discarded next, since it breaks this rule as a taken one
+-- Holds if the frame may be discarded next, since it would break this rule if it were accepted.
 pub record CanDiscard (end : State) (frame : Frame) (rule : Rule) : Type 0 where
   pub awaits : PeerAwaits end [] []
   pub is_valid : IsValidEvent end (Discarded frame)

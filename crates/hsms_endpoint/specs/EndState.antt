@@ -1,34 +1,34 @@
--- What an end is known by (this project's own).
+-- The abstract state of an endpoint (project-specific).
 use Rattle.std.specs.Prelude.{ℕ, Bool, false, List, []}
 use Rattle.hsms_machine.specs.declared.view.View.{View}
 use Rattle.hsms_machine.specs.Settings.{Parameters}
 use Rattle.hsms_machine.specs.View.{view_of}
 
 pub record EndState : Type 0 where
-  -- the settings of its session
+  -- The settings of its session.
   pub settings : Parameters
-  -- what is kept of its log
+  -- The state that its log shows.
   pub view : View
-  -- the octets that came and belong to no message that was taken off
+  -- The received bytes that belong to no complete message yet.
   pub pending : List ℕ
-  -- its moment, in milliseconds
+  -- Its current time, in milliseconds.
   pub moment : ℕ
-  -- the number from which own system bytes are tried
+  -- The first value that is tried for own system bytes.
   pub next : ℕ
-  -- the moment at which an octet came last
+  -- The time of the last received byte.
   pub reception : ℕ
-  -- how often the desk was asked about messages of each name
+  -- The number of messages of each name that were passed to the handler.
   pub asked : List (ℕ × ℕ)
-  -- whether memory was refused
+  -- True if an allocation failed.
   pub spent : Bool
 
--- an end and its desk
+-- An endpoint and its message handler.
 pub record EndOf (D : Type 0) : Type 0 where
   pub desk : D
   pub known : EndState
 
--- an end that was told nothing yet, and starts no earlier than at this moment: its log is empty, and the first own
--- system bytes are this number
+-- An endpoint that has received no input and starts no earlier than at this time. Its log is empty, and its first own
+-- system bytes are this number.
 abbrev pub initial_since : Parameters → ℕ → ℕ → EndState
 initial_since settings first_system moment = record {
   settings = settings;
@@ -41,6 +41,6 @@ initial_since settings first_system moment = record {
   spent = false;
 }
 
--- one that starts at any moment
+-- An endpoint that starts at any time.
 abbrev pub initial_state : Parameters → ℕ → EndState
 initial_state settings first_system = initial_since settings first_system 0

@@ -1,4 +1,4 @@
--- What a part of the call `tick` has done. Private functions alone speak of this.
+-- What a part of the call `tick` has done. Only private functions use this.
 use Rattle.std.specs.Prelude.{◌≡◌, ◌≤◌, ℕ, ◌-◌, Bool, true, List, [], ◌∷◌, ◌++◌, map, nat_lt, Option, Some, None, if◌then◌else◌}
 use Rattle.std.specs.List.{list_any}
 use Rattle.hsms_frame.specs.declared.header.Header.{Header}
@@ -16,7 +16,7 @@ use Rattle.hsms_machine.specs.OpeningOrder.{IsOrdered}
 use Rattle.hsms_endpoint.specs.Turn.{is_up, is_unselected, expired_at, expiry}
 use Rattle.hsms_endpoint.specs.ActionSteps.{Performs}
 
--- as a steady end, save that timers may have run out at its moment
+-- Holds for a steady endpoint, except that timers may have expired at its current time.
 pub record IsLate (end : State) : Type 0 where
   pub settings : end.settings ≡ end.tracker.settings
   pub within : IsWithinLimits end.settings
@@ -30,23 +30,23 @@ pub record IsLate (end : State) : Type 0 where
   pub data_ordered : IsOrdered end.moment end.tracker.sent_data
   pub control_ordered : IsOrdered end.moment end.tracker.sent_control
 
--- own data is overdue
+-- True if own data is overdue.
 abbrev pub is_data_overdue : State → Bool
 is_data_overdue end = list_any (λ opened. nat_lt end.tracker.settings.t3 (end.moment - opened.time)) end.tracker.sent_data
 
--- the header of the transaction that was opened first, where that was longer ago than the limit
+-- The header of the oldest open transaction, if it was opened longer ago than the limit.
 abbrev pub overdue_of : ℕ → ℕ → Option (ℕ × Header) → Option Header
 overdue_of limit moment None = None
 overdue_of limit moment (Some oldest) = if nat_lt limit (moment - oldest.0) then Some oldest.1 else None
 
--- the end with these data transactions left open, and a last entry at this time
+-- The endpoint with these data transactions still open, and a last entry at this time.
 abbrev pub with_data : State → ℕ → List Transaction → State
 with_data end time left = record end { tracker = record end.tracker { last_time = time; sent_data = left } }
 
 abbrev pub headers_of : List Transaction → List Header
 headers_of opened = map (λ (transaction : Transaction). transaction.header) opened
 
--- overdue data that was logged so far, by its headers
+-- Holds if the overdue data with these headers was logged so far.
 pub record HasExpired (start : State) (before : List Entry) (end : State) (entries : List Entry) (headers : List Header) : Type 0 where
   pub expired : List Transaction
   pub onward : expired_at start.tracker start.moment ≡ expired ++ expired_at end.tracker end.moment
@@ -57,11 +57,11 @@ pub record HasExpired (start : State) (before : List Entry) (end : State) (entri
 
 -- ---- the warnings of equipment
 
--- S9F9 with this header
+-- S9F9 with this header.
 abbrev pub warns_of : Parameters → Header → Act
 warns_of settings header = asks (warning settings 9 header)
 
--- the session is selected, if there is anything to warn of
+-- Holds if the session is selected or there is nothing to warn of.
 abbrev pub MayWarn : Phase → List Header → Type 0
 MayWarn phase [] = Unit {0}
 MayWarn phase (header ∷ headers) = phase ≡ Selected

@@ -1,4 +1,4 @@
--- What an end refuses a call for (this project's own).
+-- The errors of the calls of an endpoint (project-specific).
 use Rattle.std.specs.Prelude.{◌≡◌, ◌⊎◌, ◌≤◌, ◌%◌, Bool, true, false, List, [], ◌∷◌, Option, Some, None, IsTrue}
 use Rattle.secs_text.specs.Content.{Content}
 use Rattle.hsms_machine.specs.declared.phase.Phase.{Phase}
@@ -15,18 +15,19 @@ abbrev pub is_before : Phase → Bool
 is_before Before = true
 is_before _ = false
 
--- the connection isn't as the input needs it: a start needs that there was none yet, any other input that it is up
+-- Holds if the connection is not as the input needs it. A start needs that there was none yet; any other input needs
+-- that it is up.
 abbrev pub IsNotUp : EndState → InputEvent → Type 0
 IsNotUp end (start now) = is_before end.view.phase ≡ false
 IsNotUp end _ = is_up end.view.phase ≡ false
 
--- the input opens a transaction
+-- True if the input opens a transaction.
 abbrev pub opens_own : InputEvent → Bool
 opens_own (send message) = message.wait
 opens_own linktest = true
 opens_own _ = false
 
--- what of a message is asked alone of one that is to be sent
+-- The conditions that only a message to be sent is checked for.
 abbrev pub HindersMessage : EndState → Content → EndFault → Type 0
 HindersMessage end message NotSelected = is_selected end.view.phase ≡ false
 HindersMessage end message NotPrimary = message.function % 2 ≡ 0
@@ -39,7 +40,7 @@ abbrev pub HindersSend : EndState → InputEvent → EndFault → Type 0
 HindersSend end (send message) fault = HindersMessage end message fault
 HindersSend end _ fault = ⊥
 
--- the fault's condition holds of the end and the input
+-- Holds if the error's condition holds for the endpoint and the input.
 abbrev pub Hinders : EndState → InputEvent → EndFault → Type 0
 Hinders end input Spent = end.spent ≡ true
 Hinders end input NotUp = IsNotUp end input
@@ -47,16 +48,16 @@ Hinders end input Full = IsTrue (opens_own input) × (64 ≤ own_open_of end.vie
 Hinders end input Memory = ⊥
 Hinders end input fault = HindersSend end input fault
 
--- the faults in the order in which they are tried
+-- The errors in the order in which they are checked.
 abbrev pub faults : List EndFault
 faults = Spent ∷ NotUp ∷ NotSelected ∷ NotPrimary ∷ Nine ∷ Full ∷ TooDeep ∷ TooLong ∷ []
 
--- the answer is the first fault of the list that applies, or none
+-- Holds if the result is the first error of the list that applies, or none.
 abbrev pub IsFirstFault : (EndFault → Type 0) → List EndFault → Option EndFault → Type 0
 IsFirstFault Applies [] answer = answer ≡ None
 IsFirstFault Applies (fault ∷ later) answer =
     (Applies fault × (answer ≡ Some fault)) ⊎ (¬ Applies fault × IsFirstFault Applies later answer)
 
--- the fault that the input meets, or none
+-- The error that the input has, or none.
 unfoldable pub Encounters : EndState → InputEvent → Option EndFault → Type 0
 Encounters end input answer = IsFirstFault (Hinders end input) faults answer

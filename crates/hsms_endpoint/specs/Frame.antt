@@ -1,4 +1,4 @@
--- The frames that an own end sends (SEMI E37, section 8; SEMI E5 for replies, the abort and stream 9).
+-- The frames that an endpoint sends (SEMI E37, section 8; SEMI E5 for replies, the abort and stream 9).
 use Rattle.std.specs.Prelude.{ℕ, ◌+◌, ◌==◌, Bool, true, false, List, [], ◌∷◌, length, nat_le, Option, Some, None, if◌then◌else◌}
 use Rattle.secs_item.specs.Item.{Value, nest}
 use Rattle.secs_item.specs.ShortestEncoding.{short}
@@ -34,7 +34,7 @@ reject_req header reason = bare (reject_header_of header reason)
 
 -- ---- data
 
--- the text of an item is its shortest spelling; none is longer than a length field counts
+-- The text of an item is its shortest encoding; no text is longer than a length field can count.
 abbrev pub text_of : Option Value → Option (List ℕ)
 text_of None = Some []
 text_of (Some item) = short item
@@ -46,7 +46,7 @@ is_within_depth depth (Some item) = nat_le (nest item) depth
 abbrev pub is_within_max : ℕ → List ℕ → Bool
 is_within_max max text = nat_le (10 + length text) max
 
--- the text of an item that is within depth, an item's limit and the greatest size of a frame
+-- The text of an item that is within the depth, the limit for an item and the maximum frame size.
 abbrev pub fitting : ℕ → Option (List ℕ) → Option (List ℕ)
 fitting max None = None
 fitting max (Some text) = if is_within_max max text then Some text else None
@@ -55,14 +55,14 @@ abbrev pub fitting_text : Parameters → Option Value → Option (List ℕ)
 fitting_text settings item =
     if is_within_depth settings.depth item then fitting settings.max (text_of item) else None
 
--- the message with this text
+-- The message with this text.
 abbrev pub message_frame : Parameters → Content → List ℕ → ℕ → Frame
 message_frame settings message text system = record {
   header = data_header_of settings.device message.stream message.function message.wait system;
   text = text;
 }
 
--- SxF0 aborts the primary's transaction
+-- SxF0, which aborts the primary's transaction.
 abbrev pub abort_of : Parameters → Header → Frame
 abort_of settings primary = bare (data_header_of settings.device (stream_of primary) 0 false primary.system)
 
@@ -73,14 +73,14 @@ reply_with settings primary (Some text) = record {
   text = text;
 }
 
--- the primary's stream and its function plus one with the item; SxF0 where there is no such function, or the item is
--- past a limit
+-- The primary's stream and its function plus one with the item. SxF0 if there is no such function, or if the item
+-- exceeds a limit.
 abbrev pub reply_of : Parameters → Header → Option Value → Frame
 reply_of settings primary item =
     if primary.byte3 == 255 then abort_of settings primary
     else reply_with settings primary (fitting_text settings item)
 
--- stream 9: a B item of the ten octets of the header in error
+-- The item of stream 9: a B item of the ten bytes of the header in error.
 abbrev pub header_item : Header → List ℕ
 header_item header = 33 ∷ 10 ∷ header_octets header
 
@@ -90,7 +90,7 @@ warning settings function header system = record {
   text = header_item header;
 }
 
--- the message that a data frame stands for, whose text is of this item
+-- The message that a data frame with this item as its text encodes.
 abbrev pub message_of : Header → Option Value → Content
 message_of header item =
     record { stream = stream_of header; function = header.byte3; wait = wait_of header; item = item }

@@ -1,4 +1,4 @@
--- What is inside an end, beside its desk. Private functions alone speak of this.
+-- The internals of an endpoint, without its message handler. Only private functions use this.
 use Rattle.std.specs.Prelude.{◌≡◌, ℕ, ◌+◌, ◌^◌, ◌%◌, ◌++◌, Bool, true, false, List, max}
 use Rattle.hsms_frame.specs.declared.header.Header.{Header}
 use Rattle.hsms_frame.specs.Frame.{Frame}
@@ -13,7 +13,7 @@ use Rattle.hsms_endpoint.specs.declared.fault.EndFault.{EndFault}
 use Rattle.hsms_endpoint.specs.declared.fault.EndFault.TheVariants.{Spent, NotUp}
 use Rattle.hsms_endpoint.specs.Turn.{processed_at}
 
--- what it is known by
+-- Its abstract state.
 abbrev pub known_of : State → Bool → EndState
 known_of end spent = record {
   settings = end.settings;
@@ -29,7 +29,8 @@ known_of end spent = record {
 abbrev pub known : State → EndState
 known end = known_of end false
 
--- why a call that needs a connection is refused at once, by whether the end is spent and whether its connection is up
+-- Holds if a call that needs a connection returns this error at once, by whether the endpoint is spent and whether
+-- its connection is up.
 abbrev pub IsRefusedAs : Bool → Bool → EndFault → Type 0
 IsRefusedAs spent up Spent = spent ≡ true
 IsRefusedAs spent up NotUp = (spent ≡ false) × (up ≡ false)
@@ -38,15 +39,15 @@ IsRefusedAs spent up fault = ⊥
 abbrev pub entry_of : State → Event → Entry
 entry_of end event = record { time = end.moment; event = event }
 
--- the end after an event at its moment
+-- The endpoint after an event at its current time.
 abbrev pub after_event : State → Event → State
 after_event end event = record end { tracker = view_after end.tracker (entry_of end event) }
 
--- the end after a frame was sent with this number; the next one is one more
+-- The endpoint after a frame was sent with these system bytes; the next value is one more.
 abbrev pub after_number : State → Frame → ℕ → State
 after_number end frame number = record (after_event end (Sent frame)) { next = (number + 1) % 2 ^ 32 }
 
--- the end when octets have come
+-- The endpoint after bytes were received.
 abbrev pub after_octets : State → List ℕ → State
 after_octets end octets =
     record end {
@@ -54,7 +55,7 @@ after_octets end octets =
       reception = processed_at octets end.moment end.reception;
     }
 
--- the end when the desk has been asked about a primary
+-- The endpoint after a primary was passed to the handler.
 abbrev pub after_asking : State → Header → State
 after_asking end header = record end { asked = once_more (name_in header) end.asked }
 

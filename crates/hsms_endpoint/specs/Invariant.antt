@@ -1,4 +1,4 @@
--- What holds of an end that isn't spent, between two calls. Private functions alone speak of this.
+-- The invariant of an endpoint that is not spent, between two calls. Only private functions use this.
 use Rattle.std.specs.Prelude.{◌≡◌, ◌≤◌, true, List, []}
 use Rattle.hsms_machine.specs.declared.entry.Entry.{Entry}
 use Rattle.hsms_machine.specs.declared.entry.Cause.{Cause}
@@ -12,7 +12,7 @@ use Rattle.hsms_endpoint.specs.Action.{Act}
 use Rattle.hsms_endpoint.specs.Turn.{is_up, is_unselected}
 use Rattle.hsms_endpoint.specs.ActionSteps.{IsCalm, IsValidEvent, Performs}
 
--- no entry yet
+-- Holds if there is no entry yet.
 pub record IsFresh (view : View) : Type 0 where
   pub time : view.last_time ≡ 0
   pub sent_data : view.sent_data ≡ []
@@ -20,7 +20,7 @@ pub record IsFresh (view : View) : Type 0 where
   pub taken_data : view.taken_data ≡ []
   pub taken_control : view.taken_control ≡ []
 
--- the connection is up, nothing is overdue at the end's moment, and the peer waits for nothing
+-- Holds if the connection is up, nothing is overdue at the endpoint's current time, and the peer waits for nothing.
 pub record IsSteady (end : State) : Type 0 where
   pub calm : IsCalm end
   pub taken_data : end.tracker.taken_data ≡ []
@@ -36,7 +36,7 @@ pub record IsSound (end : State) : Type 0 where
   pub fresh : end.tracker.phase ≡ Before → IsFresh end.tracker
   pub steady : is_up end.tracker.phase ≡ true → IsSteady end
 
--- the connection may be cut for this cause
+-- Holds if the connection may be cut for this cause.
 pub record CanCut (end : State) (cause : Cause) : Type 0 where
   pub settings : end.settings ≡ end.tracker.settings
   pub within : IsWithinLimits end.settings
@@ -44,7 +44,7 @@ pub record CanCut (end : State) (cause : Cause) : Type 0 where
   pub up : is_up end.tracker.phase ≡ true
   pub is_valid : IsValidEvent end (Cut cause)
 
--- these acts were done, and then holds what does between two calls
+-- Holds if these acts were done, and the invariant between two calls holds afterwards.
 pub record Completes (end : State) (before : List Entry) (acts : List Act) (end' : State) (entries : List Entry) : Type 0 where
   pub does : Performs end before acts end' entries
   pub sound : IsSound end'

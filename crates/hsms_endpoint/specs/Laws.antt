@@ -1,4 +1,4 @@
--- The laws of the ends (this project's own), over the definitions alone.
+-- The laws of the endpoints (project-specific), over the definitions alone.
 use Rattle.std.specs.Prelude.{◌≡◌, ◌<◌, ◌≤◌, ◌+◌, ◌^◌, ◌%◌, ℕ, false, List, [], ◌∷◌, ◌++◌, map, max, Option, Some}
 use Rattle.std.specs.List.{list_any}
 use Rattle.secs_text.specs.Content.{Content}
@@ -19,16 +19,17 @@ use Rattle.hsms_endpoint.specs.Action.{Act, asks, Acts}
 use Rattle.hsms_endpoint.specs.Fault.{Encounters}
 use Rattle.hsms_endpoint.specs.Drive.{Drives, octets_of, input_octets, octets_received}
 
--- ---- octets
+-- ---- bytes
 
--- the octets that were pending and those that come are the frames of the new entries, in order, then what is pending
+-- The pending bytes and the received ones are the frames of the new entries, in order, followed by the bytes still
+-- pending.
 abbrev pub TurnKeepsOctets : Type 0
 TurnKeepsOctets =
     (desk : ℕ → Content → Answered) (end : EndState) (input : InputEvent) (entries : List Entry) (end' : EndState)
     → Turn desk end input entries end'
     → end.pending ++ octets_of input ≡ octets_received entries ++ end'.pending
 
--- so it is with the accepted ones of a list of inputs
+-- The same property for the accepted inputs of a list.
 abbrev pub DriveKeepsOctets : Type 0
 DriveKeepsOctets =
     (desk : ℕ → Content → Answered) (end : EndState) (inputs accepted : List InputEvent) (entries : List Entry)
@@ -38,24 +39,24 @@ DriveKeepsOctets =
 
 -- ---- one outcome
 
--- an input meets at most one fault, or none
+-- An input has at most one error.
 abbrev pub FaultIsUnique : Type 0
 FaultIsUnique =
     (end : EndState) (input : InputEvent) (one other : Option EndFault) → Encounters end input one → Encounters end input other → one ≡ other
 
--- acts give the same entries and lead to the same end, whenever they are done
+-- Acts always give the same entries and lead to the same endpoint state.
 abbrev pub ActsHaveOneOutcome : Type 0
 ActsHaveOneOutcome =
     (end : EndState) (acts : List Act) (one other : List Entry) (end' end'' : EndState)
     → Acts end acts one end' → Acts end acts other end'' → (one ≡ other) × (end' ≡ end'')
 
--- a turn gives the same entries and leads to the same end, whenever it is taken
+-- A turn always gives the same entries and leads to the same endpoint state.
 abbrev pub TurnHasOneOutcome : Type 0
 TurnHasOneOutcome =
     (desk : ℕ → Content → Answered) (end : EndState) (input : InputEvent) (one other : List Entry) (end' end'' : EndState)
     → Turn desk end input one end' → Turn desk end input other end'' → (one ≡ other) × (end' ≡ end'')
 
--- so it is with a list of inputs, and the same ones are accepted
+-- A list of inputs always gives the same entries and endpoint state, and the same inputs are accepted.
 abbrev pub DriveHasOneOutcome : Type 0
 DriveHasOneOutcome =
     (desk : ℕ → Content → Answered) (end : EndState) (inputs accepted others : List InputEvent) (one other : List Entry)
@@ -65,19 +66,19 @@ DriveHasOneOutcome =
 
 -- ---- own system bytes
 
--- where at most 64 own transactions are open, a free number is among the next 65
+-- If at most 64 own transactions are open, free system bytes are among the next 65 values.
 abbrev pub FreeNumberIsAmongTheNext65 : Type 0
 FreeNumberIsAmongTheNext65 =
     (view : View) (next : ℕ) → own_open_of view ≤ 64
     → (places : ℕ) × (places < 65) × IsFree view (number_on next places)
 
--- at most one number is the first free one
+-- At most one number is the first free one.
 abbrev pub FirstFreeIsOne : Type 0
 FirstFreeIsOne =
     (view : View) (next one other : ℕ) → IsFirstFree view next one → IsFirstFree view next other → one ≡ other
 
--- An own message takes the first free number from the next one on. The next one is then one more, wrapping after
--- ffffffff to 0: it follows the number that was taken, also where others were passed over.
+-- An own message uses the first free number from the next one on. The next one is then one more, wrapping after
+-- ffffffff to 0: it follows the number that was used, even if others were skipped.
 abbrev pub NextNumberFollowsTheTakenOne : Type 0
 NextNumberFollowsTheTakenOne =
     (end : EndState) (frame : ℕ → Frame) (acts : List Act) (entries : List Entry) (end' : EndState)
@@ -93,11 +94,11 @@ NextNumberFollowsTheTakenOne =
 abbrev pub expiry_at : ℕ → Transaction → Entry
 expiry_at moment opened = record { time = moment; event = T3 opened.header.system }
 
--- the entries of the own data that is overdue once time has gone on, in order of opening
+-- The entries of the own data that is overdue once time has advanced, in order of opening.
 abbrev pub expiries_at : EndState → ℕ → List Entry
 expiries_at end moment = map (expiry_at moment) (expired_at end.view moment)
 
--- a tick logs all expiries first; what is behind them, any S9F9 too, is no expiry
+-- A tick logs all expiries first. No entry after them, not even an S9F9, is an expiry.
 abbrev pub AllExpiriesAreLoggedBeforeAnyS9F9 : Type 0
 AllExpiriesAreLoggedBeforeAnyS9F9 =
     (desk : ℕ → Content → Answered) (end : EndState) (now : ℕ) (entries : List Entry) (end' : EndState)
@@ -105,7 +106,7 @@ AllExpiriesAreLoggedBeforeAnyS9F9 =
     → (later : List Entry) × (entries ≡ expiries_at end (max end.moment now) ++ later)
     × (list_any (λ entry. is_t3 entry.event) later ≡ false)
 
--- where a timer of the link is overdue, a tick logs the expiries, a cut, the end of the connection, and nothing else
+-- If a timer of the link is overdue, a tick logs the expiries, a cut, the end of the connection, and nothing else.
 abbrev pub OverdueLinkTimerLeavesS9F9Out : Type 0
 OverdueLinkTimerLeavesS9F9Out =
     (desk : ℕ → Content → Answered) (end : EndState) (now : ℕ) (entries : List Entry) (end' : EndState) (cause : Cause)

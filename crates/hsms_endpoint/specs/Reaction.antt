@@ -1,5 +1,5 @@
--- What an end does at once after a received frame (SEMI E37, section 7; SEMI E5 for stream 9; the table is
--- this project's own).
+-- What an endpoint does at once after a received frame (SEMI E37, section 7; SEMI E5 for stream 9; the table is
+-- project-specific).
 use Rattle.std.specs.Prelude.{ℕ, Bool, true, false, ◌&&◌, List, [], ◌∷◌, ◌++◌, Option, Some, None, if◌then◌else◌}
 use Rattle.hsms_frame.specs.declared.header.Header.{Header}
 use Rattle.hsms_frame.specs.declared.kinds.Kind.{Kind}
@@ -20,16 +20,16 @@ abbrev pub is_equipment : Role → Bool
 is_equipment Equipment = true
 is_equipment Host = false
 
--- equipment tells of an error by stream 9; a host doesn't
+-- Equipment reports an error by stream 9; a host does not.
 abbrev pub warns : Parameters → ℕ → Header → List Act
 warns settings function header =
     if is_equipment settings.role then asks (warning settings function header) ∷ [] else []
 
--- a primary that asks for a reply and gets none is aborted
+-- A primary that requests a reply and gets none is aborted.
 abbrev pub aborts : Parameters → Header → List Act
 aborts settings primary = if wait_of primary then logs (Sent (abort_of settings primary)) ∷ [] else []
 
--- a taken primary, by the desk's answer
+-- The acts for an accepted primary, by the handler's answer.
 abbrev pub answers_primary : Parameters → Header → Answered → List Act
 answers_primary settings primary (replies item) =
     if wait_of primary then logs (Sent (reply_of settings primary item)) ∷ [] else []
@@ -38,7 +38,7 @@ answers_primary settings primary no_stream = warns settings 3 primary ++ aborts 
 answers_primary settings primary no_function = warns settings 5 primary ++ aborts settings primary
 answers_primary settings primary illegal = warns settings 7 primary ++ aborts settings primary
 
--- a taken frame, by its kind and, for a Select.req, by whether the session was selected before
+-- The acts for an accepted frame, by its kind and, for a Select.req, by whether the session was selected before.
 abbrev pub answers_taken : Parameters → Bool → Kind → Header → Answered → List Act
 answers_taken settings selected SelectReq header answer = logs (Sent (select_rsp header (if selected then 1 else 0))) ∷ []
 answers_taken settings selected LinktestReq header answer = logs (Sent (linktest_rsp header)) ∷ []
@@ -54,7 +54,7 @@ is_control_response _ = false
 abbrev pub rejects : Header → ℕ → List Act
 rejects header reason = logs (Sent (reject_req header reason)) ∷ []
 
--- a discarded frame, by the rule that it breaks as taken
+-- The acts for a discarded frame, by the rule that it would break if it were accepted.
 abbrev pub answers_discarded : Parameters → Bool → Header → Rule → List Act
 answers_discarded settings selected header PType = rejects header 2
 answers_discarded settings selected header SType = rejects header 1
@@ -66,8 +66,9 @@ answers_discarded settings selected header Session =
 answers_discarded settings selected header Text = warns settings 7 header
 answers_discarded settings selected header _ = []
 
--- what follows a received frame: by the settings, whether the session was selected before it, its header, the rule that
--- it breaks as a taken frame, and the desk's answer, which counts for a taken primary alone
+-- The acts that follow a received frame. They depend on the settings, its header, and whether the session was
+-- selected before it. They also depend on the rule that it would break as an accepted frame. The handler's answer
+-- matters only for an accepted primary.
 abbrev pub reaction : Parameters → Bool → Header → Option Rule → Answered → List Act
 reaction settings selected header None answer = answers_taken settings selected (kind_of header) header answer
 reaction settings selected header (Some rule) answer = answers_discarded settings selected header rule

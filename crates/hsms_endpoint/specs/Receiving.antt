@@ -1,4 +1,4 @@
--- What a part of the call `bytes` has done. Private functions alone speak of this.
+-- What a part of the call `bytes` has done. Only private functions use this.
 use Rattle.std.specs.Prelude.{◌≡◌, ℕ, List, ◌++◌}
 use Rattle.secs_text.specs.Content.{Content}
 use Rattle.hsms_frame.specs.Frame.{Frame}
@@ -11,7 +11,7 @@ use Rattle.hsms_endpoint.specs.Turn.{Handles, Receives}
 use Rattle.hsms_endpoint.specs.End.{Extends}
 use Rattle.hsms_endpoint.specs.Invariant.{IsSound}
 
--- a frame that was handled: its entry and its reaction are added to the entries of the call
+-- Holds if a frame was handled: its entry and its reaction are appended to the entries of the call.
 pub record HasHandled (desk : ℕ → Content → Answered) (end : State) (before : List Entry) (frame : Frame) (end' : State) (entries : List Entry) : Type 0 where
   pub new : List Entry
   pub added : entries ≡ before ++ new
@@ -20,7 +20,7 @@ pub record HasHandled (desk : ℕ → Content → Answered) (end : State) (befor
   pub sound : IsSound end'
   pub framer : end'.framer ≡ end.framer
 
--- The messages that were received so far. Whatever the messages behind them lead to, all of them lead to.
+-- The messages that were received so far. Any outcome of the messages after them is an outcome of all of them.
 pub record HasReceived (desk : ℕ → Content → Answered) (end : State) (before : List Entry) (end' : State) (entries : List Entry) : Type 0 where
   pub new : List Entry
   pub added : entries ≡ before ++ new
@@ -29,7 +29,7 @@ pub record HasReceived (desk : ℕ → Content → Answered) (end : State) (befo
   pub run : Extends end.tracker new end'.tracker
   pub sound : IsSound end'
 
--- all messages at the front were received
+-- Holds if all messages at the start of the pending bytes were received.
 pub record HasReceivedAll (desk : ℕ → Content → Answered) (end : State) (before : List Entry) (end' : State) (entries : List Entry) : Type 0 where
   pub new : List Entry
   pub added : entries ≡ before ++ new

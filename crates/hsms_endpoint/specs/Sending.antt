@@ -1,4 +1,4 @@
--- What hinders a message from being sent, and its text. Private functions alone speak of this.
+-- The errors that prevent a message from being sent, and its text. Only private functions use this.
 use Rattle.std.specs.Prelude.{◌≡◌, ℕ, ◌%◌, ◌==◌, Bool, ◌&&◌, not, nat_le, List, [], Option, Some, None, if◌then◌else◌}
 use Rattle.secs_item.specs.Item.{Value}
 use Rattle.secs_item.specs.Encoding.{EncodesTo}
@@ -10,7 +10,7 @@ use Rattle.hsms_endpoint.specs.declared.fault.EndFault.{EndFault}
 use Rattle.hsms_endpoint.specs.declared.fault.EndFault.TheVariants.{NotSelected, NotPrimary, Nine, Full, TooDeep}
 use Rattle.hsms_endpoint.specs.Frame.{is_within_depth}
 
--- the first of the faults that the message meets, by whether it meets each
+-- The first of the message's errors, by whether it has each of them.
 abbrev pub hindrance_by : Bool → Bool → Bool → Bool → Bool → Option EndFault
 hindrance_by unselected even nine full deep =
     if unselected then Some NotSelected
@@ -20,13 +20,13 @@ hindrance_by unselected even nine full deep =
     else if deep then Some TooDeep
     else None
 
--- the first fault of a connection that is up, but for a text that is too long
+-- The first error on an established connection, except for a text that is too long.
 abbrev pub hindrance_of : State → Content → Option EndFault
 hindrance_of end message =
     hindrance_by (not (is_selected end.tracker.phase)) (message.function % 2 == 0) (message.stream == 9)
     (message.wait && nat_le 64 (own_open_of end.tracker)) (not (is_within_depth end.settings.depth message.item))
 
--- the octets spell the item, or there is none
+-- Holds if the bytes encode the item, or there is no item.
 abbrev pub IsSpelt : Option Value → List ℕ → Type 0
 IsSpelt None octets = octets ≡ []
 IsSpelt (Some item) octets = EncodesTo item octets

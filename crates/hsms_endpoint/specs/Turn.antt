@@ -1,5 +1,5 @@
--- What each input does to an end (SEMI E37, sections 6 to 10: connection, select, separate, timers; this project's
--- profile). All new entries are at the end's moment.
+-- What each input does to an endpoint (SEMI E37, sections 6 to 10: connection, select, separate, timers; this
+-- project's profile). All new entries are at the endpoint's current time.
 use Rattle.std.specs.Prelude.{◌≡◌, ℕ, ◌-◌, max, Bool, true, false, ◌&&◌, ◌==◌, List, [], ◌∷◌, ◌++◌, map, filter, nat_lt, Option, Some, None, Ok, Err, if◌then◌else◌}
 use Rattle.std.specs.List.{list_any}
 use Rattle.secs_item.specs.Item.{Value}
@@ -35,7 +35,7 @@ use Rattle.hsms_endpoint.specs.Frame.{select_req, linktest_req, separate_req, me
 use Rattle.hsms_endpoint.specs.Action.{Act, logs, asks, Acts}
 use Rattle.hsms_endpoint.specs.Reaction.{reaction, warns, is_equipment}
 
--- the connection is up
+-- True if the connection is up.
 abbrev pub is_up : Phase → Bool
 is_up NotSelected = true
 is_up Selected = true
@@ -49,7 +49,7 @@ opening_of Passive = logs Up ∷ []
 
 -- ---- tick
 
--- the own data transactions that have waited for longer than T3, in order of opening
+-- The own data transactions that have waited for longer than T3, in order of opening.
 abbrev pub expired_at : View → ℕ → List Transaction
 expired_at view moment =
     filter (λ opened. nat_lt view.settings.t3 (moment - opened.time)) view.sent_data
@@ -71,7 +71,7 @@ is_pending (octet ∷ octets) = true
 abbrev pub is_t8_overdue : EndState → Bool
 is_t8_overdue end = is_pending end.pending && nat_lt end.settings.t8 (end.moment - end.reception)
 
--- why the connection is cut at the end's moment, if it is
+-- The cause for which the connection is cut at the endpoint's current time, if it is cut.
 abbrev pub overdue_cause : EndState → Option Cause
 overdue_cause end =
     if is_t6_overdue end.view end.moment then Some T6
@@ -82,20 +82,20 @@ overdue_cause end =
 abbrev pub expiry : Transaction → Act
 expiry opened = logs (T3 opened.header.system)
 
--- equipment tells of an expiry by S9F9, with the header of the primary
+-- Equipment reports an expiry by S9F9, with the header of the primary.
 abbrev pub expiry_warning : Parameters → Transaction → Act
 expiry_warning settings opened = asks (warning settings 9 opened.header)
 
 abbrev pub cut_by : Cause → List Act
 cut_by cause = logs (Cut cause) ∷ logs Down ∷ []
 
--- after the expiries: a cut, or the warnings of equipment
+-- The acts after the expiries: a cut, or the warnings of equipment.
 abbrev pub after_expiries : Parameters → List Transaction → Option Cause → List Act
 after_expiries settings expired (Some cause) = cut_by cause
 after_expiries settings expired None =
     if is_equipment settings.role then map (expiry_warning settings) expired else []
 
--- what is logged at the end's moment because a timer ran out
+-- The acts that are logged at the endpoint's current time because a timer expired.
 abbrev pub expiries : EndState → List Act
 expiries end =
     let expired = expired_at end.view end.moment in
@@ -103,33 +103,34 @@ expiries end =
 
 -- ---- received frames
 
--- the first of the rules on frames that the frame breaks, taken as the next entry, or none
+-- The first of the rules on frames that the frame breaks if it is accepted as the next entry, or none.
 abbrev pub BreaksAsTaken : View → Frame → Option Rule → Type 0
 BreaksAsTaken view frame broken =
     IsFirst (FrameBreaks (facts_of view) view.settings Incoming frame) (format_rules ++ transaction_rules) broken
 
--- a frame that breaks a rule is discarded, any other one is taken
+-- A frame that breaks a rule is discarded; any other frame is accepted.
 abbrev pub received_as : Frame → Option Rule → Event
 received_as frame None = Taken frame
 received_as frame (Some rule) = Discarded frame
 
--- the desk's answer to a primary that is taken
+-- The handler's answer to an accepted primary.
 abbrev pub IsAnswerOf : (Content → Answered) → ℕ → Frame → Option Rule → Answered → Type 0
 IsAnswerOf desk depth frame broken answer =
     broken ≡ None → kind_of frame.header ≡ Primary
     → (item : Option Value) × IsTextOf depth frame.text item × (answer ≡ desk (message_of frame.header item))
 
--- how often the desk was asked, with a frame of this kind: a primary that is taken is asked about
+-- The counts after a frame of this kind: an accepted primary is passed to the handler.
 abbrev pub asked_with : Kind → Option Rule → ℕ → List (ℕ × ℕ) → List (ℕ × ℕ)
 asked_with Primary None name asked = once_more name asked
 asked_with _ _ name asked = asked
 
--- the end when the desk has been asked about a frame
+-- The endpoint after a frame was passed to the handler.
 abbrev pub with_asked : EndState → Frame → Option Rule → EndState
 with_asked end frame broken =
     record end { asked = asked_with (kind_of frame.header) broken (name_in frame.header) end.asked }
 
--- a received frame: its entry, and its reaction at once, with the answer of a desk that was asked so often before
+-- The result of a received frame: its entry, and its immediate reaction, with the answer of the handler for the
+-- messages that it received before.
 abbrev pub Handles : (ℕ → Content → Answered) → EndState → Frame → List Entry → EndState → Type 0
 Handles desk end frame entries end' =
     (broken : Option Rule) × (answer : Answered)
@@ -139,16 +140,16 @@ Handles desk end frame entries end' =
     (logs (received_as frame broken) ∷ reaction end.settings (is_selected end.view.phase) frame.header broken answer)
     entries end'
 
--- ---- received octets
+-- ---- received bytes
 
--- S9F11, of equipment that is selected, where a message that is too long is data for its device
+-- S9F11, sent by selected equipment if a message that is too long is data for its device.
 abbrev pub warns_too_long : EndState → Header → List Act
 warns_too_long end header =
     if is_selected end.view.phase && (header.stype == 0) && (header.ptype == 0) && (header.session == end.settings.device)
     then warns end.settings 11 header else []
 
--- no further message is at the front of the pending octets: the connection is no longer up, or a message isn't there
--- whole, or the octets are at fault and the connection is cut
+-- No further message is at the start of the pending bytes. The connection is no longer up, a message is incomplete,
+-- or the bytes are invalid and the connection is cut.
 pub data Rests (end : EndState) (entries : List Entry) (end' : EndState) : Type 0 where
   is_down : is_up end.view.phase ≡ false → entries ≡ [] → end' ≡ end → Rests end entries end'
   waits : is_up end.view.phase ≡ true → FramesAs end.settings.max end.pending (Ok None) end.pending
@@ -160,14 +161,14 @@ pub data Rests (end : EndState) (entries : List Entry) (end' : EndState) : Type 
       → FramesAs end.settings.max end.pending (Err (TooLong n header)) end.pending
       → Acts end (warns_too_long end header ++ cut_by Length) entries end' → Rests end entries end'
 
--- a message is at the front of the pending octets of a connection that is up, and is taken off it
+-- Holds if a message is at the start of the pending bytes of an established connection, and is removed from them.
 pub record TakesOff (end : EndState) (frame : Frame) (end' : EndState) : Type 0 where
   pub up : is_up end.view.phase ≡ true
   pub rest : List ℕ
   pub front : FramesAs end.settings.max end.pending (Ok (Some frame)) rest
   pub off : end' ≡ record end { pending = rest }
 
--- the messages at the front of the pending octets, one after the other, and what each leads to
+-- The messages at the start of the pending bytes, one after the other, and the result of each.
 abbrev pub Receives : (ℕ → Content → Answered) → EndState → List Frame → List Entry → EndState → Type 0
 Receives desk end [] entries end' = Rests end entries end'
 Receives desk end (frame ∷ frames) entries end' =
@@ -175,18 +176,18 @@ Receives desk end (frame ∷ frames) entries end' =
     × TakesOff end frame off × Handles desk off frame first next × Receives desk next frames later end'
     × (entries ≡ first ++ later)
 
--- T8 counts from the moment at which an octet came last
+-- T8 counts from the time of the last received byte.
 abbrev pub processed_at : List ℕ → ℕ → ℕ → ℕ
 processed_at octets moment reception = if is_pending octets then moment else reception
 
--- the end when octets have come: they are added to the pending ones
+-- The endpoint after bytes were received: they are appended to the pending ones.
 abbrev pub with_octets : EndState → List ℕ → EndState
 with_octets end octets =
     record end { pending = end.pending ++ octets; reception = processed_at octets end.moment end.reception }
 
 -- ---- all inputs
 
--- what an end is told, a message apart from where its item lies in memory
+-- An input of an endpoint; a message apart from where its item is in memory.
 pub data InputEvent : Type 0 where
   start : ℕ → InputEvent
   tick : ℕ → InputEvent
@@ -196,13 +197,13 @@ pub data InputEvent : Type 0 where
   separate : InputEvent
   lost : InputEvent
 
--- the message is sent with the text of its item: a primary gets own system bytes
+-- The message is sent with the text of its item: a primary gets own system bytes.
 abbrev pub Sends : EndState → Content → List Entry → EndState → Type 0
 Sends end message entries end' =
     (text : List ℕ) × (fitting_text end.settings message.item ≡ Some text)
     × Acts end (asks (message_frame end.settings message text) ∷ []) entries end'
 
--- the input gives these new entries, and leads from one end to the other
+-- Holds if the input gives these new entries, and leads from one endpoint state to the other.
 abbrev pub Turn : (ℕ → Content → Answered) → EndState → InputEvent → List Entry → EndState → Type 0
 Turn desk end (start now) entries end' =
     Acts (record end { moment = max end.moment now }) (opening_of end.settings.link) entries end'

@@ -1,11 +1,11 @@
-//! The desks of a host and of equipment.
+//! The message handlers of a host and of equipment.
 
 use crate::answer::{Answer, Desk};
 use secs_item::Item;
 use secs_text::Message;
 use std::alloc::{AllocError, Global};
 
-/// A host's desk (SEMI E5): it answers S1F1, S1F13 and S2F25.
+/// A host's message handler (SEMI E5). It answers S1F1, S1F13 and S2F25.
 #[derive(Clone, Copy, Debug)]
 pub struct HostDesk;
 
@@ -26,7 +26,8 @@ impl Desk for HostDesk {
     }
 }
 
-/// Equipment's desk (SEMI E5): it answers S1F1, S1F13 and S2F25, and tells its model and software revision.
+/// Equipment's message handler (SEMI E5). It answers S1F1, S1F13 and S2F25, and sends its model and software
+/// revision.
 #[derive(Debug, Drop)]
 pub struct EquipmentDesk {
     pub mdln: Vec<u8>,
@@ -54,7 +55,7 @@ impl EquipmentDesk {
     ghost use Rattle.secs_item.specs.Item.{view};
     ghost use Rattle.hsms_endpoint.specs.Desk.{equipment_identity};
 
-    /// S1F2's item.
+    /// Returns the item of S1F2.
     fn identity(&self, alloc: Global) -> Result<Item, AllocError>
         ensures { IfOk result (λ item. view item ≡ equipment_identity self.now.mdln.items self.now.softrev.items) }
     {
@@ -69,7 +70,7 @@ ghost use Rattle.secs_item.specs.Item.{view};
 ghost use Rattle.hsms_endpoint.specs.Answer.{answered};
 ghost use Rattle.hsms_endpoint.specs.Desk.{acknowledged as acknowledgement, looped_back as loopback};
 
-/// S1F14's item.
+/// Returns the item of S1F14.
 fn acknowledged(alloc: Global, identity: Item) -> Result<Item, AllocError>
     ensures { IfOk result (λ item. view item ≡ acknowledgement (view identity)) }
 {
@@ -77,7 +78,7 @@ fn acknowledged(alloc: Global, identity: Item) -> Result<Item, AllocError>
     Ok(Item::List(vec![in alloc; Item::Binary(accepted), identity]?))
 }
 
-/// What S2F25 is answered by.
+/// Returns the answer to S2F25.
 fn looped_back(alloc: Global, item: Option<&Item>) -> Result<Answer, AllocError>
     ensures { IfOk result (λ answer. answered answer ≡ loopback (option_map (λ i. view i.now) item.entry)) }
 {

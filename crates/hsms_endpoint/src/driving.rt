@@ -1,4 +1,4 @@
-//! A whole connection from a list of inputs.
+//! A complete connection from a list of inputs.
 
 ghost use Rattle.std.specs.Prelude.{map, IfOk};
 ghost use Rattle.hsms_machine.specs.Run.{IsRun};
@@ -12,30 +12,32 @@ use crate::input::Input;
 use hsms_machine::{Entry, Settings};
 use std::alloc::{AllocError, Global};
 
-/// What came of a list of inputs.
+/// The result of a list of inputs.
 #[derive(Debug, Drop)]
 pub struct Driven {
-    /// The new entries of each input that wasn't refused, in order.
+    /// The new entries of each accepted input, in order.
     pub entries: Vec<Entry>,
-    /// The octets that came and belong to no message that was taken off.
+    /// The received bytes that belong to no complete message yet.
     pub pending: Vec<u8>,
 }
 
-/// Tells an end one input after the other.
+/// Passes inputs to an endpoint, one after the other.
 ///
-/// **For every settings, desk, first number and list of inputs, the entries are a run of the session machine.** In it:
+/// **For all settings, handlers, first system bytes and lists of inputs, the entries are a run of the session
+/// machine.** In this statement:
 ///
-/// - *settings*: those of the end and of the run (`Parameters` of `hsms_machine`).
-/// - *desk*: what answers messages. Its answer is a function of the desk, of how many messages of the same stream and
-///   function came before, and of the message (`TurnDesk::answers_after`).
-/// - *first number*: the system bytes from which own ones are tried (`initial_state`, `IsFirstFree`).
-/// - *inputs*: what the end is told, in order (`InputEvent`): any moments, any octets in any pieces, any messages.
-/// - *entries*: the new entries of the `Turn` of each input that isn't refused, in order (`Drives`, `Responds`). An
-///   input is refused where it meets a fault (`Encounters`); it adds nothing, and the next one follows.
-/// - *a run*: no entry breaks a rule after the entries before it (`IsRun`); so the audit passes the log of the entries.
+/// - *settings*: those of the endpoint and of the run (`Parameters` of `hsms_machine`).
+/// - *handler*: what answers messages. Its answer is a function of the handler, of the number of earlier messages
+///   with this stream and function, and of the message (`TurnDesk::answers_after`).
+/// - *first system bytes*: the first value that is tried for own system bytes (`initial_state`, `IsFirstFree`).
+/// - *inputs*: what the endpoint receives, in order (`InputEvent`): any times, any bytes in any chunks, any messages.
+/// - *entries*: the new entries of the `Turn` of each accepted input, in order (`Drives`, `Responds`). An input is
+///   rejected if it has an error (`Encounters`). A rejected input adds nothing, and the next input follows.
+/// - *a run*: no entry breaks a rule after the entries before it (`IsRun`). So the audit passes the log of the
+///   entries.
 ///
-/// The octets of the accepted inputs are the frames of the taken and discarded entries, in order, and then those that
-/// are pending. The only error is want of memory.
+/// The bytes of the accepted inputs are the frames of the accepted and discarded entries, in order, followed by the
+/// pending bytes. The only error is a failed allocation.
 pub fn drive<D: TurnDesk + Drop>(
     alloc: Global,
     settings: Settings,

@@ -1,4 +1,4 @@
-//! One end of a session.
+//! One endpoint of a session.
 
 use crate::answer::TurnDesk;
 use crate::fault::EndFault;
@@ -11,18 +11,18 @@ use secs_text::Message;
 use std::alloc::Global;
 use std::marker::Model;
 
-/// An end of a session (SEMI E37, E37.1). It is told what happens, and answers with the entries that its log goes on
-/// by, all at its own moment in milliseconds. The frames to be sent are the sent ones among them, in order.
+/// An endpoint of a session (SEMI E37, E37.1). It receives events and returns the new entries of its log, all at its
+/// current time in milliseconds. The frames to send are the sent entries among them, in order.
 ///
-/// Each call is accepted, or refused by the first fault of [`EndFault`] that it meets, which changes nothing; or memory
-/// was refused, and from then on each call but the readers answers `Spent`.
+/// Each call is accepted, or returns the first [`EndFault`] that applies, which changes nothing. If an allocation
+/// fails, the call returns `Memory`, and each later call except the accessors returns `Spent`.
 pub struct End<D> {
     desk: D,
     state: State,
     spent: bool,
 }
 
-// Written out: a proof over one that is dropped has one step for it, not one for each of its parts.
+// Written out so that a proof has one step for a dropped value, not one for each of its parts.
 impl<D: Drop> Drop for End<D> {
     fn drop(self) {
         let End {
@@ -58,16 +58,16 @@ impl<D: TurnDesk> End<D> {
     ghost use Rattle.secs_text.specs.View.{content};
     ghost use Rattle.hsms_endpoint.specs.Turn.{start, tick, bytes, send, linktest, separate, lost};
 
-    /// An end that was told nothing yet. Its own system bytes are counted from the first number on (SEMI E37, section
-    /// 8, message format). Takes no memory; the calls take theirs from this allocator.
+    /// Creates an endpoint that has received no input. Its own system bytes count up from `first_system` (SEMI E37,
+    /// section 8, message format). Allocates no memory; the calls allocate from `alloc`.
     pub fn new(alloc: Global, settings: Settings, desk: D, first_system: u32) -> End<D>
         ensures { result ≡ record { desk = desk; known = initial_state settings first_system } }
     {
         Self::since(alloc, settings, desk, first_system, 0)
     }
 
-    /// An end that was told nothing yet, and starts no earlier than at this moment, in milliseconds: what comes up after
-    /// another connection. Takes no memory.
+    /// Creates an endpoint that has received no input and starts no earlier than at this time, in milliseconds. Use
+    /// it for a connection that follows another one. Allocates no memory.
     #[tactic(auto, unfolding(hsms_machine::specs::Entry::connection_of))]
     pub fn since(
         alloc: Global,
@@ -94,66 +94,67 @@ impl<D: TurnDesk> End<D> {
         }
     }
 
-    /// Where the session stands (SEMI E37, section 5, connection states). Takes no memory.
+    /// Returns the state of the session (SEMI E37, section 5, connection states). Allocates no memory.
     pub fn phase(&self) -> Phase
         ensures { result ≡ self.now.known.view.phase }
     {
         self.state.tracker.phase()
     }
 
-    /// The time of the last entry, or 0 where there is none. Takes no memory.
+    /// Returns the time of the last entry, or 0 if there is no entry. Allocates no memory.
     pub fn last_time(&self) -> u64
         ensures { result ≡ self.now.known.view.last_time }
     {
         self.state.tracker.last_time()
     }
 
-    /// How many own transactions are open: primaries that ask for a reply, Select.req and Linktest.req. Takes no
-    /// memory.
+    /// Returns the number of open own transactions: primaries that request a reply, Select.req and Linktest.req.
+    /// Allocates no memory.
     pub fn own_open(&self) -> usize
         ensures { result ≡ own_open_of self.now.known.view }
     {
         self.state.tracker.own_open()
     }
 
-    /// The octets that came and belong to no message that was taken off. Takes no memory.
+    /// Returns the received bytes that belong to no complete message yet. Allocates no memory.
     pub fn pending(&self) -> &[u8]
         ensures { result.now ≡ self.now.known.pending }
     {
         self.state.framer.pending()
     }
 
-    /// The least moment, in milliseconds, at which a timer runs out: T3, T6 and T7 as the tracker tells them, and T8
-    /// from the last octet while octets are pending on a connection that is up (SEMI E37, section 10, parameters).
-    /// Moments past 18,446,744,073,709,551,615 are left out. Takes no memory.
+    /// Returns the earliest time, in milliseconds, at which a timer expires (SEMI E37, section 10, parameters). T3,
+    /// T6 and T7 are those of the tracker. T8 runs from the last byte while bytes are pending on an established
+    /// connection. Times past 18,446,744,073,709,551,615 are skipped. Allocates no memory.
     pub fn next_due(&self) -> Option<u64>
         ensures { result ≡ next_due self.now.known }
     {
         self.state.next_due()
     }
 
-    /// Its moment, in milliseconds. Takes no memory.
+    /// Returns its current time, in milliseconds. Allocates no memory.
     pub fn moment(&self) -> u64
         ensures { result ≡ self.now.known.moment }
     {
         self.state.moment
     }
 
-    /// The moment, in milliseconds, from which on the link is to be tested by Linktest.req (SEMI E37, section 7, linktest
-    /// procedure): so long a pause after the last octet that came and the last entry, while the session is selected, no
-    /// Linktest.req is open, and fewer than 64 own transactions are. Takes no memory.
+    /// Returns the time, in milliseconds, from which the link is to be tested by Linktest.req (SEMI E37, section 7,
+    /// linktest procedure): `pause` after the last received byte and the last entry. Returns `None` unless the
+    /// session is selected, no Linktest.req is open, and fewer than 64 own transactions are open. Allocates no
+    /// memory.
     pub fn test_due(&self, pause: u64) -> Option<u64>
         ensures { result ≡ test_due pause self.now.known }
     {
         self.state.test_due(pause)
     }
 
-    /// The connection came up at this moment, in milliseconds, or at the end's own where that is later. An active end
-    /// asks for a session by Select.req (SEMI E37, section 7, select procedure).
+    /// Starts the connection at this time, in milliseconds, or at the endpoint's own time if that is later. An active
+    /// endpoint sends Select.req (SEMI E37, section 7, select procedure).
     ///
     /// # Errors
     ///
-    /// `Spent`; `NotUp`, where it was up before; `Memory`.
+    /// Returns `Spent`, `Memory`, or `NotUp` if the connection was already started.
     #[tactic(auto, using(crate::proofs::Calls::started, crate::proofs::Calls::completed_sound), unfolding(crate::specs::Fault::Encounters))]
     pub fn start(&mut self, now: u64) -> Result<Vec<Entry>, EndFault>
         ensures { Answers D.answers_after self.old (start now) result self.new }
@@ -172,13 +173,13 @@ impl<D: TurnDesk> End<D> {
         Ok(entries)
     }
 
-    /// The end's moment becomes this one, in milliseconds, unless it is later already. Each own primary that is overdue
-    /// by T3 is logged. Where T6, T7 or T8 has run out the connection is cut; else equipment tells of each expiry by
-    /// S9F9 (SEMI E37, section 10, parameters; SEMI E5, section 8, transactions).
+    /// Advances the endpoint's time to this time, in milliseconds, unless it is already later. Logs each own primary
+    /// that is overdue by T3. If T6, T7 or T8 has expired, the connection is cut. Otherwise equipment reports each
+    /// expiry by S9F9 (SEMI E37, section 10, parameters; SEMI E5, section 8, transactions).
     ///
     /// # Errors
     ///
-    /// `Spent`, `NotUp`, `Memory`.
+    /// Returns `Spent`, `NotUp` or `Memory`.
     #[tactic(auto, using(crate::proofs::Ends::ticked, crate::proofs::Calls::completed_sound), unfolding(crate::specs::Fault::Encounters))]
     pub fn tick(&mut self, now: u64) -> Result<Vec<Entry>, EndFault>
         ensures { Answers D.answers_after self.old (tick now) result self.new }
@@ -195,7 +196,7 @@ impl<D: TurnDesk> End<D> {
     ///
     /// # Errors
     ///
-    /// Each of [`EndFault`], in its order, but `TooDeep` before `TooLong`. `Memory` may come in place of `TooLong`.
+    /// Returns any [`EndFault`], in its order, but `TooDeep` before `TooLong`. `Memory` may replace `TooLong`.
     #[tactic(auto, using(crate::proofs::Sent::send_refused, crate::proofs::Calls::completed_sound), unfolding(crate::specs::Fault::Encounters))]
     pub fn send(&mut self, message: &Message) -> Result<Vec<Entry>, EndFault>
         ensures { Answers D.answers_after self.old (send (content message.now)) result self.new }
@@ -215,11 +216,11 @@ impl<D: TurnDesk> End<D> {
         Ok(entries)
     }
 
-    /// The connection was lost.
+    /// Logs that the connection was lost.
     ///
     /// # Errors
     ///
-    /// `Spent`, `NotUp`, `Memory`.
+    /// Returns `Spent`, `NotUp` or `Memory`.
     #[tactic(auto, using(crate::proofs::Calls::lost_accepted, crate::proofs::Requests::lost_valid), unfolding(crate::specs::Fault::Encounters))]
     pub fn lost(&mut self) -> Result<Vec<Entry>, EndFault>
         ensures { Answers D.answers_after self.old lost result self.new }
@@ -232,11 +233,11 @@ impl<D: TurnDesk> End<D> {
         Ok(entries)
     }
 
-    /// Ends the session by Separate.req (SEMI E37, section 7, separate procedure), and the connection.
+    /// Sends Separate.req (SEMI E37, section 7, separate procedure), and ends the session and the connection.
     ///
     /// # Errors
     ///
-    /// `Spent`, `NotUp`, `Memory`.
+    /// Returns `Spent`, `NotUp` or `Memory`.
     #[tactic(auto, using(crate::proofs::Calls::separate_accepted, crate::proofs::Calls::completed_sound), unfolding(crate::specs::Fault::Encounters))]
     pub fn separate(&mut self) -> Result<Vec<Entry>, EndFault>
         ensures { Answers D.answers_after self.old separate result self.new }
@@ -249,11 +250,11 @@ impl<D: TurnDesk> End<D> {
         Ok(entries)
     }
 
-    /// Asks by Linktest.req (SEMI E37, section 7, linktest procedure) whether the other end is still there.
+    /// Sends Linktest.req (SEMI E37, section 7, linktest procedure) to check that the peer is still there.
     ///
     /// # Errors
     ///
-    /// `Spent`, `NotUp`, `Full`, `Memory`.
+    /// Returns `Spent`, `NotUp`, `Full` or `Memory`.
     #[tactic(auto, using(crate::proofs::Calls::linktest_accepted, crate::proofs::Calls::completed_sound), unfolding(crate::specs::Fault::Encounters))]
     pub fn linktest(&mut self) -> Result<Vec<Entry>, EndFault>
         ensures { Answers D.answers_after self.old linktest result self.new }
@@ -269,13 +270,13 @@ impl<D: TurnDesk> End<D> {
         Ok(entries)
     }
 
-    /// Octets came, any number of them. Each message that they complete is logged, as taken where it breaks no rule and
-    /// else as discarded, and answered at once. Where they spell no message the connection is cut. The others stay
-    /// pending.
+    /// Processes received bytes, in any number. Logs each message that they complete and answers it at once. A
+    /// message that breaks no rule is logged as accepted, any other one as discarded. If the bytes encode no message,
+    /// the connection is cut. The bytes of an incomplete message stay pending.
     ///
     /// # Errors
     ///
-    /// `Spent`, `NotUp`, `Memory`.
+    /// Returns `Spent`, `NotUp` or `Memory`.
     #[tactic(auto, using(crate::proofs::ReceivedFrames::bytes_accepted, crate::proofs::ReceivedFrames::received_sound), unfolding(crate::specs::Fault::Encounters))]
     pub fn bytes(&mut self, octets: &[u8]) -> Result<Vec<Entry>, EndFault>
         ensures { Answers D.answers_after self.old (bytes octets.now) result self.new }
@@ -288,11 +289,11 @@ impl<D: TurnDesk> End<D> {
         Ok(entries)
     }
 
-    /// Makes the call that the input says.
+    /// Makes the call that the input describes.
     ///
     /// # Errors
     ///
-    /// Those of the call.
+    /// Returns the errors of that call.
     pub fn submit(&mut self, input: &Input) -> Result<Vec<Entry>, EndFault>
         ensures { Answers D.answers_after self.old (input_event input.now) result self.new }
     {

@@ -1,30 +1,30 @@
-//! What an end refuses a call for.
+//! The errors of the calls of an endpoint.
 
 ghost use Rattle.std.specs.Prelude.{◌≡◌};
 ghost use Rattle.hsms_endpoint.specs.declared.fault.EndFault.TheVariants.{Memory};
 
 use std::alloc::AllocError;
 
-/// Why a call of an end gave no entries. All but `Memory` change nothing.
+/// Why a call of an endpoint returned no entries. All errors but `Memory` change nothing.
 #[derive(Clone, Copy, Debug, PartialEq, Eq)]
 pub enum EndFault {
-    /// Memory was refused in an earlier call.
+    /// An allocation failed in an earlier call.
     Spent,
-    /// The connection isn't up; a start is refused where it was up before.
+    /// The connection is not up. A start returns it if the connection was up before.
     NotUp,
-    /// A message is sent while the session isn't selected (SEMI E37, section 7).
+    /// A message is sent while the session is not selected (SEMI E37, section 7).
     NotSelected,
-    /// The function of a message that is sent isn't odd (SEMI E5, section 8, transactions).
+    /// The function of the message to send is not odd (SEMI E5, section 8, transactions).
     NotPrimary,
-    /// A message of stream 9 is sent. An end tells of errors by itself.
+    /// The message to send is of stream 9. An endpoint reports errors by itself.
     Nine,
-    /// 64 own transactions are open, and the call would open one.
+    /// 64 own transactions are open, and the call would open another one.
     Full,
-    /// The message's item has no spelling, or header and text are more octets than the settings allow.
+    /// The message's item has no encoding, or header and text have more bytes than the settings allow.
     TooLong,
     /// The message's item nests deeper than the settings allow.
     TooDeep,
-    /// Memory was refused. The end is spent, and what the call did isn't told.
+    /// An allocation failed. The endpoint is no longer usable, and the entries of the call are lost.
     Memory,
 }
 

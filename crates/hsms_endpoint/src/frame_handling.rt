@@ -1,4 +1,4 @@
-//! A received frame: its entry, and its reaction at once.
+//! A received frame: its entry, and the immediate reaction.
 
 ghost use Rattle.std.specs.Prelude.{◌≡◌, ℕ, [], OnOk, IfOk};
 ghost use Rattle.secs_text.specs.Content.{Content};
@@ -24,7 +24,7 @@ use secs_text::Message;
 use std::alloc::AllocError;
 
 impl State {
-    /// The desk's answer to a primary. Its text is readable, since it was taken.
+    /// Returns the handler's answer to a primary. The primary's text decodes, since the frame was accepted.
     fn ask<D: TurnDesk>(&self, desk: &D, frame: &Frame) -> Result<Answer, AllocError>
         requires { ¬ ¬ IsText self.now.settings.depth frame.now.text }
         ensures { IfOk result (λ answer. IsAnsweredBy (D.answers_after desk.now (times (name_in frame.now.header) self.now.asked)) self.now.settings.depth frame.now (answered answer)) }
@@ -45,7 +45,7 @@ impl State {
         }
     }
 
-    /// Takes a primary by the desk's answer: logs it, and sends what the answer asks for.
+    /// Accepts a primary with the handler's answer: logs it, and sends what the answer requires.
     fn take_answered(
         &mut self,
         entries: &mut Vec<Entry>,
@@ -62,7 +62,7 @@ impl State {
         self.answer_primary(entries, header, answer)
     }
 
-    /// Takes a primary that breaks no rule.
+    /// Accepts a primary that breaks no rule.
     fn take_primary<D: TurnDesk>(
         &mut self,
         desk: &D,
@@ -77,7 +77,7 @@ impl State {
         self.take_answered(entries, frame, &answer)
     }
 
-    /// Takes a frame that breaks no rule: logs it, and reacts to it.
+    /// Accepts a frame that breaks no rule: logs it, and reacts to it.
     pub fn take<D: TurnDesk>(
         &mut self,
         desk: &D,
@@ -108,7 +108,7 @@ impl State {
         }
     }
 
-    /// Reacts to a frame that was discarded, by the rule that it breaks.
+    /// Reacts to a discarded frame according to the rule that it breaks.
     fn answer_discarded(
         &mut self,
         entries: &mut Vec<Entry>,
@@ -157,14 +157,14 @@ impl State {
     }
 }
 
-/// Whether a message is a Select.rsp or a Linktest.rsp, which is rejected where it answers nothing.
+/// Returns whether a message is a Select.rsp or a Linktest.rsp, which is rejected if it answers no open request.
 fn is_control_response(header: Header) -> bool
     ensures { result ≡ is_control_response_of (kind_of header) }
 {
     matches!(kind(header), Kind::SelectRsp | Kind::LinktestRsp)
 }
 
-/// Whether a message is data.
+/// Returns whether a message is a data message.
 fn is_data(header: Header) -> bool
     ensures { result ≡ is_data_kind (kind_of header) }
 {

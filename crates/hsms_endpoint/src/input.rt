@@ -1,21 +1,21 @@
-//! What an end is told.
+//! The inputs of an endpoint.
 
 use secs_text::Message;
 
-/// What an end is told: one call of it.
+/// An input of an endpoint: one call.
 #[derive(Debug, Drop)]
 pub enum Input {
-    /// The connection came up at this moment, in milliseconds.
+    /// The connection was established at this time, in milliseconds.
     Start(u64),
-    /// Time has gone on to this moment, in milliseconds.
+    /// Time has advanced to this time, in milliseconds.
     Tick(u64),
-    /// Octets came.
+    /// Bytes were received.
     Bytes(Vec<u8>),
-    /// A message is to be sent.
+    /// Send this message.
     Send(Message),
-    /// The other end is to be asked whether it is still there.
+    /// Send Linktest.req to check that the peer is still there.
     Linktest,
-    /// The session and the connection are to be ended.
+    /// End the session and the connection.
     Separate,
     /// The connection was lost.
     Lost,

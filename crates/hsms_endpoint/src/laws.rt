@@ -1,25 +1,26 @@
-//! Laws over the definitions of an end. Each is the contract of a function that does nothing.
+//! Laws over the definitions of an endpoint. Each is the contract of a function that does nothing.
 
 ghost use Rattle.hsms_endpoint.specs.Laws.{TurnKeepsOctets, DriveKeepsOctets, FaultIsUnique, ActsHaveOneOutcome, TurnHasOneOutcome, DriveHasOneOutcome, FreeNumberIsAmongTheNext65, FirstFreeIsOne, NextNumberFollowsTheTakenOne, AllExpiriesAreLoggedBeforeAnyS9F9, OverdueLinkTimerLeavesS9F9Out};
 
 use hsms_frame::laws::one_answer_to_pending;
 use secs_item::laws::one_answer_of_text;
 
-/// No octet is lost: what was pending and what comes is the frames of the taken and discarded entries, in order, and
-/// then what is pending. So it is with one input, and with the accepted ones of a list.
+/// Ensures that no byte is lost. The pending bytes and the received ones are the frames of the accepted and discarded
+/// entries, in order, followed by the bytes still pending. This holds for one input, and for the accepted inputs of a
+/// list.
 pub fn octets_are_kept()
     ensures turn { TurnKeepsOctets }
     ensures drive { DriveKeepsOctets }
 {}
 
-/// An input is accepted or meets one fault, and acts have one outcome.
+/// Ensures that an input is accepted or has one error, and that acts have one outcome.
 pub fn each_act_has_one_outcome()
     ensures fault { FaultIsUnique }
     ensures acts { ActsHaveOneOutcome }
 {}
 
-/// The turn of an input has one outcome: the settings, the desk, what the end is known by and the input decide the new
-/// entries and the end afterwards. So has a list of inputs.
+/// Ensures that an input has one outcome. The settings, the handler, the endpoint's state and the input determine the
+/// new entries and the endpoint's next state. So does a list of inputs.
 pub fn each_turn_has_one_outcome()
     ensures turn { TurnHasOneOutcome }
     ensures drive { DriveHasOneOutcome }
@@ -28,25 +29,25 @@ pub fn each_turn_has_one_outcome()
     one_answer_of_text();
 }
 
-/// Where no more than 64 own transactions are open, a free number is among the next 65, and the first one is one
-/// number.
+/// Ensures that free system bytes are among the next 65 values if at most 64 own transactions are open. The first
+/// free value is unique.
 pub fn free_number_is_among_the_next_65()
     ensures some { FreeNumberIsAmongTheNext65 }
     ensures one { FirstFreeIsOne }
 {}
 
-/// The number from which own ones are tried next is one past the one that was taken, also where numbers before that
-/// were in use and passed over.
+/// Ensures that the next value tried for own system bytes is one past the value just used. This also holds if values
+/// before that were in use and skipped.
 pub fn next_number_follows_the_taken_one()
     ensures { NextNumberFollowsTheTakenOne }
 {}
 
-/// When time goes on, all expiries of own data are logged before any S9F9 that tells of them.
+/// Ensures that a tick logs all expiries of own data messages before any S9F9 that reports one.
 pub fn all_expiries_are_logged_before_any_s9f9()
     ensures { AllExpiriesAreLoggedBeforeAnyS9F9 }
 {}
 
-/// When time goes on and a timer of the link is overdue, the connection is cut after the expiries, and no S9F9 is sent.
+/// Ensures that a tick with an overdue link timer cuts the connection after the expiries and sends no S9F9.
 pub fn overdue_link_timer_leaves_s9f9_out()
     ensures { OverdueLinkTimerLeavesS9F9Out }
 {}

@@ -1,25 +1,27 @@
-//! An end of an HSMS session (SEMI E37, E37.1): what it logs, sends and answers.
+//! An endpoint of an HSMS session (SEMI E37, E37.1): what it logs, sends and answers.
 //!
-//! An [`End`] is told what happens: the connection comes up, time goes on, octets come, a message is to be sent. It
-//! answers with the entries that its log goes on by; what it sent is among them. It reads no clock and opens no socket:
-//! moments, in milliseconds, and octets are handed in. The tracker of `hsms_machine` judges what it may log, so its log
-//! passes the audit. A [`Desk`] answers the messages that it takes, or a [`TurnDesk`], whose answer may depend on how
-//! often that stream and function was asked before. [`drive`] tells an end a list of inputs.
+//! An [`End`] receives events: the connection is established, time passes, bytes arrive, a message is to be sent. It
+//! returns the new entries of its log, which include what it sent. It reads no clock and opens no socket: the caller
+//! passes times, in milliseconds, and bytes. The tracker of `hsms_machine` checks each entry before it is logged, so
+//! the log passes the audit. A [`Desk`] answers the accepted messages. So does a [`TurnDesk`], whose answer may
+//! depend on the number of earlier messages with that stream and function. [`drive`] passes a list of inputs to an
+//! endpoint.
 //!
-//! An end is made with its settings, its desk and its first own system bytes. Then come `start`, once the connection is
-//! up, and after it `bytes` with what came, `tick` when the moment of `next_due` is past, and `send`, `linktest` and
-//! `separate` as wished, until it is [`Phase::Gone`](hsms_machine::Phase) or `lost` says that the connection broke:
+//! An endpoint is created with its settings, its message handler and its first own system bytes. The caller first
+//! calls `start`, once the connection is established. Then it calls `bytes` with the received bytes, `tick` when the
+//! time of `next_due` is past, and `send`, `linktest` and `separate` as needed. The endpoint is finished when it is
+//! [`Phase::Gone`](hsms_machine::Phase), or when the caller reports with `lost` that the connection broke:
 //!
 //! ```
 //! let mut end = End::new(alloc, settings, HostDesk, 1);
-//! let entries = end.start(0)?;      // up, and a Select.req where it connected
-//! let entries = end.bytes(octets)?; // what was taken or discarded, and what was sent for it
+//! let entries = end.start(0)?;      // up, and a Select.req if it connected
+//! let entries = end.bytes(octets)?; // what was accepted or discarded, and what was sent for it
 //! let entries = end.tick(6000)?;    // what has expired
 //! let entries = end.send(&message)?;
 //! let entries = end.separate()?;    // a Separate.req, and down
 //! ```
 //!
-//! What stands as sent in the entries is to be put out in that order, and what came later is to be told later.
+//! The caller writes the sent messages of the entries in that order, and passes later events in later calls.
 #![tactic(auto)]
 
 mod answer;

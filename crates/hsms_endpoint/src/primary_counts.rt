@@ -1,4 +1,4 @@
-//! How often a desk was asked.
+//! Counts of the messages passed to a handler.
 
 ghost use Rattle.std.specs.Prelude.{◌≡◌};
 ghost use Rattle.hsms_endpoint.specs.PrimaryCounts.{name_of};
@@ -7,7 +7,7 @@ use indexmap::IndexMap;
 use std::alloc::{AllocError, Global};
 use std::marker::Model;
 
-/// How often a desk was asked about messages of each stream and function.
+/// The number of messages of each stream and function that were passed to the handler.
 pub struct Asked {
     counts: IndexMap<u16, u64>,
 }
@@ -20,7 +20,7 @@ impl Model for Asked {
     ghost view = { λ asked. asked.counts.entries };
 }
 
-// Written out: a proof over an end that is dropped then has one step for the map, not one for each of its parts.
+// Written out so that a proof over a dropped endpoint has one step for the map, not one for each of its parts.
 impl Drop for Asked {
     fn drop(self) {
         let Asked { counts } = self;
@@ -32,7 +32,7 @@ impl Asked {
     ghost use Rattle.std.specs.Prelude.{◌≡◌, [], OnOk};
     ghost use Rattle.hsms_endpoint.specs.PrimaryCounts.{name_of, times, once_more};
 
-    /// Never.
+    /// Creates empty counts.
     pub fn new(alloc: Global) -> Self
         ensures { result ≡ [] }
     {
@@ -41,7 +41,7 @@ impl Asked {
         }
     }
 
-    /// How often it was asked about messages of this stream and function.
+    /// Returns the number of messages of this stream and function.
     pub fn times(&self, stream: u8, function: u8) -> u64
         ensures { result ≡ times (name_of stream function) self.now }
     {
@@ -51,7 +51,7 @@ impl Asked {
             .unwrap_or(0)
     }
 
-    /// It was asked about one more.
+    /// Counts one more message of this stream and function.
     pub fn count(&mut self, stream: u8, function: u8) -> Result<(), AllocError>
         ensures { OnOk result (self.new ≡ once_more (name_of stream function) self.old) }
     {
@@ -61,7 +61,7 @@ impl Asked {
     }
 }
 
-/// A stream and a function as one number.
+/// Returns a stream and a function as one number.
 fn name(stream: u8, function: u8) -> u16
     ensures { result ≡ name_of stream function }
 {

@@ -1,4 +1,4 @@
-//! What an end sends at once after a received frame.
+//! The messages that an endpoint sends at once after a received frame.
 
 ghost use Rattle.std.specs.Prelude.{◌≡◌, ◌<◌, ◌==◌, ◌%◌, ◌&&◌, [], true, OnOk, IfOk, option_map};
 ghost use Rattle.std.specs.List.{AllByRecursion};
@@ -20,14 +20,14 @@ use secs_item::Item;
 use std::alloc::{AllocError, Global};
 
 impl State {
-    /// Whether the session is selected.
+    /// Returns whether the session is selected.
     pub fn is_selected(&self) -> bool
         ensures { result ≡ is_selected_phase self.now.tracker.phase }
     {
         matches!(self.tracker.phase(), Phase::Selected)
     }
 
-    /// Whether S9F11 is to tell of a message that is too long and has this header.
+    /// Returns whether S9F11 is due for a message that is too long and has this header.
     pub fn is_warned(&self, header: Header) -> bool
         ensures { result ≡ (is_selected_phase self.now.tracker.phase && (header.stype == 0) && (header.ptype == 0) && (header.session == self.now.settings.device)) }
     {
@@ -37,7 +37,7 @@ impl State {
             && header.session == self.settings.device()
     }
 
-    /// The message of stream 9 that tells of the header at fault.
+    /// Returns the message of stream 9 that reports the header in error.
     fn warning_frame(&self, function: u8, header: Header, number: u32) -> Result<Frame, AllocError>
         ensures exact { IfOk result (λ frame. frame ≡ warning self.now.settings function header number) }
         ensures octets { IfOk result (λ frame. AllByRecursion (λ n. n < 256) (header_octets header)) }
@@ -50,7 +50,7 @@ impl State {
         })
     }
 
-    /// Tells of an error by stream 9, if the end is equipment.
+    /// Reports an error by stream 9 if the endpoint is equipment.
     pub fn warn(
         &mut self,
         entries: &mut Vec<Entry>,
@@ -72,7 +72,7 @@ impl State {
         }
     }
 
-    /// Refuses a message by a Reject.
+    /// Rejects a message by Reject.req.
     pub fn reject(
         &mut self,
         entries: &mut Vec<Entry>,
@@ -86,7 +86,7 @@ impl State {
         self.log(entries, Event::Sent(frame))
     }
 
-    /// SxF0, which aborts a primary.
+    /// Returns the SxF0 that aborts a primary.
     fn abort_frame(&self, header: Header) -> Frame
         ensures { result ≡ abort_of self.now.settings header }
     {
@@ -95,7 +95,7 @@ impl State {
         bare(self.alloc, header)
     }
 
-    /// The reply to a primary with an item, or SxF0 where there is none.
+    /// Returns the reply to a primary with this item, or SxF0 if no such reply is possible.
     fn reply_frame(&self, header: Header, item: Option<&Item>) -> Result<Frame, AllocError>
         requires { IsWithinLimits self.now.settings }
         ensures exact { IfOk result (λ frame. frame ≡ reply_of self.now.settings header (option_map (λ i. view i.now) item.entry)) }
@@ -113,7 +113,7 @@ impl State {
         Ok(Frame { header, text })
     }
 
-    /// Replies to a primary, if it asks for a reply: by the answer's item, or else by SxF0.
+    /// Replies to a primary if it requests a reply: with the item of the answer, otherwise with SxF0.
     fn reply(
         &mut self,
         entries: &mut Vec<Entry>,
@@ -133,7 +133,7 @@ impl State {
         self.log(entries, Event::Sent(frame))
     }
 
-    /// Sends what the desk's answer to a taken primary asks for: the word of an error, and the reply.
+    /// Sends what the handler's answer to an accepted primary requires: the error report, and the reply.
     pub fn answer_primary(
         &mut self,
         entries: &mut Vec<Entry>,

@@ -1,4 +1,4 @@
-//! What received octets lead to.
+//! Processing of received bytes.
 
 ghost use Rattle.std.specs.Prelude.{◌≡◌, ◌++◌, true, OnOk};
 ghost use Rattle.hsms_frame.specs.Framing.{FramesAs};
@@ -17,7 +17,7 @@ use hsms_machine::{Cause, Entry, EntryRef, Mark, Rule};
 use std::alloc::AllocError;
 
 impl State {
-    /// Adds octets to the pending ones.
+    /// Appends bytes to the pending ones.
     fn take_in(&mut self, octets: &[u8]) -> Result<(), AllocError>
         ensures { OnOk result (self.new ≡ after_octets self.old octets.now) }
     {
@@ -30,7 +30,7 @@ impl State {
         }
     }
 
-    /// Octets came: they are added to the pending ones, and the messages at their front are received.
+    /// Appends received bytes to the pending ones, and receives the complete messages at their start.
     pub fn process_input<D: TurnDesk>(
         &mut self,
         desk: &D,
@@ -44,7 +44,8 @@ impl State {
         self.receive_all(desk, entries)
     }
 
-    /// Receives the messages at the front of the pending octets, one after the other, while the connection is up.
+    /// Receives the complete messages at the start of the pending bytes, one after the other, while the connection is
+    /// up.
     pub fn receive_all<D: TurnDesk>(
         &mut self,
         desk: &D,
@@ -67,7 +68,7 @@ impl State {
         Ok(())
     }
 
-    /// Takes the message at the front off the pending octets.
+    /// Removes the first message from the pending bytes.
     fn next_message(&mut self) -> Result<Option<Frame>, FrameFault>
         ensures front { FramesAs self.old.framer.max self.old.framer.pending result self.new.framer.pending }
         ensures off { self.new ≡ record self.old { framer = record self.old.framer { pending = self.new.framer.pending } } }
@@ -75,7 +76,7 @@ impl State {
         self.framer.next()
     }
 
-    /// The first rule that a received frame would break as a taken one.
+    /// Returns the first rule that a received frame would break if it were accepted.
     fn judge(&self, frame: &Frame) -> Option<Rule>
         requires sound { IsSound self.now }
         requires up { is_connection_up self.now.tracker.phase ≡ true }
@@ -87,7 +88,7 @@ impl State {
         self.tracker.check_ref(&taken)
     }
 
-    /// Logs a message that was taken off the front as taken or discarded, and reacts to it.
+    /// Logs a received message as accepted or discarded, and reacts to it.
     fn handle<D: TurnDesk>(
         &mut self,
         desk: &D,
@@ -104,7 +105,7 @@ impl State {
         }
     }
 
-    /// Cuts the connection, since a message is too long. Equipment may tell of it before.
+    /// Cuts the connection because a message is too long. Equipment may report it first.
     fn cut_too_long(&mut self, entries: &mut Vec<Entry>, header: Header) -> Result<(), AllocError>
         requires sound { IsSound self.old }
         requires up { is_connection_up self.old.tracker.phase ≡ true }

@@ -1,4 +1,4 @@
-//! Messages that are sent.
+//! Messages to send.
 
 ghost use Rattle.std.specs.Prelude.{◌≡◌, ◌<◌, ◌+◌, ◌≤◌, length, Some, None, [], ◌∷◌, option_map, OnOk, IfOk, IfSome};
 ghost use Rattle.secs_item.specs.Item.{view};
@@ -18,7 +18,7 @@ use secs_text::Message;
 use std::alloc::{AllocError, Global};
 
 impl State {
-    /// The first fault for which a message isn't sent, but for a text that is too long.
+    /// Returns the first error that prevents a message from being sent, except for a text that is too long.
     pub fn hindrance(&self, message: &Message) -> Option<EndFault>
         ensures { result ≡ hindrance_of self.now (content message.now) }
     {
@@ -46,7 +46,7 @@ impl State {
         }
     }
 
-    /// The text of an item, where it is within the depth and the greatest size of a frame.
+    /// Returns the text of an item if it is within the depth and the maximum frame size.
     pub fn fitting_text(&self, item: Option<&Item>) -> Result<Option<Vec<u8>>, AllocError>
         ensures value { IfOk result (λ text. option_map (λ octets. octets.items) text ≡ fitting_text_of self.now.settings (option_map (λ i. view i.now) item.entry)) }
         ensures encoded_bytes { IfOk result (λ text. IfSome text (λ octets. IsText self.now.settings.depth octets.items)) }
@@ -88,7 +88,7 @@ impl State {
     }
 }
 
-/// The text of an item, or of none, where it has one.
+/// Returns the text of an item, or of no item. Returns `None` if the item has no encoding.
 fn text_of(alloc: Global, item: Option<&Item>) -> Result<Option<Vec<u8>>, AllocError>
     ensures value { IfOk result (λ text. option_map (λ octets. octets.items) text ≡ text_of_item (option_map (λ i. view i.now) item.entry)) }
     ensures encoded_bytes { IfOk result (λ text. IfSome text (λ octets. IsSpelt (option_map (λ i. view i.now) item.entry) octets.items)) }

@@ -1,4 +1,4 @@
-//! The state of an end.
+//! The state of an endpoint.
 
 ghost use Rattle.std.specs.Prelude.{◌≡◌};
 ghost use Rattle.hsms_endpoint.specs.Frame.{bare as bare_frame};
@@ -9,24 +9,24 @@ use hsms_frame::{Frame, Framer, Header, linktest_req, select_req, separate as se
 use hsms_machine::{Cause, Entry, Event, Phase, Settings, Side, Tracker};
 use std::alloc::{AllocError, Global};
 
-/// The state of an end, without its desk.
+/// The state of an endpoint, without its message handler.
 #[derive(Drop)]
 pub struct State {
-    /// What it takes memory from.
+    /// The allocator.
     pub alloc: Global,
     /// The settings of its session.
     pub settings: Settings,
-    /// What its log shows.
+    /// The session state that its log shows.
     pub tracker: Tracker,
-    /// The octets that came and belong to no message that was taken off.
+    /// The received bytes that belong to no complete message yet.
     pub framer: Framer,
-    /// Its moment, in milliseconds.
+    /// Its current time, in milliseconds.
     pub moment: u64,
-    /// The number from which own system bytes are tried.
+    /// The first value that is tried for own system bytes.
     pub next: u32,
-    /// The moment at which an octet came last, in milliseconds.
+    /// The time of the last received byte, in milliseconds.
     pub reception: u64,
-    /// How often the desk was asked about messages of each stream and function.
+    /// The number of messages of each stream and function that were passed to the handler.
     pub asked: Asked,
 }
 
@@ -43,7 +43,7 @@ impl State {
     ghost use Rattle.hsms_endpoint.specs.ActionSteps.{IsValidEvent, HasLogged, HasAsked};
     ghost use Rattle.hsms_endpoint.specs.SystemBytes.{IsFirstFree};
 
-    /// Logs an event at the end's moment.
+    /// Logs an event at the endpoint's current time.
     pub fn log(&mut self, entries: &mut Vec<Entry>, event: Event) -> Result<(), AllocError>
         requires { IsValidEvent self.old event }
         ensures { OnOk result (HasLogged self.old entries.old.items event self.new entries.new.items) }
@@ -57,7 +57,7 @@ impl State {
         Ok(())
     }
 
-    /// Logs a frame that is sent with the first free number.
+    /// Logs a frame that is sent with the first free system bytes.
     pub fn send_numbered(
         &mut self,
         entries: &mut Vec<Entry>,
@@ -73,14 +73,14 @@ impl State {
         Ok(())
     }
 
-    /// Whether the connection is up.
+    /// Returns whether the connection is up.
     pub fn is_up(&self) -> bool
         ensures { result ≡ is_connection_up self.now.tracker.phase }
     {
         matches!(self.tracker.phase(), Phase::NotSelected | Phase::Selected)
     }
 
-    /// Refuses a call that needs a connection, where the end is spent or it isn't up.
+    /// Returns an error for a call that needs a connection if the endpoint is spent or the connection is not up.
     pub fn ready(&self, spent: bool) -> Result<(), EndFault>
         ensures fresh { OnOk result (spent ≡ false) }
         ensures up { OnOk result (is_connection_up self.now.tracker.phase ≡ true) }
@@ -95,7 +95,7 @@ impl State {
         }
     }
 
-    /// Logs that the connection came up. An active end then asks for a session.
+    /// Logs that the connection was established. An active endpoint then sends Select.req.
     pub fn start(&mut self, entries: &mut Vec<Entry>, now: u64) -> Result<(), AllocError>
         requires sound { IsSound self.old }
         requires before { is_before self.old.tracker.phase ≡ true }
@@ -112,7 +112,7 @@ impl State {
         }
     }
 
-    /// Asks whether the other end is still there.
+    /// Sends Linktest.req to check that the peer is still there.
     pub fn test_link(&mut self, entries: &mut Vec<Entry>) -> Result<(), AllocError>
         requires sound { IsSound self.old }
         requires up { is_connection_up self.old.tracker.phase ≡ true }
@@ -143,7 +143,7 @@ impl State {
         self.log(entries, Event::Down)
     }
 
-    /// The first number from the next one on that no open own transaction has.
+    /// Returns the first system bytes, from `next` on, that no open own transaction has.
     pub fn free_number(&self) -> u32
         requires { own_open_of self.now.tracker ≤ 64 }
         ensures { IsFirstFree self.now.tracker self.now.next result }
@@ -158,7 +158,7 @@ impl State {
     }
 }
 
-/// The frame of a header, with no text.
+/// Returns a frame with this header and no text.
 pub fn bare(alloc: Global, header: Header) -> Frame
     ensures { result ≡ bare_frame header }
 {

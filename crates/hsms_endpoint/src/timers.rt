@@ -1,4 +1,4 @@
-//! When a timer runs out and what is logged then, and when the link is to be tested.
+//! Expiry of timers, the entries logged for it, and the time of the next link test.
 
 ghost use Rattle.std.specs.Prelude.{◌≡◌, true, false, OnOk, IfOk};
 ghost use Rattle.hsms_machine.specs.declared.entry.Event.TheVariants.{Down};
@@ -15,16 +15,16 @@ use hsms_machine::{Cause, Entry, Event, Rule, earlier};
 use std::alloc::AllocError;
 
 impl State {
-    /// The least moment at which a timer runs out while the connection is up. Moments past
-    /// 18,446,744,073,709,551,615 are left out.
+    /// Returns the earliest time at which a timer expires while the connection is up. Times past
+    /// 18,446,744,073,709,551,615 are skipped.
     pub fn next_due(&self) -> Option<u64>
         ensures { result ≡ next_due (known self.now) }
     {
         earlier(self.tracker.next_due(), self.octets_due())
     }
 
-    /// The moment from which on the link is to be tested, after so many milliseconds in which nothing came and nothing was
-    /// logged. None where it can't be tested, or that moment is past 18,446,744,073,709,551,615.
+    /// Returns the time from which the link is to be tested: after `pause` milliseconds in which nothing was received
+    /// or logged. Returns `None` if it cannot be tested, or if that time is past 18,446,744,073,709,551,615.
     pub fn test_due(&self, pause: u64) -> Option<u64>
         ensures { result ≡ test_due pause (known self.now) }
     {
@@ -38,7 +38,7 @@ impl State {
         }
     }
 
-    /// When pending octets have waited for T8.
+    /// Returns the time at which pending bytes have waited for T8.
     fn octets_due(&self) -> Option<u64>
         ensures { result ≡ octets_due (known self.now) }
     {
@@ -49,7 +49,7 @@ impl State {
         }
     }
 
-    /// Logs the expiry of each own primary that is overdue, in order of opening. Gives their headers.
+    /// Logs the expiry of each overdue own primary, in order of opening. Returns their headers.
     pub fn expire_data(&mut self, entries: &mut Vec<Entry>) -> Result<Vec<Header>, AllocError>
         requires { IsLate self.old }
         ensures expired { IfOk result (λ headers. HasExpired self.old entries.old.items self.new entries.new.items headers.items) }
@@ -66,7 +66,7 @@ impl State {
         Ok(expired)
     }
 
-    /// The first rule that a `down` would break at the end's moment.
+    /// Returns the first rule that a `down` would break at the endpoint's current time.
     fn check_down_event(&self) -> Option<Rule>
         ensures { IsBrokenAt self.now.tracker (record { time = self.now.moment; event = Down }) result }
     {
@@ -77,7 +77,7 @@ impl State {
         self.tracker.check(&down)
     }
 
-    /// Why the connection is to be cut, where no own primary is overdue.
+    /// Returns the cause for which the connection is to be cut, if no own primary is overdue.
     fn overdue_cause(&self) -> Option<Cause>
         requires late { IsLate self.now }
         requires in_time { is_data_overdue self.now ≡ false }
@@ -89,7 +89,7 @@ impl State {
         {
             Some(Cause::T6)
         } else if self.check_down_event().is_some() {
-            // T7 is overdue: nothing else could keep the tracker from taking a `down` without a cut.
+            // T7 is overdue: nothing else could keep the tracker from accepting a `down` without a cut.
             Some(Cause::T7)
         } else if self.is_t8_overdue() {
             Some(Cause::T8)
@@ -105,8 +105,8 @@ impl State {
             && u64::from(self.settings.t8()) < self.moment.saturating_sub(self.reception)
     }
 
-    /// The end's moment becomes this one, unless it is later already, and what is overdue is logged: own primaries, then a
-    /// cut, or where there is none the warnings of equipment.
+    /// Advances the endpoint's time to `now`, unless it is already later, and logs what is overdue: own primaries,
+    /// then a cut. Without a cut, equipment then sends its warnings.
     pub fn tick(&mut self, entries: &mut Vec<Entry>, now: u64) -> Result<(), AllocError>
         requires sound { IsSound self.old }
         requires up { is_connection_up self.old.tracker.phase ≡ true }
@@ -121,7 +121,7 @@ impl State {
         }
     }
 
-    /// Tells of each primary that expired, if the end is equipment.
+    /// Reports each expired primary if the endpoint is equipment.
     fn warn_expired(
         &mut self,
         entries: &mut Vec<Entry>,
@@ -137,7 +137,7 @@ impl State {
         Ok(())
     }
 
-    /// The header of a transaction that was opened longer ago than the limit.
+    /// Returns the header of a transaction that was opened longer ago than the limit.
     fn overdue(&self, oldest: Option<(u64, Header)>, limit: u32) -> Option<Header>
         ensures { result ≡ overdue_of limit self.now.moment oldest }
     {

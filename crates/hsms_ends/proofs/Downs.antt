@@ -1,4 +1,4 @@
--- A run whose connection went down ends with `down`.
+-- A run whose connection was closed ends with `down`.
 use Rattle.std.proofs.Common.{◌≡◌, ◌<◌, ◌+◌, ◌-◌, List, [], ◌∷◌, length, true, false, inl, inr, refl, sym, ap, ◌∙◌, arith}
 use Rattle.std.proofs.lemmas.Bool.{cases_Bool}
 use Rattle.hsms_machine.specs.declared.entry.Entry.{Entry}
@@ -21,7 +21,7 @@ gone_by phase.Selected e = absurd (let d : false ≡ true = e in cc)
 gone_by phase.Over e = absurd (let d : false ≡ true = e in cc)
 gone_by phase.Gone e = refl
 
--- in a run of some entry the connection is down exactly where the last one is `down`
+-- In a run that is not empty the connection is down if and only if the last entry is `down`.
 gone_is_some : (s : Parameters) (log : List Entry) → IsRun s log → 0 < length log → is_gone (phase_of log) ≡ ends_down log
 gone_is_some s log run some =
     let last : (length log - 1) + 1 ≡ length log = omega arith in
@@ -37,7 +37,7 @@ gone_is_some s log run some =
       ]
     ]
 
--- in a run the connection is down exactly where the last entry is `down`
+-- In a run the connection is down if and only if the last entry is `down`.
 pub gone_is_last : (s : Parameters) (log : List Entry) → IsRun s log → is_gone (phase_of log) ≡ ends_down log
 unfolding connection_of
 gone_is_last s [] run = refl
@@ -46,7 +46,7 @@ gone_is_last s (x ∷ xs) run = gone_is_some s (x ∷ xs) run (omega arith)
 pub gone_of_view : (s : Parameters) (log : List Entry) (view : View) → HasView s log view → is_gone view.phase ≡ ends_down log
 gone_of_view s log view h = ap (λ (v : View). is_gone v.phase) (sym h.seen) ∙ gone_is_last s log h.run
 
--- after `down` the connection is down
+-- After `down` the connection is down.
 pub gone_after : (p : Phase) → is_gone (phase_after p Down) ≡ true
 gone_after phase.Before = refl
 gone_after phase.NotSelected = refl

@@ -40,7 +40,7 @@ holds_then (Err serve.Link) log mid log' head lines rest h k = (k.0, log_then lo
 holds_then (Err serve.Log) log mid log' head lines rest h k = stops_then log mid log' head lines rest h k
 holds_then (Err serve.Memory) log mid log' head lines rest h k = (k.0, log_then log mid log' head lines h k.1)
 
--- what of `lost` is in the log, and that it's the last call where something isn't
+-- The entries of `lost` that are in the log. If some are missing, `lost` is the last call.
 pub record LossLogged (fault : ServeFault) (log log' : SinkState) (loss : Option (List Entry)) (before : List Entry) : Type 0 where
   pub whole : List Entry
   pub rest : List Entry
@@ -85,7 +85,7 @@ link_failed serve.Log end loss log log' h = tt
 link_failed serve.Turns end loss log log' h = absurd h
 link_failed serve.Memory end loss log log' h = tt
 
--- a story with what `lost` gave
+-- A story extended by the entries of `lost`.
 pub record Extended {D : Type 0} (answers : D → ℕ → Content → Answered) (pause : Option ℕ) (new : EndOf D) (script : List Step) (story : Story) (loss : Option (List Entry)) (end : EndOf D) : Type 0 where
   pub longer : Story
   pub is_story : IsStory answers pause new script longer end
@@ -96,7 +96,7 @@ pub record Extended {D : Type 0} (answers : D → ℕ → Content → Answered) 
   pub started : IsStarted longer
 
 module _ {D : Type 0} (answers : D → ℕ → Content → Answered) where
-  -- a loss that is accepted ends the connection
+  -- A loss that is accepted ends the connection.
   pub lost_finishes : (end end' : EndOf D) (entries : List Entry) → Accepts answers end lost entries end' → has_gone end' ≡ true
   lost_finishes end end' entries h = ap (λ (k : EndState). is_gone k.view.phase) h.turn.2.1 ∙ gone_after end.known.view.phase
 

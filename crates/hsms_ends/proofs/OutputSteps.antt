@@ -1,4 +1,4 @@
--- What was put out in stretches that follow one another.
+-- Output in consecutive sequences of calls.
 use Rattle.std.proofs.Common.{◌≡◌, ◌<◌, ◌≤◌, ◌+◌, ◌++◌, ℕ, suc, List, [], get_or, take-append-drop, ◌∷◌, length, take, drop, Some, Ok, Err, inl, inr, refl, sym, ap, ◌∙◌, subst, arith, append_assoc, length-append}
 use Rattle.std.specs.Prelude.{Option, Result}
 use Rattle.std.proofs.lemmas.List.{take-append-le, append-nil, take_all}
@@ -69,7 +69,7 @@ stops_along log log' a b rest e h = let P : List ℕ → Type 0 = λ l. LogStops
 pub grows_along : (log log' : SinkState) (a b : List ℕ) → a ≡ b → LogGrows log log' a → LogGrows log log' b
 grows_along log log' a b e h = let P : List ℕ → Type 0 = λ l. LogGrows log log' l in subst P e h
 
--- the lines of all of a were logged, and then the log failed in one of b
+-- The lines of all entries in `a` were logged, and then the log failed in an entry of `b`.
 pub fails_in_then : (log mid log' : SinkState) (a b : List Entry) → LogGrows log mid (log_lines a) → LogFailsIn mid log' b → LogFailsIn log log' (a ++ b)
 fails_in_then log mid log' a b h k = record {
   whole = a ++ k.whole;
@@ -87,7 +87,7 @@ fails_in_more log log' a b h = record {
   stops = stops_more log log' (log_lines h.whole) h.rest b h.stops;
 }
 
--- the log failed in the line of an entry
+-- The log failed in the line of an entry.
 pub fails_in_one : (log log' : SinkState) (entry : Entry) → LogFails log log' (entry_line entry ++ 10 ∷ []) → LogFailsIn log log' (entry ∷ [])
 fails_in_one log log' entry h = record { whole = []; rest = entry ∷ []; parted = refl; stops = h }
 
@@ -117,7 +117,7 @@ delivered_then (Err Memory) link mid link' a b h k = takes_all_then link mid lin
 
 -- ---- the log and the link
 
--- nothing is left of entries that were put out
+-- No entry remains of those that were written.
 pub whole_is : (entries whole rest : List Entry) → entries ≡ whole ++ rest → rest ≡ [] → whole ≡ entries
 whole_is entries whole rest parted none = sym (append-nil whole) ∙ ap (λ l. whole ++ l) (sym none) ∙ sym parted
 
@@ -138,7 +138,7 @@ puts_then r log mid log' link between link' a b h k first second =
       processes_input = processes_then link between link' h k first.processes_input second.processes_input;
     }
 
--- nothing was put out
+-- Nothing was written.
 unfoldable pub puts_nothing : (log : SinkState) (link : LinkState) → PutsOut (Ok tt) log log link link [] processed_nothing
 puts_nothing log link = record {
   whole = [];
@@ -149,7 +149,7 @@ puts_nothing log link = record {
   processes_input = processes_nothing link;
 }
 
--- something was heard, and nothing was put out
+-- The link gave input, and nothing was written.
 unfoldable pub puts_processed : (log : SinkState) (link link' : LinkState) (h : LinkInput) → ProcessesInput link link' h → Stays link.taken link'.taken → link'.failures ≡ link.failures
     → PutsOut (Ok tt) log log link link' [] h
 puts_processed log link link' h reception stays same = record {
@@ -161,7 +161,7 @@ puts_processed log link link' h reception stays same = record {
   processes_input = reception;
 }
 
--- nothing was put out, and the link failed
+-- Nothing was written, and the link failed.
 unfoldable pub puts_fault : (log : SinkState) (link link' : LinkState) → ProcessesInput link link' processed_nothing → Stays link.taken link'.taken → link'.failures ≡ next_count link.failures
     → PutsOut (Err Link) log log link link' [] processed_nothing
 puts_fault log link link' reception stays failed = record {
@@ -173,12 +173,12 @@ puts_fault log link link' reception stays failed = record {
   processes_input = reception;
 }
 
--- memory was wanting
+-- An allocation failed.
 unfoldable pub puts_memory : (log log' : SinkState) (link link' : LinkState) (a : List Entry) (h : LinkInput) → PutsOut (Ok tt) log log' link link' a h → PutsOut (Err Memory) log log' link link' a h
 puts_memory log log' link link' a h puts =
     record { whole = puts.whole; rest = puts.rest; parted = puts.parted; logged = puts.logged; sent = puts.sent; processes_input = puts.processes_input }
 
--- the log failed, and of more nothing was put out
+-- The log failed, and nothing of the further entries was written.
 pub puts_log_more : (log log' : SinkState) (link link' : LinkState) (a b : List Entry) (h : LinkInput) → PutsOut (Err Log) log log' link link' a h → PutsOut (Err Log) log log' link link' (a ++ b) h
 puts_log_more log log' link link' a b h puts = record {
   whole = puts.whole;
@@ -189,7 +189,7 @@ puts_log_more log log' link link' a b h puts = record {
   processes_input = puts.processes_input;
 }
 
--- an entry was logged, and what it sent was taken
+-- An entry was logged, and its bytes were sent.
 pub puts_whole : (entry : Entry) (log log' : SinkState) (link link' : LinkState) → LogGrows log log' (entry_line entry ++ 10 ∷ []) → SendsAll link link' (sent_of entry.event) (Ok tt)
     → PutsOut (Ok tt) log log' link link' (entry ∷ []) processed_nothing
 puts_whole entry log log' link link' grows sends =
@@ -203,7 +203,7 @@ puts_whole entry log log' link link' grows sends =
       processes_input = sends.0;
     }
 
--- an entry was logged, and the link failed
+-- An entry was logged, and the link failed.
 pub puts_no_link : (entry : Entry) (log log' : SinkState) (link link' : LinkState) → LogGrows log log' (entry_line entry ++ 10 ∷ []) → ProcessesInput link link' processed_nothing × GrowsByFront link.taken link'.taken (sent_of entry.event) × (link'.failures ≡ next_count link.failures)
     → PutsOut (Err Link) log log' link link' (entry ∷ []) processed_nothing
 puts_no_link entry log log' link link' grows sends =
@@ -217,7 +217,7 @@ puts_no_link entry log log' link link' grows sends =
       processes_input = sends.0;
     }
 
--- the log failed in an entry's line, and nothing was sent
+-- The log failed in an entry's line, and nothing was sent.
 pub puts_no_log : (entry : Entry) (log log' : SinkState) (link : LinkState) → LogFails log log' (entry_line entry ++ 10 ∷ []) → PutsOut (Err Log) log log' link link (entry ∷ []) processed_nothing
 puts_no_log entry log log' link fails = record {
   whole = [];
@@ -228,7 +228,7 @@ puts_no_log entry log log' link fails = record {
   processes_input = processes_nothing link;
 }
 
--- the link failed, and of the rest what could be logged was logged
+-- The link failed, and the rest was logged, up to an error of the log.
 pub puts_rest : (r : Result (Unit {0}) Stop) (log mid log' : SinkState) (link link' : LinkState) (a b : List Entry) (h : LinkInput) → PutsOut (Err Link) log mid link link' a h → RestLogged r mid log' b
     → PutsOut r log log' link link' (a ++ b) h
 unfolding fails_in_then
@@ -291,11 +291,11 @@ logs_along r log log' a b e h = let P : List Entry → Type 0 = λ l. LogsAll r 
 pub logs_none : (log : SinkState) → LogsAll (Ok tt) log log []
 logs_none log = (grows_none log.written, refl)
 
--- an entry was logged, or the log failed in its line
+-- An entry was logged, or the log failed in its line.
 pub logs_one : (entry : Entry) (log log' : SinkState) → LogGrows log log' (entry_line entry ++ 10 ∷ []) → LogsAll (Ok tt) log log' (entry ∷ [])
 logs_one entry log log' grows = grows_along log log' (entry_line entry ++ 10 ∷ []) (log_lines (entry ∷ [])) (sym (append-nil (entry_line entry ++ 10 ∷ []))) grows
 
--- a moment was asked for, and then entries were put out
+-- The clock was read, and then entries were written.
 unfoldable pub asked_then : (r : Result (Unit {0}) Stop) (log log' : SinkState) (link mid link' : LinkState) (now : ℕ) (a : List Entry) → Asks link mid now → PutsOut r log log' mid link' a processed_nothing → PutsOut r log log' link link' a (processed_time now)
 asked_then r log log' link mid link' now a asks puts =
     puts_then r log log log' link mid link' [] a (processed_time now) processed_nothing (puts_processed log link mid (processed_time now) asks.reception asks.taken asks.failures) puts

@@ -56,7 +56,7 @@ system_length system = refl
 hex_fits : (most : ℕ) (frame : Frame) → 10 + length frame.text ≤ most → length (encode_lower (message_octets frame)) ≤ 2 * most
 hex_fits most frame sized = omega (arith, length-encode_with lower_digits (message_octets frame), message_length frame, sized)
 
--- a mark, and a message
+-- A mark, and a message.
 marked : (mark : List ℕ) (most : ℕ) (frame : Frame) → length mark ≡ 2 → 10 + length frame.text ≤ most → length (mark ++ encode_lower (message_octets frame)) ≤ 2 * most + 20
 marked mark most frame two sized = omega (arith, length-append mark (encode_lower (message_octets frame)), two, hex_fits most frame sized)
 
@@ -67,7 +67,7 @@ system_fits most system mark three =
 short : (most size : ℕ) (text : List ℕ) → length text ≡ size → size ≤ 20 → length text ≤ 2 * most + 20
 short most size text is small = omega (arith, is, small)
 
--- what is written of an event
+-- The text of an event.
 event_fits : (most : ℕ) (event : Event) → IsSized most event → IsDiscardSized most event → length (event_text event) ≤ 2 * most + 20
 event_fits most Up sized discard = short most 2 (codes "up") refl (omega arith)
 event_fits most (Sent frame) sized discard = marked (codes "> ") most frame refl sized
@@ -96,9 +96,9 @@ text_of_run s log within run discards range =
     log_written s log within
     (λ k d lt. (range k d lt, line_fits s.max (get_or log k d) (range k d lt).time (event_fits s.max (get_or log k d).event (sized k d lt) (discards k d lt))))
 
--- ---- the end that a story leads to
+-- ---- the endpoint to which a story leads
 
--- the entries so far are a run with the end's view, and what was discarded is within the limit
+-- The entries so far are a run with the endpoint's view, and the discarded messages are within the limit.
 pub record IsReached {D : Type 0} (s : Parameters) (before : List Entry) (end : EndOf D) : Type 0 where
   pub seen : HasView s before end.known.view
   pub settings : end.known.settings ≡ s
@@ -155,7 +155,7 @@ module _ {D : Type 0} (answers : D → ℕ → Content → Answered) (pause : Op
   held_by (Err serve.Log) story log log' s whole rest parted h = stops_by story log log' s whole rest parted h
   held_by (Err serve.Memory) story log log' s whole rest parted h = h
 
-  -- the settings' line was written
+  -- The settings line was written.
   pub opened : (end_new : EndOf D) (desk : D) (s : Parameters) (first_system : ℕ) (script : List Step) (limit : ℕ) (result : Result ServedScript ServeFault) (log mid log' : SinkState) (link link' : LinkState)
       → IsWithinLimits s → LogGrows log mid (settings_line s ++ 10 ∷ [])
       → ServesEnd answers pause (record { desk = desk; known = initial_state s first_system }) end_new script limit result mid log' link link'
@@ -187,7 +187,7 @@ module _ {D : Type 0} (answers : D → ℕ → Content → Answered) (pause : Op
         lost_is = r.lost_is;
       }
 
-  -- the settings' line was refused
+  -- The settings line was not written.
   pub unopened : (desk : D) (s : Parameters) (first_system : ℕ) (script : List Step) (limit : ℕ) (log log' : SinkState) (link : LinkState)
       → IsWithinLimits s → LogFails log log' (settings_line s ++ 10 ∷ [])
       → ServesTesting answers pause (record { desk = desk; known = initial_state s first_system }) script limit (Err serve.Log) log log' link link
@@ -213,9 +213,9 @@ module _ {D : Type 0} (answers : D → ℕ → Content → Answered) (pause : Op
     lost_is = λ h. absurd (let e : false ≡ true = h in cc);
   }
 
-  -- ---- the audit passes it
+  -- ---- the log passes the audit
 
-  -- the text of all entries was logged
+  -- The text of all entries was logged.
   grown : (result : Result ServedScript ServeFault) (story : Story) (log log' : SinkState) (s : Parameters) (whole rest : List Entry) → is_log_fault result ≡ false → LogHolds result story log log' s whole rest
       → (rest ≡ []) × LogGrows log log' (written_log s whole)
   grown (Ok served) story log log' s whole rest fine h = h

@@ -13,7 +13,7 @@ same_at [] i d e h = absurd (omega arith)
 same_at (x ∷ xs) zero d e h = refl
 same_at (x ∷ xs) (suc i) d e h = same_at xs i d e (omega arith)
 
--- what was given where the octets of a wait are used up
+-- The bytes returned once a wait is used up.
 pub given_next : {V : Type 0} (items : V → List ℕ) (waits : List (Option V)) (place within : ℕ) (wait : Option V)
     → place < length waits → wait ≡ get_or waits place wait → within ≡ length (wait_octets items wait)
     → given_of items waits (place + 1) 0 ≡ given_of items waits place within
@@ -27,7 +27,7 @@ given_next {V} items waits place within wait below is used =
     ∙ ap (flat_map f) more ∙ flat_map-append f (take place waits) (wait ∷ [])
     ∙ ap (λ l. flat_map f (take place waits) ++ l) (append-nil (f wait) ∙ sym (take_all within (f wait) (omega arith)) ∙ ap (λ o. take within (f o)) (sym here))
 
--- what was given where n octets more were
+-- The bytes returned after n more.
 pub given_more : {V : Type 0} (items : V → List ℕ) (waits : List (Option V)) (place within n : ℕ)
     → given_of items waits place (within + n) ≡ given_of items waits place within ++ take n (drop within (wait_octets items (get_or waits place None)))
 given_more items waits place within n =
@@ -35,7 +35,7 @@ given_more items waits place within n =
     let front = flat_map (wait_octets items) (take place waits) in
     ap (λ l. front ++ l) (take-add within n os) ∙ sym (append_assoc front (take within os) (take n (drop within os)))
 
--- nothing comes in a wait
+-- Nothing is received in a wait.
 pub none_at : {V : Type 0} (waits : List (Option V)) (place : ℕ) (wait : Option V) → place < length waits → wait ≡ get_or waits place wait → wait ≡ None → None ≡ get_or waits place None
 none_at waits place wait below is none = sym none ∙ is ∙ same_at waits place wait None below
 
@@ -63,7 +63,7 @@ left_here {V} items waits place within wait below is =
     let here : drop place waits ≡ wait ∷ drop (place + 1) waits = drop_more waits place wait below ∙ ap (λ o. o ∷ drop (place + 1) waits) (sym is) in
     ap (λ l. without_front within (map (option_map items) l)) here
 
--- a wait whose octets are used up is passed over
+-- A wait whose bytes are used up is skipped.
 pub left_next : {V : Type 0} (items : V → List ℕ) (waits : List (Option V)) (place within : ℕ) (wait : Option V)
     → place < length waits → wait ≡ get_or waits place wait → wait ≢ None → within ≡ length (wait_octets items wait)
     → pass_over (left_of items waits (place + 1) 0) ≡ pass_over (left_of items waits place within)
@@ -74,7 +74,7 @@ left_next {V} items waits place within (Some octets) below is some used =
     ∙ ap (λ l. pass_over (Some l ∷ rest)) (sym (drop_all within (items octets) (omega (arith, used))))
     ∙ ap pass_over (sym (left_here items waits place within (Some octets) below is))
 
--- no wait is left
+-- No wait remains.
 pub answers_closed : {V : Type 0} (items : V → List ℕ) (waits : List (Option V)) (place within piece : ℕ) (into : List ℕ) (left : List (Option (List ℕ)))
     → length waits ≤ place → pass_over (left_of items waits place within) ≡ left
     → Answers left piece into Closed (left_of items waits place within)
@@ -83,7 +83,7 @@ answers_closed items waits place within piece into left over is =
     let P : List (Option (List ℕ)) → Type 0 = λ l. Answers l piece into Closed (left_of items waits place within) in
     subst P (ap pass_over (sym none) ∙ is) (refl, none)
 
--- nothing comes in the next wait
+-- Nothing is received in the next wait.
 pub answers_quiet : {V : Type 0} (items : V → List ℕ) (waits : List (Option V)) (place within piece : ℕ) (into : List ℕ) (left : List (Option (List ℕ)))
     → place < length waits → None ≡ get_or waits place None → pass_over (left_of items waits place within) ≡ left
     → Answers left piece into Quiet (left_of items waits (place + 1) 0)
@@ -110,7 +110,7 @@ gives_some {V} items waits place within n piece into left (Some octets) below he
     let P : List (Option (List ℕ)) → Type 0 = λ l. Answers l piece into (Octets n) (left_of items waits place (within + n)) in
     subst P there (n, count, refl, same, after)
 
--- the octets there are those of the wait that was looked at
+-- The bytes there are those of the wait that was read.
 pub octets_at : {V : Type 0} (items : V → List ℕ) (waits : List (Option V)) (place : ℕ) (wait : Option V) (octets : V)
     → place < length waits → wait ≡ get_or waits place wait → wait ≡ Some octets → items octets ≡ wait_octets items (get_or waits place None)
 octets_at {V} items waits place wait octets below here is = ap (λ (w : Option V). wait_octets items w) (sym is ∙ here ∙ same_at waits place wait None below)

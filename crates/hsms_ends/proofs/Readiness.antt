@@ -1,4 +1,4 @@
--- An end whose log is a run stays one, and what it sends fits a length field.
+-- An endpoint whose log is a run keeps this property, and its messages fit a length field.
 use Rattle.std.proofs.Common.{◌≡◌, ◌≤◌, ◌<◌, ◌+◌, ◌++◌, ℕ, List, [], ◌∷◌, length, get_or, None, Ok, false, inl, inr, refl, sym, ap, subst, arith, length-append}
 use Rattle.std.specs.Prelude.{Option}
 use Rattle.std.proofs.lemmas.Bool.{cases_lt}
@@ -32,7 +32,7 @@ use Rattle.hsms_ends.proofs.TurnPrefixes.{along_turn}
 
 -- ---- the rules of a run
 
--- header and text of a sent or taken message are within the limit
+-- Header and text of a sent or accepted message are within the limit.
 abbrev pub IsSized : ℕ → Event → Type 0
 IsSized max Up = Unit {0}
 IsSized max (Sent frame) = 10 + length frame.text ≤ max
@@ -54,7 +54,7 @@ sized_event facts s (T3 system) no_more = tt
 sized_event facts s (Cut cause) no_more = tt
 sized_event facts s Down no_more = tt
 
--- what no rule forbids breaks neither the second nor the seventh
+-- An event that no rule forbids breaks neither the second nor the seventh.
 pub no_rule : (P : Rule → Type 0) → IsFirst P all_rules None → (P rule.NotUp → ⊥) × (P rule.TooLong → ⊥)
 no_rule P h =
     let after_seven : List Rule = rule.PType ∷ rule.SType ∷ rule.ControlText ∷ rule.Session ∷ rule.Direction ∷ (transaction_rules ++ (rule.NoCause ∷ [])) in
@@ -85,7 +85,7 @@ fits_event max (Cut cause) small sized = tt
 fits_event max Down small sized = tt
 
 module _ {D : Type 0} (answers : D → ℕ → Content → Answered) where
-  -- the messages that an end sends fit
+  -- The messages that an endpoint sends fit.
   pub fits : (end end' : EndOf D) (input : Input) (entries : List Entry) → IsReady end → Accepts answers end input entries end' → AllFitLengthField entries
   fits end end' input entries ready accepts =
       let s = end.known.view.settings in
@@ -99,7 +99,7 @@ module _ {D : Type 0} (answers : D → ℕ → Content → Answered) where
       fits_event s.max (get_or entries i first).event ready.within.greatest_max
       (subst P (get_or-append-add ready.log entries i first) sized))
 
-  -- the end is ready again
+  -- The endpoint is ready again.
   pub ready_after : (end end' : EndOf D) (input : Input) (entries : List Entry) → IsReady end → Accepts answers end input entries end' → IsReady end'
   ready_after end end' input entries ready accepts =
       let seen = accepts.run ready.log ready.seen in
@@ -107,14 +107,14 @@ module _ {D : Type 0} (answers : D → ℕ → Content → Answered) where
       let P : Parameters → Type 0 = λ s. HasView s (ready.log ++ entries) end'.known.view in
       record { within = subst IsWithinLimits same ready.within; log = ready.log ++ entries; seen = subst P same seen }
 
-  -- it is ready after an input that nothing cut short
+  -- The endpoint is ready after an input that nothing cut short.
   pub ready_handed : (end new : EndOf D) (input : Input) (log log' : SinkState) (link link' : LinkState) (reception : LinkInput) (n n' : ℕ) → IsReady end
       → Handed answers (Ok tt) end input new log log' link link' reception n n' → IsReady new
   ready_handed end new input log log' link link' reception n n' ready h =
       let P : EndOf D → Type 0 = λ e. IsReady e in
       subst P (sym h.leads) (ready_after end h.end' input h.entries ready h.takes)
 
-  -- and after a whole turn
+  -- The endpoint is ready after a complete turn.
   pub ready_turned : (pause : Option ℕ) (end new : EndOf D) (script script' : List Step) (log log' : SinkState) (link link' : LinkState) (n n' refused refused' : ℕ) → IsReady end
       → TurnTaken answers pause (Ok tt) end new script script' log log' link link' n n' refused refused' → IsReady new
   ready_turned pause end new script script' log log' link link' n n' refused refused' ready t =
@@ -122,6 +122,6 @@ module _ {D : Type 0} (answers : D → ℕ → Content → Answered) where
       let Q : List Entry → EndOf D → Type 0 = λ before e. IsReady e in
       subst P (sym t.leads) (along_turn answers pause Q (λ before e input entries e' p h. ready_after e e' input entries p h) false [] end script t.turn t.end' script' ready t.is_turn)
 
--- a new end is ready
+-- A new endpoint is ready.
 pub ready_new : {D : Type 0} (desk : D) (s : Parameters) (first_system since : ℕ) → IsWithinLimits s → IsReady (record { desk = desk; known = initial_since s first_system since })
 ready_new desk s first_system since limits = record { within = limits; log = []; seen = record { run = empty_run s; seen = refl } }

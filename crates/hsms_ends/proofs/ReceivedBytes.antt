@@ -1,4 +1,4 @@
--- What was heard of a link and sent over it in stretches of calls that follow one another.
+-- The input from a link and the bytes sent over it, in consecutive sequences of calls.
 use Rattle.std.proofs.Common.{◌≡◌, ◌<◌, ◌+◌, ◌++◌, ℕ, List, [], length, take, Some, None, refl, sym, ap, ◌∙◌, subst, arith, append_assoc, length-append}
 use Rattle.std.specs.Prelude.{Option, Bool}
 use Rattle.std.proofs.lemmas.List.{take-append-le, append-nil}

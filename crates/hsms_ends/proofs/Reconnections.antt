@@ -1,4 +1,4 @@
--- Connection after connection: their entries are one run, and its text is logged.
+-- Consecutive connections: their entries are one run, and its text is logged.
 use Rattle.std.proofs.Common.{◌≡◌, ◌≤◌, ◌<◌, ◌+◌, ◌-◌, ◌++◌, ◌==◌, ℕ, suc, max, List, [], ◌∷◌, length, cond, Ok, Err, true, false, inl, inr, refl, sym, ap, ◌∙◌, subst, arith, append_assoc, length-append}
 use Rattle.std.specs.Prelude.{Bool, ◌&&◌, Option, Result, All}
 use Rattle.std.proofs.lemmas.Bool.Decides.{nat_tests}
@@ -61,7 +61,7 @@ down_all : (a b : List Entry) → ends_down b ≡ true → EndsDown (a ++ b)
 down_all a b e some =
     (length (a ++ b) - 1, omega arith, ap (λ (x : Entry). is_down x.event) (last_of a b (some_down b e)) ∙ e)
 
--- ---- one more
+-- ---- one more connection
 
 entries_snoc : (cs : List Connection) (c : Connection) → entries_all (cs ++ c ∷ []) ≡ entries_all cs ++ entries_of c.story
 entries_snoc [] c = append-nil (entries_of c.story)
@@ -79,7 +79,7 @@ complete_snoc : (cs : List Connection) (c : Connection) → are_complete (cs ++ 
 complete_snoc [] c = and_true (completes c.result)
 complete_snoc (x ∷ cs) c = ap (λ b. completes x.result && b) (complete_snoc cs c) ∙ and_assoc (completes x.result) (are_complete cs) (completes c.result)
 
--- the time from which the next end goes on
+-- The time from which the next endpoint continues.
 abbrev pub since_at : ℕ → List Connection → ℕ
 since_at since [] = since
 since_at since (c ∷ cs) = since_at (last_time (entries_of c.story)) cs
@@ -112,7 +112,7 @@ module _ {D : Type 0} (answers : D → ℕ → Content → Answered) (pause : Op
   processes_all script later since (c ∷ cs) link link' h =
       processes_then link h.0 link' (reception_of c.story) (processed_all cs) h.3.processes_input (processes_all later later (last_time (entries_of c.story)) cs h.0 link' h.4)
 
-  -- the first entry isn't earlier than the moment before which the end doesn't start
+  -- The first entry is not earlier than the earliest time at which the endpoint starts.
   first_time : (since : ℕ) (script : List Step) (story : Story) (last : EndOf D) → IsStory answers pause (new_end desk s first_system since) script story last → 0 < length (entries_of story) → since ≤ (entry_at (entries_of story) 0).time
   first_time since script Unopened last is some = absurd (let l : 0 < 0 = some in omega arith)
   first_time since script (Unstarted now) last is some = absurd (let l : 0 < 0 = some in omega arith)
@@ -123,7 +123,7 @@ module _ {D : Type 0} (answers : D → ℕ → Content → Answered) (pause : Op
       opening_first s.link from started begun.known (entries_turns turns ++ (entries_cut cut ++ lost_entries loss)) is.4.turn in
       omega (arith, e)
 
-  -- what was served so far, from whose last entry the next end goes on
+  -- The connections served so far. The next endpoint continues from their last entry.
   pub record SoFar (script later : List Step) (since done : ℕ) (complete : Bool) (log log' : SinkState) (link link' : LinkState) : Type 0 where
     pub connections : List Connection
     pub are : AreServed answers pause desk s first_system limit script later 0 connections link link'
@@ -321,12 +321,12 @@ module _ {D : Type 0} (answers : D → ℕ → Content → Answered) (pause : Op
       answer = (far.counted, far.down, far.complete_is);
     }
 
-  -- the link went over to another connection
+  -- The link moved to another connection.
   pub gone_over : (script later : List Step) (since done : ℕ) (complete : Bool) (log log' : SinkState) (link between link' : LinkState) → link' ≡ between → SoFar script later since done complete log log' link between → SoFar script later since done complete log log' link link'
   gone_over script later since done complete log log' link between link' e far =
       let P : LinkState → Type 0 = λ l. SoFar script later since done complete log log' link l in subst P (sym e) far
 
-  -- ---- the settings' line
+  -- ---- the settings line
 
   grows_text : (log mid log' : SinkState) (entries : List Entry) → LogGrows log mid (settings_line s ++ 10 ∷ []) → LogGrows mid log' (log_lines entries) → LogGrows log log' (written_log s entries)
   grows_text log mid log' entries h k =
@@ -370,7 +370,7 @@ module _ {D : Type 0} (answers : D → ℕ → Content → Answered) (pause : Op
     processes_input = processes_nothing link;
   }
 
--- ---- the audit passes it
+-- ---- the log passes the audit
 
 grown_again : (result : Result ServedAgain ServeFault) (log log' : SinkState) (s : Parameters) (cs : List Connection) → is_log_fault_again result ≡ false → LogHoldsAgain result log log' s cs → LogGrows log log' (written_log s (entries_all cs))
 grown_again (Ok n) log log' s cs fine h = h

@@ -25,7 +25,7 @@ started_by (Err Link) now entries turns cut = tt
 started_by (Err Log) now entries turns cut = tt
 started_by (Err Memory) now entries turns cut = tt
 
--- where no turn was cut short, the call before is the last
+-- If no turn was cut short, the call before is the last one.
 ending_cut : (cut : Option Turn) (before more : List Entry) → IsEnding more (last_cut cut []) → IsEnding more (last_cut cut before)
 ending_cut None before more h = ending_none before more h
 ending_cut (Some turn) before more h = h
@@ -35,7 +35,7 @@ stored a b k none h =
     let e : b ≡ min (a + k) (2 ^ 64 - 1) = h (omega (arith, none)) in
     omega (arith, e, none)
 
--- ---- how many steps are left
+-- ---- the number of remaining steps
 
 module _ {D : Type 0} (answers : D → ℕ → Content → Answered) (pause : Option ℕ) where
   steps_in_rest : (is_cut : Bool) (end : EndOf D) (script : List Step) (rest : Rest) (end' : EndOf D) (script' : List Step) → Continues answers pause is_cut end script rest end' script'

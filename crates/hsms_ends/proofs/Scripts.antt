@@ -10,11 +10,11 @@ use Rattle.hsms_ends.specs.Link.{LinkState, Recalls, Asks, Sends, Waits, RisesBy
 use Rattle.hsms_ends.specs.ScriptedLink.{moment_at, moments_of, got_octets, closes_after, is_closed}
 use Rattle.hsms_ends.proofs.ReceivedBytes.{grows_none, recalls_none, rises_none}
 
--- what a link in memory tells
+-- The record of a link in memory.
 abbrev link_output : Option (List ℕ) → List ℕ → List ℕ → ℕ → ℕ → Bool → ℕ → LinkState
 link_output m g t w n c f = record { moments = m; given = Some g; taken = Some t; waits = w; closes = n; closed = c; failures = f }
 
--- the moments that its clock tells
+-- The times that its clock records.
 abbrev clock : List ℕ → ℕ → Bool → Option (List ℕ)
 clock moments k emits = if emits then Some (moments_of moments k) else None
 
@@ -32,7 +32,7 @@ recalls_next moments k k' true true before next after link_state =
     let same : moments_of moments k' ≡ after = cc in
     (moments_of moments k, refl, sym same ∙ ap (λ n. moments_of moments n) (next refl))
 
--- the clock was asked
+-- The clock was read.
 pub asked : (moments : List ℕ) (k k' : ℕ) (g t : List ℕ) (w n : ℕ) (c : Bool) (f now : ℕ) (link_state : LinkState)
     → link_output (clock moments k (nat_lt k (2 ^ 64 - 1))) g t w n c f ≡ link_state → k' ≡ next_count k → now ≡ moment_at moments k
     → Asks link_state (link_output (clock moments k' (nat_lt k' (2 ^ 64 - 1))) g t w n c f) now
@@ -49,7 +49,7 @@ asked moments k k' g t w n c f now link_state is counted answer =
       failures = refl;
     })
 
--- a call that failed
+-- A call that failed.
 pub failed : (m : Option (List ℕ)) (g t t' : List ℕ) (w n : ℕ) (c : Bool) (f f' : ℕ) (octets : List ℕ) (link_state : LinkState)
     → link_output m g t w n c f ≡ link_state → Stays (Some t) (Some t') → f' ≡ next_count f
     → Sends link_state (link_output m g t' w n c f') octets (Err (record {}))
@@ -57,7 +57,7 @@ failed m g t t' w n c f f' octets link_state is stays counted =
     let P : LinkState → Type 0 = λ x. Sends x (link_output m g t' w n c f') octets (Err (record {})) in
     subst P is (record { moments = recalls_none m; given = grows_none (Some g); waits = rises_none w; closes = rises_none n; closed = refl }, stays, counted)
 
--- a send that took some
+-- A send that wrote some bytes.
 pub took : (m : Option (List ℕ)) (g t t' : List ℕ) (w n : ℕ) (c : Bool) (f count : ℕ) (octets : List ℕ) (link_state : LinkState)
     → link_output m g t w n c f ≡ link_state → Grows (Some t) (Some t') (take count octets)
     → Sends link_state (link_output m g t' w n c f) octets (Ok count)
@@ -68,7 +68,7 @@ took m g t t' w n c f count octets link_state is grown =
 gives : (g g' more : List ℕ) → g' ≡ g ++ more → Grows (Some g) (Some g') more
 gives g g' more grown octets link_state = let same : g ≡ octets = cc in ap Some (grown ∙ ap (λ l. l ++ more) same)
 
--- a wait that was answered
+-- A wait that returned.
 pub waited : (m : Option (List ℕ)) (g g' t : List ℕ) (w w' n n' : ℕ) (c c' : Bool) (f : ℕ) (into : List ℕ) (got : Got) (link_state : LinkState)
     → link_output m g t w n c f ≡ link_state → IsGot into got → g' ≡ g ++ got_octets into got → w' ≡ next_count w → n' ≡ closes_after got n → c' ≡ is_closed got
     → Waits link_state (link_output m g' t w' n' c' f) into (Ok got)

@@ -1,4 +1,4 @@
--- Octets that are sent in parts.
+-- Bytes that are sent in parts.
 use Rattle.std.proofs.Common.{◌≡◌, ◌++◌, ℕ, List, Ok, Err, ap, ◌∙◌, subst}
 use Rattle.std.specs.Prelude.{Result}
 use Rattle.hsms_frame.specs.CallCounts.{next_count}

@@ -1,4 +1,4 @@
--- What an end discards is within its limit.
+-- The messages that an endpoint discards are within its limit.
 use Rattle.std.proofs.Common.{◌≡◌, ◌≤◌, ◌+◌, ◌++◌, ℕ, List, [], ◌∷◌, length, Some, None, true, false, refl, sym, ap, ◌∙◌, subst, max}
 use Rattle.std.specs.Prelude.{Option, All}
 use Rattle.std.proofs.lemmas.List.Elements.{All-append, All-cons, All-nil}
@@ -20,7 +20,7 @@ use Rattle.hsms_endpoint.specs.Reaction.{reaction}
 use Rattle.hsms_endpoint.specs.Turn.{is_pending, opening_of, cut_by, expiries, received_as, with_asked, Handles, warns_too_long, Rests, is_down, waits, too_short, too_long, Receives, with_octets, InputEvent, start, tick, bytes, send, linktest, separate, lost, Turn}
 use Rattle.hsms_endpoint.proofs.KeptRequests.{receipts, reaction_none, opening_none, expiries_none, too_long_none}
 
--- header and text of a discarded message are within the limit
+-- Header and text of a discarded message are within the limit.
 abbrev pub IsDiscardSized : ℕ → Event → Type 0
 IsDiscardSized most Up = Unit {0}
 IsDiscardSized most (Sent frame) = Unit {0}
@@ -30,7 +30,7 @@ IsDiscardSized most (T3 system) = Unit {0}
 IsDiscardSized most (Cut cause) = Unit {0}
 IsDiscardSized most Down = Unit {0}
 
--- so of each entry, and the settings stay
+-- This holds for each entry, and the settings do not change.
 pub record Keeps (end : EndState) (entries : List Entry) (end' : EndState) : Type 0 where
   pub settings : end'.settings ≡ end.settings
   pub sized : All (λ (entry : Entry). IsDiscardSized end.settings.max entry.event) entries
@@ -72,7 +72,7 @@ two_kept end mid end' entries first later is one rest =
     let R : Parameters → Type 0 = λ s. All (λ (e : Entry). IsDiscardSized s.max e.event) later in
     record { settings = rest.settings ∙ one.settings; sized = subst P (sym is) (All-append Q first later one.sized (subst R one.settings rest.sized)) }
 
--- acts that receive nothing discard nothing
+-- Acts that receive nothing discard nothing.
 acts_kept : (acts : List Act) (end : EndState) (entries : List Entry) (end' : EndState) → receipts acts ≡ [] → Acts end acts entries end' → Keeps end entries end'
 acts_kept [] end entries end' none h = none_kept end entries end' h.0 h.1
 acts_kept (logs event ∷ acts) end entries end' none h =

@@ -1,4 +1,4 @@
--- Turns in a row.
+-- Consecutive turns.
 use Rattle.std.proofs.Common.{◌≡◌, ◌+◌, ◌++◌, ℕ, List, [], ◌∷◌, length, Some, None, false, refl, sym, ap, ◌∙◌, subst, arith, append_assoc, zero-add, add_assoc, length-append, ◌<◌, drop, get_or, add-one, drop-cons}
 use Rattle.std.specs.Prelude.{Bool, Option}
 use Rattle.std.proofs.lemmas.List.{append-nil}

@@ -1,4 +1,4 @@
--- What holds of a new end, and goes on from each accepted input to the next, holds at the end of a story.
+-- A fact that holds for a new endpoint and is preserved by each accepted input holds at the end of a story.
 use Rattle.std.proofs.Common.{◌≡◌, ◌++◌, ℕ, List, [], ◌∷◌, Some, None, true, false, sym, subst, append_assoc}
 use Rattle.std.specs.Prelude.{Bool, Option}
 use Rattle.std.proofs.lemmas.List.{append-nil}
@@ -12,7 +12,7 @@ use Rattle.hsms_ends.specs.declared.step.Step.{Step}
 use Rattle.hsms_ends.specs.Turns.{After, Refused, Ticked, Done, Rest, Nothing, Stepped, Declined, Tested, Quiet, Octets, Closed, Turn, Untaken, Ticks, Heeds, Continues, IsTurn, AreTurns, entries_after, entries_rest, entries_turn, entries_turns, input_of}
 use Rattle.hsms_ends.specs.Serving.{Story, Unopened, Unstarted, Started, IsCutTurn, IsLost, IsStory, entries_cut, lost_entries, entries_of}
 
--- the fact goes on over each accepted input
+-- Holds if each accepted input preserves the fact.
 abbrev pub ContinuesWith : {D : Type 0} → (D → ℕ → Content → Answered) → (List Entry → EndOf D → Type 0) → Type 0
 ContinuesWith {D} answers P =
     (before : List Entry) (end : EndOf D) (input : Input) (entries : List Entry) (end' : EndOf D)

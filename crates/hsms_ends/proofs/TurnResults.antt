@@ -1,4 +1,4 @@
--- What came of entries, in stretches that follow one another.
+-- The results of entries, in consecutive sequences of calls.
 use Rattle.std.proofs.Common.{◌≡◌, ◌+◌, ◌++◌, ◌^◌, ◌-◌, min, ℕ, List, [], ◌∷◌, length, Ok, Err, refl, sym, ap, ◌∙◌, subst, arith, length-append}
 use Rattle.std.specs.Prelude.{Result}
 use Rattle.std.proofs.lemmas.List.{append-nil}
@@ -13,7 +13,7 @@ use Rattle.hsms_ends.specs.Output.{IsEnding}
 use Rattle.hsms_ends.specs.ServeSteps.{Counts, Yields}
 use Rattle.hsms_ends.proofs.OutputSteps.{puts_then, puts_processed, puts_nothing, puts_memory, asked_then}
 
--- what ends nothing is nothing, so it ends anything
+-- A suffix of the empty list is empty, so it is a suffix of any list.
 pub ending_none : (entries rest : List Entry) → IsEnding rest [] → IsEnding rest entries
 ending_none entries [] h = (entries, sym (append-nil entries))
 ending_none entries (entry ∷ rest) h = absurd (let e : 0 ≡ length h.0 + length (entry ∷ rest) = ap length h.1 ∙ length-append h.0 (entry ∷ rest) in omega (arith, e))
@@ -46,17 +46,17 @@ pub yields_along : (r : Result (Unit {0}) Stop) (log log' : SinkState) (link lin
     → Yields r log log' link link' n n' a last h → Yields r log log' link link' n n' b last h
 yields_along r log log' link link' n n' a b last h e yields = let P : List Entry → Type 0 = λ l. Yields r log log' link link' n n' l last h in subst P e yields
 
--- all entries are those of one call
+-- All entries are those of one call.
 pub yields_as : (r : Result (Unit {0}) Stop) (log log' : SinkState) (link link' : LinkState) (n n' : ℕ) (a b : List Entry) (h : LinkInput) → a ≡ b → Yields r log log' link link' n n' a a h → Yields r log log' link link' n n' b b h
 yields_as r log log' link link' n n' a b h e yields = let P : List Entry → Type 0 = λ l. Yields r log log' link link' n n' l l h in subst P e yields
 
--- the last call is another one
+-- The last call is another one.
 pub yields_last : (r : Result (Unit {0}) Stop) (log log' : SinkState) (link link' : LinkState) (n n' : ℕ) (a last other : List Entry) (h : LinkInput)
     → ((rest : List Entry) → IsEnding rest last → IsEnding rest other) → Yields r log log' link link' n n' a last h → Yields r log log' link link' n n' a other h
 yields_last r log log' link link' n n' a last other h move yields =
     record { puts = yields.puts; ends = move yields.puts.rest yields.ends; counted = yields.counted; in_range = yields.in_range }
 
--- no entry is left, so any call may be the last
+-- No entry remains, so any call may be the last one.
 pub yields_whole : (log log' : SinkState) (link link' : LinkState) (n n' : ℕ) (a last other : List Entry) (h : LinkInput) → Yields (Ok tt) log log' link link' n n' a last h → Yields (Ok tt) log log' link link' n n' a other h
 yields_whole log log' link link' n n' a last other h yields = record {
   puts = yields.puts;
@@ -65,15 +65,15 @@ yields_whole log log' link link' n n' a last other h yields = record {
   in_range = yields.in_range;
 }
 
--- nothing was given by the last call, so the one before may stand for it
+-- The last call returned nothing, so the call before may replace it.
 pub yields_before : (r : Result (Unit {0}) Stop) (log log' : SinkState) (link link' : LinkState) (n n' : ℕ) (a before : List Entry) (h : LinkInput) → Yields r log log' link link' n n' a [] h → Yields r log log' link link' n n' a before h
 yields_before r log log' link link' n n' a before h yields = yields_last r log log' link link' n n' a [] before h (ending_none before) yields
 
--- memory was wanting before anything was given
+-- An allocation failed before any entry was returned.
 pub yields_left : (log log' : SinkState) (link link' : LinkState) (n n' : ℕ) (a : List Entry) (h : LinkInput) → a ≡ [] → Yields (Err Memory) log log' link link' n n' a a h → Yields (Err Memory) log log' link link' n n' [] [] h
 yields_left log log' link link' n n' a h none yields = yields_as (Err Memory) log log' link link' n n' a [] h none yields
 
--- something was heard, and nothing was put out
+-- The link gave input, and nothing was written.
 pub yields_processed : (log : SinkState) (link link' : LinkState) (n : ℕ) (h : LinkInput) → ProcessesInput link link' h → Stays link.taken link'.taken → link'.failures ≡ link.failures
     → Yields (Ok tt) log log link link' n n [] [] h
 unfolding puts_processed
@@ -83,13 +83,13 @@ pub yields_nothing : (log : SinkState) (link : LinkState) (n : ℕ) → Yields (
 unfolding puts_nothing
 yields_nothing log link n = record { puts = puts_nothing log link; ends = ([], refl); counted = counts_none n; in_range = All-nil IsEntry }
 
--- memory was wanting
+-- An allocation failed.
 pub yields_memory : (log log' : SinkState) (link link' : LinkState) (n n' : ℕ) (a last : List Entry) (h : LinkInput) → Yields (Ok tt) log log' link link' n n' a last h → Yields (Err Memory) log log' link link' n n' a last h
 unfolding puts_memory
 yields_memory log log' link link' n n' a last h yields =
     record { puts = puts_memory log log' link link' a h yields.puts; ends = yields.ends; counted = yields.counted; in_range = yields.in_range }
 
--- a moment was asked for, and then entries were put out
+-- The clock was read, and then entries were written.
 pub yields_asked : (r : Result (Unit {0}) Stop) (log log' : SinkState) (link mid link' : LinkState) (n n' now : ℕ) (a last : List Entry) → Asks link mid now
     → Yields r log log' mid link' n n' a last processed_nothing → Yields r log log' link link' n n' a last (processed_time now)
 unfolding asked_then puts_then

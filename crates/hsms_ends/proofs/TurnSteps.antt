@@ -1,4 +1,4 @@
--- What the parts of a turn leave.
+-- The effects of the parts of a turn.
 use Rattle.std.proofs.Common.{◌≡◌, ◌≤◌, ◌<◌, ◌+◌, ◌++◌, ℕ, List, [], ◌∷◌, take, drop, Some, None, Ok, Err, true, false, inl, inr, refl, sym, ap, ◌∙◌, subst, arith}
 use Rattle.std.specs.Prelude.{Option, Result}
 use Rattle.std.proofs.lemmas.List.{append-nil}
@@ -35,7 +35,7 @@ leads_itself (Err Link) end = refl
 leads_itself (Err Log) end = tt
 leads_itself (Err Memory) end = tt
 
--- a fault other than want of memory is the one that is met, and changes nothing
+-- An error other than a failed allocation is the input's first one, and changes nothing.
 pub refused_by : {D : Type 0} (end new : EndOf D) (input : Input) (reason : EndFault) → (reason ≡ fault.Memory → ⊥) → Refuses end input reason new → Encounters end.known input (Some reason) × (new ≡ end)
 refused_by end new input fault.Memory other h = absurd (other refl)
 refused_by end new input fault.Spent other h = h
@@ -47,7 +47,7 @@ refused_by end new input fault.Full other h = h
 refused_by end new input fault.TooLong other h = h
 refused_by end new input fault.TooDeep other h = h
 
--- where nothing followed a tick, its entries are those of the last call
+-- If nothing followed a tick, its entries are those of the last call.
 ending_rest : (rest : Rest) (before more : List Entry) → IsEnding more (last_rest rest []) → IsEnding more (last_rest rest before)
 ending_rest Nothing before more h = ending_none before more h
 ending_rest (Stepped entries) before more h = h
@@ -64,7 +64,7 @@ module _ {D : Type 0} (answers : D → ℕ → Content → Answered) where
   takes_by (Err Log) end input entries end' h = h
   takes_by (Err Memory) end input entries end' h = inl h
 
-  -- the moment was asked for before the end was told
+  -- The clock was read before the call of the endpoint.
   pub handed_asked : (r : Result (Unit {0}) Stop) (end : EndOf D) (input : Input) (end' : EndOf D) (log log' : SinkState) (link mid link' : LinkState) (n n' now : ℕ)
       → Asks link mid now → Handed answers r end input end' log log' mid link' processed_nothing n n' → Handed answers r end input end' log log' link link' (processed_time now) n n'
   handed_asked r end input end' log log' link mid link' n n' now asks h = record {
@@ -75,7 +75,7 @@ module _ {D : Type 0} (answers : D → ℕ → Content → Answered) where
     yields = yields_asked r log log' link mid link' n n' now h.entries h.entries asks h.yields;
   }
 
-  -- the tick ended the connection
+  -- The tick ended the connection.
   pub followed_gone : (now : ℕ) (end : EndOf D) (input : Input) (mid : EndOf D) (log log' : SinkState) (link link' : LinkState) (n n' : ℕ)
       → Handed answers (Ok tt) end (tick now) mid log log' link link' (processed_time now) n n' → has_gone mid ≡ true
       → Followed answers (Ok tt) end input mid log log' link link' n n'
@@ -87,7 +87,7 @@ module _ {D : Type 0} (answers : D → ℕ → Content → Answered) where
     yields = h.yields;
   }
 
-  -- the tick was cut short
+  -- The tick was cut short.
   pub followed_cut : (stop : Stop) (now : ℕ) (end : EndOf D) (input : Input) (mid : EndOf D) (log log' : SinkState) (link link' : LinkState) (n n' : ℕ)
       → Handed answers (Err stop) end (tick now) mid log log' link link' (processed_time now) n n'
       → Followed answers (Err stop) end input mid log log' link link' n n'
@@ -107,7 +107,7 @@ module _ {D : Type 0} (answers : D → ℕ → Content → Answered) where
         }
       ]
 
-  -- the tick left the connection up, and the input followed
+  -- The tick left the connection up, and the input followed.
   followed_by : (r : Result (Unit {0}) Stop) (now : ℕ) (end : EndOf D) (input : Input) (mid new : EndOf D) (log between log' : SinkState) (link midway link' : LinkState) (n m n' : ℕ)
       → (h : Handed answers (Ok tt) end (tick now) mid log between link midway (processed_time now) n m) → has_gone mid ≡ false
       → (k : Handed answers r mid input new between log' midway link' processed_nothing m n') → Accepts answers mid input k.entries k.end'
@@ -149,7 +149,7 @@ module _ {D : Type 0} (answers : D → ℕ → Content → Answered) where
       ]
 
 module _ {D : Type 0} (answers : D → ℕ → Content → Answered) (pause : Option ℕ) where
-  -- the first tick ended the connection
+  -- The first tick ended the connection.
   pub continued_gone : (end : EndOf D) (script : List Step) (log : SinkState) (link : LinkState) (n refused : ℕ) → has_gone end ≡ true
       → Continued answers pause (Ok tt) end end script script log log link link n n refused refused
   continued_gone end script log link n refused gone = record {
@@ -161,7 +161,7 @@ module _ {D : Type 0} (answers : D → ℕ → Content → Answered) (pause : Op
     refusals = counts_none refused;
   }
 
-  -- memory was wanting for a step
+  -- An allocation failed in a step.
   pub continued_memory : (end new : EndOf D) (script : List Step) (log : SinkState) (link : LinkState) (n refused : ℕ)
       → Continued answers pause (Err Memory) end new script script log log link link n n refused refused
   continued_memory end new script log link n refused = record {
@@ -173,7 +173,7 @@ module _ {D : Type 0} (answers : D → ℕ → Content → Answered) (pause : Op
     refusals = counts_none refused;
   }
 
-  -- the wait failed
+  -- The wait failed.
   pub continued_fault : (end : EndOf D) (script : List Step) (log : SinkState) (link link' : LinkState) (n refused : ℕ)
       → ProcessesInput link link' processed_nothing → Stays link.taken link'.taken → link'.failures ≡ next_count link.failures
       → Continued answers pause (Err Link) end end script script log log link link' n n refused refused
@@ -192,7 +192,7 @@ module _ {D : Type 0} (answers : D → ℕ → Content → Answered) (pause : Op
     refusals = counts_none refused;
   }
 
-  -- the wait was answered
+  -- The wait returned.
   pub continued_got : (r : Result (Unit {0}) Stop) (into : List ℕ) (g : Got) (end end_new : EndOf D) (script : List Step) (log log' : SinkState) (link mid link' : LinkState) (n n' refused : ℕ)
       → ProcessesInput link mid (processed_got into g) → Stays link.taken mid.taken → mid.failures ≡ link.failures
       → Heeded answers r into g end end_new log log' mid link' n n' → MustWait pause end script script
@@ -236,7 +236,7 @@ module _ {D : Type 0} (answers : D → ℕ → Content → Answered) (pause : Op
     refusals = counts_none refused;
   }
 
-  -- the link was tested
+  -- The link was tested.
   pub continued_tested : (r : Result (Unit {0}) Stop) (end new : EndOf D) (script : List Step) (log log' : SinkState) (link link' : LinkState) (n n' refused : ℕ) → MustTest pause end script script
       → Handed answers r end linktest new log log' link link' processed_nothing n n' → Continued answers pause r end new script script log log' link link' n n' refused refused
   continued_tested (Ok u) end new script log log' link link' n n' refused must h = tested_by (Ok u) end new script log log' link link' n n' refused must h h.takes
@@ -255,7 +255,7 @@ module _ {D : Type 0} (answers : D → ℕ → Content → Answered) (pause : Op
         }
       ]
 
-  -- the tick, and the rest of the turn
+  -- The tick, and the rest of the turn.
   pub turn_whole : (r : Result (Unit {0}) Stop) (now : ℕ) (end mid new : EndOf D) (script script' : List Step) (log between log' : SinkState) (link midway link' : LinkState) (n m n' refused refused' : ℕ)
       → HasNotGone end → Handed answers (Ok tt) end (tick now) mid log between link midway (processed_time now) n m
       → Continued answers pause r mid new script script' between log' midway link' m n' refused refused'
@@ -272,7 +272,7 @@ module _ {D : Type 0} (answers : D → ℕ → Content → Answered) (pause : Op
         refusals = k.refusals;
       }
 
-  -- the tick was cut short after its entries
+  -- The turn was cut short after the entries of its tick.
   turn_ticked : (stop : Stop) (now : ℕ) (end mid : EndOf D) (script : List Step) (log log' : SinkState) (link link' : LinkState) (n n' refused : ℕ)
       → HasNotGone end → (h : Handed answers (Err stop) end (tick now) mid log log' link link' (processed_time now) n n') → Accepts answers end (tick now) h.entries h.end'
       → TurnTaken answers pause (Err stop) end mid script script log log' link link' n n' refused refused
@@ -303,7 +303,7 @@ module _ {D : Type 0} (answers : D → ℕ → Content → Answered) (pause : Op
         }
       ]
 
-  -- a step was taken
+  -- A step was taken.
   pub stepped : (r : Result (Unit {0}) Stop) (end new : EndOf D) (xs : List Step) (i : ℕ) (step : Step) (log log' : SinkState) (link link' : LinkState) (n n' refused : ℕ) (entries : List Entry)
       → HasNotGone end → is_step_due end (drop i xs) ≡ true → drop i xs ≡ step ∷ drop (i + 1) xs → Accepts answers end (input_of step) entries new
       → Yields r log log' link link' n n' entries entries processed_nothing
@@ -317,7 +317,7 @@ module _ {D : Type 0} (answers : D → ℕ → Content → Answered) (pause : Op
     refusals = counts_none refused;
   }
 
-  -- the end refused a step
+  -- The endpoint rejected a step.
   pub declined : (end new : EndOf D) (xs : List Step) (i : ℕ) (step : Step) (reason : EndFault) (log : SinkState) (link : LinkState) (n refused refused' : ℕ)
       → HasNotGone end → is_step_due end (drop i xs) ≡ true → drop i xs ≡ step ∷ drop (i + 1) xs → Encounters end.known (input_of step) (Some reason) → new ≡ end
       → Counts refused refused' 1
@@ -360,7 +360,7 @@ module _ {D : Type 0} (answers : D → ℕ → Content → Answered) (pause : Op
         refusals = subst R (sym (refused_snoc s.turns t.turn)) (counts_then refused between_refused refused' (refused_turns s.turns) (refused_turn t.turn) s.refusals t.refusals);
       }
 
-  -- all turns were taken, or the connection went down
+  -- All turns were taken, or the connection was closed.
   pub taken_whole : (limit : ℕ) (end new : EndOf D) (script script' : List Step) (log log' : SinkState) (link link' : LinkState) (n n' refused refused' done : ℕ)
       → TurnsSoFar answers pause end new script script' log log' link link' n n' refused refused' done → done ≤ limit → (has_gone new ≡ false → done ≡ limit)
       → TurnsTaken answers pause (Ok tt) limit end new script script' log log' link link' n n' refused refused'
@@ -383,7 +383,7 @@ module _ {D : Type 0} (answers : D → ℕ → Content → Answered) (pause : Op
         refusals = let e : refused_turns s.turns ≡ refused_turns s.turns + 0 = omega arith in subst R e s.refusals;
       }
 
-  -- a fault cut the last turn short
+  -- An error cut the last turn short.
   pub taken_cut : (stop : Stop) (limit : ℕ) (end mid new : EndOf D) (script left script' : List Step) (log between log' : SinkState) (link midway link' : LinkState) (n m n' refused between_refused refused' done : ℕ)
       → TurnsSoFar answers pause end mid script left log between link midway n m refused between_refused done → done < limit
       → TurnTaken answers pause (Err stop) mid new left script' between log' midway link' m n' between_refused refused'

@@ -1,4 +1,4 @@
--- What the parts of serving leave. Private functions alone speak of this.
+-- The effects of the parts of serving. Only private functions use this.
 use Rattle.std.specs.Prelude.{◌≡◌, ◌≤◌, ◌<◌, ◌+◌, ◌^◌, ◌++◌, ◌⊎◌, ℕ, Bool, true, false, List, [], length, take, Option, Some, None, Result, Ok, Err, All}
 use Rattle.secs_text.specs.Content.{Content}
 use Rattle.hsms_frame.specs.Io.{SinkState}
@@ -25,7 +25,7 @@ use Rattle.hsms_ends.specs.Output.{PutsOut, LogGrows, LogStops, LogFailsIn, IsEn
 use Rattle.hsms_ends.specs.Turns.{After, Rest, Turn, has_gone, Heeds, Continues, IsTurn, AreTurns, entries_after, entries_rest, entries_turn, entries_turns, last_after, last_rest, last_turn, moment_after, processed_rest, processed_turn, processed_turns, refused_rest, refused_turn, refused_turns}
 use Rattle.hsms_ends.specs.Serving.{Story, IsStory, IsLost, IsWhole, IsStarted, has_lost, entries_of, reception_of, refused_of, turns_begun, whole_turns, entries_cut, processed_cut, refused_cut, begun_cut, lost_entries, last_cut, last_call, count_after, steps_of, LeavesSteps, MayHaveFailed, LinkTook, failures_after}
 
--- what a call tells the end
+-- The input that a call passes to the endpoint.
 abbrev pub called : Call → Input
 called (Start now) = start now
 called (Tick now) = tick now
@@ -33,44 +33,45 @@ called (Bytes octets) = bytes octets.now
 called Linktest = linktest
 called Lost = lost
 
--- some log is a run that has the end's view, and the settings are within their limits
+-- Holds if some log is a run that has the endpoint's view, and the settings are within their limits.
 pub record IsReady {D : Type 0} (end : EndOf D) : Type 0 where
   pub within : IsWithinLimits end.known.view.settings
   pub log : List Entry
   pub seen : HasView end.known.view.settings log end.known.view
 
--- a fault cuts the turn short
+-- True if an error cuts the turn short.
 abbrev pub is_cut : Result (Unit {0}) Stop → Bool
 is_cut (Ok _) = false
 is_cut (Err _) = true
 
--- the end that the inputs lead to is the end that there is; after the log's fault or want of memory it isn't used
+-- Holds if the inputs lead to the actual endpoint. After an error of the log or a failed allocation the endpoint is
+-- not used.
 abbrev pub Leads : {D : Type 0} → Result (Unit {0}) Stop → EndOf D → EndOf D → Type 0
 Leads (Ok _) end' end_new = end_new ≡ end'
 Leads (Err Link) end' end_new = end_new ≡ end'
 Leads (Err Log) end' end_new = Unit {0}
 Leads (Err Memory) end' end_new = Unit {0}
 
--- the input gave these entries; at want of memory it may be left out
+-- Holds if the input gave these entries. After a failed allocation the input may be left out.
 abbrev pub Takes : {D : Type 0} → (D → ℕ → Content → Answered) → Result (Unit {0}) Stop → EndOf D → Input → List Entry → EndOf D → Type 0
 Takes answers (Ok _) end input entries end' = Accepts answers end input entries end'
 Takes answers (Err Link) end input entries end' = Accepts answers end input entries end'
 Takes answers (Err Log) end input entries end' = Accepts answers end input entries end'
 Takes answers (Err Memory) end input entries end' = Accepts answers end input entries end' ⊎ ((entries ≡ []) × (end' ≡ end))
 
--- a stored count rose by so many
+-- Holds if a stored count rose by this number.
 abbrev pub Counts : ℕ → ℕ → ℕ → Type 0
 Counts count count' more = count < 2 ^ 64 → count' ≡ count_after count more
 
--- what came of entries: they were put out, this was heard of the link, and they were counted; what was left by the log's
--- fault was given by the last call
+-- The result of entries: they were written, the link gave this input, and they were counted. The entries that an
+-- error of the log left out were returned by the last call.
 pub record Yields (result : Result (Unit {0}) Stop) (log log' : SinkState) (link link' : LinkState) (count count' : ℕ) (entries last : List Entry) (reception : LinkInput) : Type 0 where
   pub puts : PutsOut result log log' link link' entries reception
   pub ends : IsEnding puts.rest last
   pub counted : Counts count count' (length entries)
   pub in_range : All IsEntry entries
 
--- the end was told one input
+-- Holds if the endpoint received one input.
 pub record Handed {D : Type 0} (answers : D → ℕ → Content → Answered) (result : Result (Unit {0}) Stop) (end : EndOf D) (input : Input) (end_new : EndOf D) (log log' : SinkState) (link link' : LinkState) (reception : LinkInput) (count count' : ℕ) : Type 0 where
   pub entries : List Entry
   pub end' : EndOf D
@@ -78,7 +79,7 @@ pub record Handed {D : Type 0} (answers : D → ℕ → Content → Answered) (r
   pub leads : Leads result end' end_new
   pub yields : Yields result log log' link link' count count' entries entries reception
 
--- the end was told of an answer of `wait`, which calls for this input
+-- Holds if the endpoint received a result of `wait`, which leads to this input.
 pub record Followed {D : Type 0} (answers : D → ℕ → Content → Answered) (result : Result (Unit {0}) Stop) (end : EndOf D) (input : Input) (end_new : EndOf D) (log log' : SinkState) (link link' : LinkState) (count count' : ℕ) : Type 0 where
   pub after : After
   pub end' : EndOf D
@@ -86,7 +87,7 @@ pub record Followed {D : Type 0} (answers : D → ℕ → Content → Answered) 
   pub leads : Leads result end' end_new
   pub yields : Yields result log log' link link' count count' (entries_after after) (last_after after) (processed_time (moment_after after))
 
--- an answer of `wait` was heeded
+-- Holds if a result of `wait` was processed.
 abbrev pub Heeded : {D : Type 0} → (D → ℕ → Content → Answered) → Result (Unit {0}) Stop → List ℕ → Got → EndOf D → EndOf D → SinkState → SinkState → LinkState → LinkState → ℕ → ℕ → Type 0
 Heeded answers result into (Octets n) end end_new log log' link link' count count' =
     Followed answers result end (bytes (take n into)) end_new log log' link link' count count'
@@ -95,7 +96,7 @@ Heeded answers result into Quiet end end_new log log' link link' count count' =
 Heeded answers result into Closed end end_new log log' link link' count count' =
     Followed answers result end lost end_new log log' link link' count count'
 
--- the rest of a turn came to pass
+-- Holds if the rest of a turn took place.
 pub record Continued {D : Type 0} (answers : D → ℕ → Content → Answered) (pause : Option ℕ) (result : Result (Unit {0}) Stop) (end end_new : EndOf D) (script script' : List Step) (log log' : SinkState) (link link' : LinkState) (count count' refused refused' : ℕ) : Type 0 where
   pub rest : Rest
   pub end' : EndOf D
@@ -104,7 +105,7 @@ pub record Continued {D : Type 0} (answers : D → ℕ → Content → Answered)
   pub yields : Yields result log log' link link' count count' (entries_rest rest) (last_rest rest []) (processed_rest rest)
   pub refusals : Counts refused refused' (refused_rest rest)
 
--- a turn came to pass
+-- Holds if a turn took place.
 pub record TurnTaken {D : Type 0} (answers : D → ℕ → Content → Answered) (pause : Option ℕ) (result : Result (Unit {0}) Stop) (end end_new : EndOf D) (script script' : List Step) (log log' : SinkState) (link link' : LinkState) (count count' refused refused' : ℕ) : Type 0 where
   pub turn : Turn
   pub end' : EndOf D
@@ -113,7 +114,7 @@ pub record TurnTaken {D : Type 0} (answers : D → ℕ → Content → Answered)
   pub yields : Yields result log log' link link' count count' (entries_turn turn) (last_turn turn) (processed_turn turn)
   pub refusals : Counts refused refused' (refused_turn turn)
 
--- whole turns came to pass so far
+-- Holds if only complete turns took place so far.
 pub record TurnsSoFar {D : Type 0} (answers : D → ℕ → Content → Answered) (pause : Option ℕ) (end now_end : EndOf D) (script script' : List Step) (log log' : SinkState) (link link' : LinkState) (count count' refused refused' done : ℕ) : Type 0 where
   pub turns : List Turn
   pub are_turns : AreTurns answers pause end script turns now_end script'
@@ -126,7 +127,8 @@ IsCut answers pause result end script None end' script' = (end' ≡ end) × (scr
 IsCut answers pause result end script (Some turn) end' script' =
     (is_cut result ≡ true) × IsTurn answers pause true end script turn end' script'
 
--- at most so many turns came to pass, fewer only where the connection went down or a fault cut the last one short
+-- Holds if at most `limit` turns took place. There are fewer only if the connection was closed or an error cut the
+-- last turn short.
 pub record TurnsTaken {D : Type 0} (answers : D → ℕ → Content → Answered) (pause : Option ℕ) (result : Result (Unit {0}) Stop) (limit : ℕ) (end end_new : EndOf D) (script script' : List Step) (log log' : SinkState) (link link' : LinkState) (count count' refused refused' : ℕ) : Type 0 where
   pub turns : List Turn
   pub cut : Option Turn
@@ -147,7 +149,7 @@ StartedBy (Err Link) story = IsStarted story
 StartedBy (Err Log) story = IsStarted story
 StartedBy (Err Memory) story = Unit {0}
 
--- `start` and then turns came to pass, and were counted from nothing; these steps are left
+-- Holds if `start` and then turns took place, and were counted from 0. The steps in `script'` remain.
 pub record Ran {D : Type 0} (answers : D → ℕ → Content → Answered) (pause : Option ℕ) (result : Result (Unit {0}) Stop) (limit : ℕ) (new end_new : EndOf D) (script script' : List Step) (log log' : SinkState) (link link' : LinkState) (count refused : ℕ) : Type 0 where
   pub story : Story
   pub end' : EndOf D
@@ -165,14 +167,14 @@ pub record Ran {D : Type 0} (answers : D → ℕ → Content → Answered) (paus
   pub counted : count ≡ count_after 0 (length (entries_of story))
   pub refusals : refused ≡ count_after 0 (refused_of story)
 
--- how an end that the link's fault left was closed: `lost` was told where the connection was up
+-- How an endpoint was closed after a link error: `lost` was called if the connection was up.
 abbrev pub ClosedAs : {D : Type 0} → ServeFault → EndOf D → Option (List Entry) → SinkState → SinkState → Type 0
 ClosedAs serve.Link end' loss log log' = (has_gone end' ≡ true) × LogGrows log log' (log_lines (lost_entries loss))
 ClosedAs serve.Log end' loss log log' = LogFailsIn log log' (lost_entries loss)
 ClosedAs serve.Turns end' loss log log' = ⊥
 ClosedAs serve.Memory end' loss log log' = LogGrows log log' (log_lines (lost_entries loss))
 
--- the end that there is afterwards is the last one; after the log's fault or want of memory it isn't used
+-- Holds if the endpoint afterwards is the last one. After an error of the log or a failed allocation it is not used.
 abbrev pub IsLeft : {D : Type 0} → Result ServedScript ServeFault → EndOf D → EndOf D → Type 0
 IsLeft (Ok _) last end_new = end_new ≡ last
 IsLeft (Err serve.Link) last end_new = end_new ≡ last
@@ -188,20 +190,20 @@ pub record ClosedLink {D : Type 0} (answers : D → ℕ → Content → Answered
   pub in_range : All IsEntry (lost_entries loss)
   pub left : IsLeft (Err fault) end' end_new
 
--- the entries of `lost` were logged, or the log failed
+-- Holds if the entries of `lost` were logged, or the log failed.
 abbrev pub RestClosed : ServeFault → SinkState → SinkState → List Entry → Type 0
 RestClosed serve.Link log log' entries = LogGrows log log' (log_lines entries)
 RestClosed serve.Log log log' entries = LogFailsIn log log' entries
 RestClosed serve.Turns log log' entries = ⊥
 RestClosed serve.Memory log log' entries = ⊥
 
--- what is answered after a fault
+-- The error that is returned after a stop.
 abbrev pub StoppedAs : {D : Type 0} → (D → ℕ → Content → Answered) → Stop → ServeFault → EndOf D → EndOf D → SinkState → SinkState → Type 0
 StoppedAs answers Link fault end end_new log log' = ClosedLink answers fault end end_new log log'
 StoppedAs answers Log fault end end_new log log' = (fault ≡ serve.Log) × (log' ≡ log)
 StoppedAs answers Memory fault end end_new log log' = (fault ≡ serve.Memory) × (log' ≡ log)
 
--- which story and which end an answer tells of
+-- The story and the endpoint that match a result.
 abbrev pub AnswersEnd : {D : Type 0} → ℕ → Result ServedScript ServeFault → Story → EndOf D → Type 0
 AnswersEnd limit (Ok served) story end =
     IsWhole story × (has_gone end ≡ true)
@@ -213,7 +215,8 @@ AnswersEnd limit (Err serve.Link) story end = IsStarted story × (has_gone end �
 AnswersEnd limit (Err serve.Log) story end = Unit {0}
 AnswersEnd limit (Err serve.Memory) story end = Unit {0}
 
--- what is in the log: these lines, and no entry is left; or, where the log failed, a part of the next entry's line too
+-- The content of the log: these lines, and no entry remains. If the log failed, it also has a part of the next
+-- entry's line.
 abbrev pub HoldsLines : Result ServedScript ServeFault → SinkState → SinkState → List ℕ → List Entry → Type 0
 HoldsLines (Ok _) old new lines rest = (rest ≡ []) × LogGrows old new lines
 HoldsLines (Err serve.Turns) old new lines rest = (rest ≡ []) × LogGrows old new lines
@@ -221,7 +224,7 @@ HoldsLines (Err serve.Link) old new lines rest = (rest ≡ []) × LogGrows old n
 HoldsLines (Err serve.Log) old new lines rest = LogStops old new lines rest
 HoldsLines (Err serve.Memory) old new lines rest = (rest ≡ []) × LogGrows old new lines
 
--- a new end was served: what `serve` leaves, but for the settings' line
+-- Holds if a new endpoint was served: the effect of `serve`, without the settings line.
 pub record ServesEnd {D : Type 0} (answers : D → ℕ → Content → Answered) (pause : Option ℕ) (new end_new : EndOf D) (script : List Step) (limit : ℕ) (result : Result ServedScript ServeFault) (log log' : SinkState) (link link' : LinkState) : Type 0 where
   pub story : Story
   pub last : EndOf D

@@ -1,5 +1,5 @@
--- The turns of a served connection (this project's own): what the end was told between two looks at the clock, and what
--- the link answered.
+-- The turns of a served connection (project-specific): the inputs of the endpoint between two reads of the clock, and
+-- the results of the link.
 use Rattle.std.specs.Prelude.{◌≡◌, ◌+◌, ◌++◌, ◌&&◌, ◌==◌, ◌⊎◌, ℕ, nat_le, Bool, true, false, List, [], ◌∷◌, Option, Some, None}
 use Rattle.secs_text.specs.Content.{Content}
 use Rattle.secs_text.specs.View.{content}
@@ -17,46 +17,46 @@ use Rattle.hsms_ends.specs.declared.step.Step.{Step}
 use Rattle.hsms_ends.specs.declared.step.Step.TheVariants.{Send, Linktest, Separate}
 use Rattle.hsms_ends.specs.Link.{LinkInput, both, processed_nothing, processed_time, processed_octets, processed_quiet, processed_close}
 
--- what a step tells the end
+-- The input that a step passes to the endpoint.
 abbrev pub input_of : Step → Input
 input_of (Send message) = send (content message)
 input_of Linktest = linktest
 input_of Separate = separate
 
--- the connection of the end went down
+-- True if the endpoint's connection was closed.
 abbrev pub has_gone : {D : Type 0} → EndOf D → Bool
 has_gone end = is_gone end.known.view.phase
 
 abbrev pub HasNotGone : {D : Type 0} → EndOf D → Type 0
 HasNotGone end = has_gone end ≡ false
 
--- the end is selected and has no own open transaction
+-- True if the endpoint is selected and has no open own transaction.
 abbrev pub is_idle : {D : Type 0} → EndOf D → Bool
 is_idle end = is_selected end.known.view.phase && (own_open_of end.known.view == 0)
 
--- the moment from which on the link of the end is to be tested, where that is asked for: after so long a pause
+-- The time from which the endpoint's link is to be tested after this pause, if a pause is given.
 abbrev pub test_moment : {D : Type 0} → Option ℕ → EndOf D → Option ℕ
 test_moment None end = None
 test_moment (Some pause) end = test_due pause end.known
 
--- a moment has come, where there is one
+-- True if a time has been reached, if there is one.
 abbrev pub has_come : ℕ → Option ℕ → Bool
 has_come now None = false
 has_come now (Some moment) = nat_le moment now
 
--- the link is to be tested: by the end's moment it has been quiet for that long
+-- True if the link is to be tested: at the endpoint's current time it has been inactive for that long.
 abbrev pub is_test_due : {D : Type 0} → Option ℕ → EndOf D → Bool
 is_test_due pause end = has_come end.known.moment (test_moment pause end)
 
--- What followed an answer of `wait`: the tick at a moment was refused for want of memory; or it gave these entries, and
--- nothing followed it; or its entries, and then those of the input that the answer calls for.
+-- What followed a result of `wait`. The tick at this time failed to allocate; or it returned these entries, and
+-- nothing followed; or those of the input that the result leads to came next.
 pub data After : Type 0 where
   Refused : (now : ℕ) → After
   Ticked : (now : ℕ) (ticked : List Entry) → After
   Done : (now : ℕ) (ticked entries : List Entry) → After
 
--- What followed the first tick of a turn: nothing; the next step of the script, which gave these entries, or which the
--- end refused; a test of the link, which gave these; or an answer of `wait`, and what followed it.
+-- What followed the first tick of a turn: nothing; the next step of the script, which gave these entries, or which
+-- the endpoint rejected; a test of the link, which gave these entries; or a result of `wait`, and what followed it.
 pub data Rest : Type 0 where
   Nothing : Rest
   Stepped : (entries : List Entry) → Rest
@@ -66,47 +66,48 @@ pub data Rest : Type 0 where
   Octets : (octets : List ℕ) (after : After) → Rest
   Closed : (after : After) → Rest
 
--- A turn: the tick at its moment was refused for want of memory, or gave these entries, and the rest followed.
+-- A turn: the tick at its time failed to allocate, or gave these entries, and the rest followed.
 pub data Turn : Type 0 where
   Untaken : (now : ℕ) → Turn
   Ticks : (now : ℕ) (ticked : List Entry) (rest : Rest) → Turn
 
--- a turn may stop here: a fault cuts it short, or the connection is down
+-- Holds if a turn may stop here: an error cuts it short, or the connection is down.
 abbrev pub MayStop : {D : Type 0} → Bool → EndOf D → Type 0
 MayStop is_cut end = (is_cut ≡ true) ⊎ (has_gone end ≡ true)
 
--- a step is left, and the end is idle
+-- True if a step remains, and the endpoint is idle.
 abbrev pub is_step_due : {D : Type 0} → EndOf D → List Step → Bool
 is_step_due end [] = false
 is_step_due end (step ∷ script) = is_idle end
 
--- the tick, and, unless it ended the connection, the input that the answer calls for
+-- The tick and, unless it ended the connection, the input that the result leads to.
 abbrev pub Heeds : {D : Type 0} → (D → ℕ → Content → Answered) → Bool → EndOf D → Input → After → EndOf D → Type 0
 Heeds answers is_cut end input (Refused now) end' = (is_cut ≡ true) × (end' ≡ end)
 Heeds answers is_cut end input (Ticked now ticked) end' = Accepts answers end (tick now) ticked end' × MayStop is_cut end'
 Heeds {D} answers is_cut end input (Done now ticked entries) end' =
     (mid : EndOf D) × Accepts answers end (tick now) ticked mid × HasNotGone mid × Accepts answers mid input entries end'
 
--- no step is due, and no test of the link, so the end waits
+-- Holds if no step and no test of the link is due, so the endpoint waits.
 pub record MustWait {D : Type 0} (pause : Option ℕ) (end : EndOf D) (script script' : List Step) : Type 0 where
   pub up : HasNotGone end
   pub no_step : is_step_due end script ≡ false
   pub no_test : is_test_due pause end ≡ false
   pub script_stays : script' ≡ script
 
--- no step is due, and the link is to be tested
+-- Holds if no step is due, and the link is to be tested.
 pub record MustTest {D : Type 0} (pause : Option ℕ) (end : EndOf D) (script script' : List Step) : Type 0 where
   pub up : HasNotGone end
   pub no_step : is_step_due end script ≡ false
   pub due : is_test_due pause end ≡ true
   pub script_stays : script' ≡ script
 
--- the next step of the script was due
+-- Holds if the next step of the script was due.
 abbrev pub IsNext : {D : Type 0} → EndOf D → List Step → Step → List Step → Type 0
 IsNext end script step script' = HasNotGone end × (is_step_due end script ≡ true) × (script ≡ step ∷ script')
 
--- What follows the first tick: exactly where a step is due, the next one; else, exactly where the link is to be tested,
--- that; else an answer of `wait`. A step that the end refused meets a fault, and leaves the end as it was.
+-- What follows the first tick. If and only if a step is due, it is the next step. Otherwise, if and only if the link
+-- is to be tested, it is the test. Otherwise it is a result of `wait`. A step that the endpoint rejected has an
+-- error, and leaves the endpoint unchanged.
 abbrev pub Continues : {D : Type 0} → (D → ℕ → Content → Answered) → Option ℕ → Bool → EndOf D → List Step → Rest → EndOf D → List Step → Type 0
 Continues answers pause is_cut end script Nothing end' script' = MayStop is_cut end × (end' ≡ end) × (script' ≡ script)
 Continues answers pause is_cut end script (Stepped entries) end' script' =
@@ -122,7 +123,8 @@ Continues answers pause is_cut end script (Octets octets after) end' script' =
 Continues answers pause is_cut end script (Closed after) end' script' =
     MustWait pause end script script' × Heeds answers is_cut end lost after end'
 
--- a turn of an end that isn't down, and of the steps that are left: whole, or cut short by a fault
+-- Holds for a turn of an endpoint that is not down, with the remaining steps. The turn is complete or cut short by an
+-- error.
 abbrev pub IsTurn : {D : Type 0} → (D → ℕ → Content → Answered) → Option ℕ → Bool → EndOf D → List Step → Turn → EndOf D → List Step → Type 0
 IsTurn answers pause is_cut end script (Untaken now) end' script' =
     HasNotGone end × (is_cut ≡ true) × (end' ≡ end) × (script' ≡ script)
@@ -130,7 +132,7 @@ IsTurn {D} answers pause is_cut end script (Ticks now ticked rest) end' script' 
     HasNotGone end
     × ((mid : EndOf D) × Accepts answers end (tick now) ticked mid × Continues answers pause is_cut mid script rest end' script')
 
--- whole turns, one after the other
+-- Holds for consecutive complete turns.
 abbrev pub AreTurns : {D : Type 0} → (D → ℕ → Content → Answered) → Option ℕ → EndOf D → List Step → List Turn → EndOf D → List Step → Type 0
 AreTurns answers pause end script [] end' script' = (end' ≡ end) × (script' ≡ script)
 AreTurns {D} answers pause end script (turn ∷ turns) end' script' =
@@ -161,14 +163,14 @@ abbrev pub entries_turns : List Turn → List Entry
 entries_turns [] = []
 entries_turns (turn ∷ turns) = entries_turn turn ++ entries_turns turns
 
--- ---- what the last call of the end gave: nothing where the end refused it, or where a wait that gave nothing came later
+-- ---- the entries of the endpoint's last call: none if it rejected the call, or if a later wait returned nothing
 
 abbrev pub last_after : After → List Entry
 last_after (Refused now) = []
 last_after (Ticked now ticked) = ticked
 last_after (Done now ticked entries) = entries
 
--- these were given before
+-- `before` are the earlier entries.
 abbrev pub last_rest : Rest → List Entry → List Entry
 last_rest Nothing before = before
 last_rest (Stepped entries) before = entries
@@ -186,7 +188,7 @@ abbrev pub last_turns : List Turn → List Entry → List Entry
 last_turns [] before = before
 last_turns (turn ∷ turns) before = last_turns turns (last_turn turn)
 
--- ---- what was heard of the link
+-- ---- the input from the link
 
 abbrev pub moment_after : After → ℕ
 moment_after (Refused now) = now
@@ -210,7 +212,7 @@ abbrev pub processed_turns : List Turn → LinkInput
 processed_turns [] = processed_nothing
 processed_turns (turn ∷ turns) = both (processed_turn turn) (processed_turns turns)
 
--- ---- how many steps the end refused
+-- ---- the number of steps that the endpoint rejected
 
 abbrev pub refused_rest : Rest → ℕ
 refused_rest Declined = 1
@@ -229,7 +231,7 @@ abbrev pub refused_turns : List Turn → ℕ
 refused_turns [] = 0
 refused_turns (turn ∷ turns) = refused_turn turn + refused_turns turns
 
--- ---- how many steps were taken or refused
+-- ---- the number of steps taken or rejected
 
 abbrev pub steps_rest : Rest → ℕ
 steps_rest Declined = 1

@@ -1,15 +1,15 @@
-//! What serving tells an end by itself.
+//! The calls of an endpoint that serving makes by itself.
 
-/// What an end is told besides the steps of a script: one call of it.
+/// A call of an endpoint that is not a step of a script.
 #[derive(Clone, Copy)]
 pub enum Call<'a> {
-    /// The connection came up at this moment, in milliseconds.
+    /// The connection was established at this time, in milliseconds.
     Start(u64),
-    /// Time has gone on to this moment, in milliseconds.
+    /// Time has advanced to this time, in milliseconds.
     Tick(u64),
-    /// These octets came.
+    /// These bytes were received.
     Bytes(&'a [u8]),
-    /// The other end is to be asked whether it is still there.
+    /// Send Linktest.req to check that the peer is still there.
     Linktest,
     /// The connection was lost.
     Lost,

@@ -1,4 +1,5 @@
-//! Laws over the definitions of the ends and of what is served. Each is the contract of a function that does nothing.
+//! Laws over the definitions of the endpoints and of served connections. Each is the contract of a function that does
+//! nothing.
 
 ghost use Rattle.hsms_ends.specs.Laws.{ServedLogPasses, ServedAgainLogPasses};
 
@@ -9,13 +10,15 @@ pub use hsms_endpoint::laws::{
     overdue_link_timer_leaves_s9f9_out,
 };
 
-/// The log of a served connection passes the audit, unless a write failed: the verdict on it, which `hsms_log` gives
-/// (`HasAuditVerdict`, the headline of its `audit`), is `Pass` with the summary of the entries that the end gave.
+/// Ensures that the log of a served connection passes the audit, unless a write failed. The verdict of `hsms_log` on
+/// it (`HasAuditVerdict`, the headline of its `audit`) is `Pass` with the summary of the entries that the endpoint
+/// returned.
 pub fn served_log_passes<D: TurnDesk>()
     ensures { ServedLogPasses D.answers_after }
 {}
 
-/// The log of connections that were served one after the other passes the audit too, with the summary of all entries.
+/// Ensures that the log of connections served one after the other also passes the audit, with the summary of all
+/// entries.
 pub fn served_again_log_passes<D: TurnDesk>()
     ensures { ServedAgainLogPasses D.answers_after }
 {}

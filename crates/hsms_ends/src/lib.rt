@@ -1,14 +1,14 @@
-//! The two ends of an HSMS session (SEMI E37, E37.1): what an end logs, sends and answers, and what serves one
-//! connection.
+//! The two endpoints of an HSMS session (SEMI E37, E37.1): what an endpoint logs, sends and answers, and how one
+//! connection is served.
 //!
-//! What one end is and does stands in `hsms_endpoint`, all of which this crate exports too. [`serve`] serves a
-//! connection over a [`Link`] to the peer: a socket, or a [`Scripted`] one in memory.
+//! `hsms_endpoint` implements one endpoint; this crate re-exports all of it. [`serve`] serves a connection to the
+//! peer over a [`Link`]: a socket, or a [`Scripted`] link in memory.
 //!
 //! ```
 //! let script = [Step::Send(message), Step::Separate];
 //! match serve(alloc, &mut link, &mut log, settings, HostDesk, 1, &script, 1000) {
-//!     Ok(served) => {}  // the connection went down
-//!     Err(fault) => {}  // ServeFault: the link or the log failed, memory is wanting, all turns are used
+//!     Ok(served) => {}  // the connection was closed
+//!     Err(fault) => {}  // ServeFault: the link or the log failed, an allocation failed, all turns are used
 //! }
 //! ```
 #![tactic(auto)]

@@ -1,49 +1,49 @@
-//! What a connection is served over.
+//! The link over which a connection is served.
 
 ghost use Rattle.std.specs.Prelude.{◌≡◌, ◌<◌, ◌≤◌, length, IfOk};
 ghost use Rattle.hsms_ends.specs.Link.{LinkState, Asks, Waits, Sends};
 
 use crate::fault::LinkFault;
 
-/// What came of a wait.
+/// The result of a wait.
 #[derive(Clone, Copy, Debug, PartialEq, Eq)]
 pub enum Got {
-    /// So many octets came from the peer: at least 1.
+    /// This many bytes were received from the peer: at least 1.
     Octets(usize),
-    /// Nothing came in time.
+    /// No byte was received in time.
     Quiet,
     /// The peer has closed the connection.
     Closed,
 }
 
-/// A connection to a peer, and a clock. A wait that fails gives no octets, and a send that fails takes none.
+/// A connection to a peer, and a clock. A wait that fails reads no bytes, and a send that fails writes none.
 pub trait Link {
-    /// What contracts see: the moments that were answered, the octets that were given and those that were taken, where
-    /// it tells them; how many waits it answered, how many of them by `Closed`, and whether the last one; how often it
-    /// failed. A count that comes to its greatest value stays there.
+    /// The state that contracts see: the times that `now` returned, and the bytes received and sent, if the link
+    /// records them. It also counts the waits that returned, those of them that returned `Closed`, and the failures,
+    /// and says whether the last wait returned `Closed`. A count that reaches its maximum stays there.
     ghost link_state: { Self → LinkState };
 
-    /// The moment now, in milliseconds from any beginning.
+    /// Returns the current time, in milliseconds from any origin.
     fn now(&mut self) -> u64
         ensures { Asks (link_state self.old) (link_state self.new) result };
 
-    /// Waits for octets from the peer until a moment, or for as long as it takes, and reads some to the front of a
-    /// slice that isn't empty.
+    /// Waits for bytes from the peer until a time, or without a limit. Reads some bytes to the start of a slice that
+    /// is not empty.
     fn wait(&mut self, until: Option<u64>, into: &mut [u8]) -> Result<Got, LinkFault>
         requires { 0 < length into.old }
         ensures { Waits (link_state self.old) (link_state self.new) into.new result };
 
-    /// Sends some octets from the front of a slice, and says how many: at least 1 of a slice that isn't empty.
+    /// Sends some bytes from the start of a slice and returns their number: at least 1 if the slice is not empty.
     fn send(&mut self, octets: &[u8]) -> Result<usize, LinkFault>
         ensures bound { IfOk result (λ n. n ≤ length octets.now) }
         ensures some { IfOk result (λ n. 0 < length octets.now → 0 < n) }
         ensures sent { Sends (link_state self.old) (link_state self.new) octets.now result };
 }
 
-/// A link that connects again.
+/// A link that can reconnect.
 pub trait Again: Link {
-    /// Goes over to the next connection, the first one too, and says whether there is one. What the link tells of its
-    /// calls goes on.
+    /// Moves to the next connection, also to the first one. Returns whether there is one. The link's record of its
+    /// calls continues.
     fn again(&mut self) -> bool
         ensures { Self.link_state self.new ≡ Self.link_state self.old };
 }

@@ -1,4 +1,4 @@
-//! Entries to the log and to the link.
+//! Output of entries to the log and to the link.
 
 ghost use Rattle.std.specs.Prelude.{All};
 ghost use Rattle.hsms_log.specs.LineFormat.{IsEntry};
@@ -13,19 +13,19 @@ use hsms_log::laws::entry_is_in_range;
 use hsms_log::write_entry;
 use hsms_machine::{Entry, Event};
 
-/// Why serving stops before its end.
+/// Why serving stops before the connection ends.
 #[derive(Clone, Copy, Debug, PartialEq, Eq)]
 pub enum Stop {
     /// The link failed.
     Link,
     /// A write to the log failed.
     Log,
-    /// Memory is wanting.
+    /// An allocation failed.
     Memory,
 }
 
-/// Puts out the entries of a call, in order. The line of each goes to the log, and then, where the entry is a message
-/// that is sent, its octets go to the link. Where the link fails, nothing more is sent and the rest is logged.
+/// Writes the entries of a call, in order. Each entry's line goes to the log first. If the entry is a sent message,
+/// its bytes then go to the link. If the link fails, nothing more is sent and the remaining entries are logged.
 pub fn put_out<L: Link, W: Sink>(link: &mut L, log: &mut W, entries: &[Entry]) -> Result<(), Stop>
     requires { AllFitLengthField entries.now }
     ensures { PutsOut result (W.state log.old) (W.state log.new) (L.link_state link.old) (L.link_state link.new)
@@ -45,7 +45,7 @@ pub fn put_out<L: Link, W: Sink>(link: &mut L, log: &mut W, entries: &[Entry]) -
     Ok(())
 }
 
-/// Sends the message of an event that says one was sent, and of other events nothing.
+/// Sends the message of an event that records a sent message. Sends nothing for other events.
 fn send_event<L: Link>(link: &mut L, event: &Event) -> Result<(), LinkFault>
     requires { FitsLengthField event.now }
     ensures { SendsAll (L.link_state link.old) (L.link_state link.new) (sent_of event.now) result }
@@ -56,7 +56,7 @@ fn send_event<L: Link>(link: &mut L, event: &Event) -> Result<(), LinkFault>
     }
 }
 
-/// Logs entries that the end gave in a call, once the link has failed, and says why serving stops.
+/// Logs the remaining entries of a call after the link has failed, and returns why serving stops.
 pub fn log_rest<W: Sink>(log: &mut W, entries: &[Entry]) -> Stop
     ensures { RestLogged (Err result) (W.state log.old) (W.state log.new) entries.now }
 {
@@ -70,7 +70,8 @@ pub fn log_rest<W: Sink>(log: &mut W, entries: &[Entry]) -> Stop
     Stop::Link
 }
 
-/// The numbers of entries that a program holds lie within the ranges of their types. Its contract is the fact.
+/// Ensures that the numbers of a program's entries are within the ranges of their types. The contract is the only
+/// purpose.
 pub fn entries_are_in_range(entries: &[Entry])
     ensures { All IsEntry entries.now }
 {

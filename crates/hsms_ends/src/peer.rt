@@ -1,4 +1,4 @@
-//! What the peer of a link in memory says.
+//! The peer of a link in memory.
 
 ghost use Rattle.std.specs.Prelude.{◌≡◌, ◌≢◌, ◌<◌, ◌≤◌, None, length, get_or, true, false};
 ghost use Rattle.hsms_ends.specs.ScriptedLink.{given_of, left_of, pass_over, wait_octets};
@@ -7,14 +7,14 @@ use crate::link::Got;
 use hsms_frame::copy_front;
 use std::marker::Model;
 
-/// What a peer says, a wait after the other.
+/// What a peer sends, one wait after the other.
 #[derive(Drop)]
 pub struct Peer {
     waits: Vec<Option<Vec<u8>>>,
-    /// The wait that is answered next, and how many of its octets were given.
+    /// The next wait, and the number of its bytes already returned.
     place: usize,
     within: usize,
-    /// How many waits were answered by `Closed`, and whether the last one was.
+    /// The number of waits that returned `Closed`, and whether the last one did.
     closes: u64,
     is_closed: bool,
 }
@@ -41,7 +41,7 @@ impl Peer {
     ghost use Rattle.hsms_ends.specs.Link.{IsGot};
     ghost use Rattle.hsms_ends.specs.ScriptedLink.{Answers, pass_over, got_octets, closes_after, is_closed as answers_closed};
 
-    /// A peer that has said nothing yet.
+    /// Creates a peer that has sent nothing yet.
     pub fn new(waits: Vec<Option<Vec<u8>>>) -> Peer
         ensures { result
             ≡ record {
@@ -60,7 +60,7 @@ impl Peer {
         }
     }
 
-    /// Answers a wait, with at most `piece` octets.
+    /// Answers a wait, with at most `piece` bytes.
     pub fn answer(&mut self, into: &mut [u8], piece: usize) -> Got
         requires room { 0 < length into.old }
         requires piece { 0 < piece }
@@ -94,7 +94,7 @@ impl Peer {
     }
 }
 
-/// The wait that answers next, and how many of its octets were given: one whose octets are used up is passed over.
+/// Returns the next wait and the number of its bytes already returned. Skips a wait whose bytes are used up.
 fn next_wait(waits: &[Option<Vec<u8>>], place: usize, within: usize) -> (usize, usize)
     requires place { place ≤ length waits.now }
     requires within { within ≤ length (wait_octets (λ v. v.items) (get_or waits.now place None)) }
@@ -116,7 +116,7 @@ fn next_wait(waits: &[Option<Vec<u8>>], place: usize, within: usize) -> (usize, 
     (place, within)
 }
 
-/// Whether a wait gives octets, and this many are all.
+/// Returns whether a wait has bytes and `within` of them are all.
 fn is_used_up(wait: &Option<Vec<u8>>, within: usize) -> bool
     ensures some { result ≡ true → wait.now ≢ None }
     ensures used { result ≡ true → within ≡ length (wait_octets (λ v. v.items) wait.now) }

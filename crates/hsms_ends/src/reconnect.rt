@@ -1,4 +1,4 @@
-//! Connection after connection, served in one log.
+//! Consecutive connections, served in one log.
 
 ghost use Rattle.std.specs.Prelude.{◌≡◌};
 ghost use Rattle.hsms_machine.specs.Settings.{several_of};
@@ -17,9 +17,9 @@ use hsms_machine::Settings;
 use secs_text::Message;
 use std::alloc::{AllocError, Global};
 
-/// A desk that is lent: each end of a run of connections has it.
+/// A borrowed message handler, shared by the endpoints of consecutive connections.
 pub struct Lent<'a, D> {
-    /// The desk.
+    /// The message handler.
     pub desk: &'a D,
 }
 
@@ -44,31 +44,32 @@ impl<'a, D: TurnDesk> TurnDesk for Lent<'a, D> {
     }
 }
 
-/// What was served, connection after connection.
+/// The result of serving consecutive connections.
 #[derive(Clone, Copy, Debug, PartialEq, Eq)]
 pub struct ServedAgain {
-    /// How many connections went down.
+    /// The number of connections that were closed.
     pub connections: u64,
-    /// Whether each was served to its end, and each step of its script was taken, and none refused.
+    /// Whether each connection was served until it ended, with each step of its script accepted.
     pub complete: bool,
 }
 
-/// Serves connection after connection, each as [`serve_testing`](crate::serve_testing) does, in one log of version 2, and
-/// says how many went down, and whether the script was taken in each. It ends after so many connections, and where the
-/// link has no further one.
+/// Serves consecutive connections, each as [`serve_testing`](crate::serve_testing) does, in one log of version 2.
+/// Returns the number of closed connections, and whether the script was completed in each. It ends after the given
+/// number of connections, or when the link has no further one.
 ///
-/// The first connection has the script, and each further one the later script. Each end starts no earlier than at the
-/// time of the last entry before it, so that times go on, and it has asked the desk about nothing yet, so that turns begin
-/// anew. A connection that the link's fault ended is followed by the next one, as one that went down is; after any other
-/// fault no further one is served.
+/// The first connection has the script, and each further one the later script. Each endpoint starts no earlier than
+/// at the time of the last entry before it, so that times never decrease. Its handler counts of earlier messages
+/// start again at 0. After a connection that ended with a link error, the next one follows, as after one that was
+/// closed. After any other error no further connection is served.
 ///
 /// **The log is the text of a run of the session machine, so that `audit` passes it** (`ServesAgain`;
-/// `laws::served_again_log_passes`); after the answer `Log` whole lines and a part of the next one. The link is at no
-/// moment ahead of it, as with `serve`.
+/// `laws::served_again_log_passes`). After the result `Log` it is complete lines and a part of the next one. The link
+/// is never ahead of the log, as with `serve`.
 ///
 /// # Errors
 ///
-/// `Log`, where the settings' line wasn't taken. Else the fault of the last connection: `Log`, `Turns` or `Memory`.
+/// Returns `Log` if the settings line was not written. Otherwise returns the error of the last connection: `Log`,
+/// `Turns` or `Memory`.
 pub fn serve_again<L: Again, W: Sink, D: TurnDesk + Copy>(
     alloc: Global,
     link: &mut L,
@@ -113,14 +114,14 @@ pub fn serve_again<L: Again, W: Sink, D: TurnDesk + Copy>(
     })
 }
 
-/// The script of a connection: the later one, unless it is the first.
+/// Returns the script of a connection: the later one, unless it is the first connection.
 fn steps_of<'a>(script: &'a [Step], later: &'a [Step], done: u64) -> &'a [Step]
     ensures { result.now ≡ script_at script.now later.now done }
 {
     if done == 0 { script } else { later }
 }
 
-/// Serves the next connection. Says whether it was complete, or the fault after which no further one is served.
+/// Serves the next connection. Returns whether it was complete, or the error after which no further one is served.
 fn serve_next<L: Again, W: Sink, D: TurnDesk>(
     link: &mut L,
     log: &mut W,

@@ -9,11 +9,11 @@ use crate::peer::Peer;
 use hsms_frame::{Sink, Store};
 use std::marker::Model;
 
-/// A peer and a clock out of memory. `now` answers the moments in order, then the last again, and 0 where there is
-/// none. `wait` answers `Quiet` for a None, gives the octets of a Some, at most `piece` of them a call, passes over an
-/// empty Some, and answers `Closed` once the list is used up. `send` takes at most `piece` octets a call into the room.
-/// Each `wait` and each `send` past the first `fuse` of them fails, and each `send` into a full room, so a test can have
-/// a call fail wherever it likes.
+/// A peer and a clock in memory. `now` returns the times in order, then repeats the last one; without times it
+/// returns 0. `wait` returns `Quiet` for a `None`, and reads the bytes of a `Some`, at most `piece` per call. It
+/// skips an empty `Some`, and returns `Closed` once the list is used up. `send` writes at most `piece` bytes per
+/// call, up to the capacity. Each `wait` and each `send` after the first `fuse` calls fails, and so does each `send`
+/// at full capacity. A test can therefore let any call fail.
 #[derive(Drop)]
 pub struct Scripted {
     moments: Vec<u64>,
@@ -58,7 +58,7 @@ impl Model for Scripted {
 impl Scripted {
     ghost use Rattle.std.specs.Prelude.{◌≡◌, ◌<◌, [], None, map, option_map, false};
 
-    /// A link of these moments, waits and room. `piece` is at least 1.
+    /// Creates a link with these times, waits and capacity. `piece` is at least 1.
     pub fn new(
         moments: Vec<u64>,
         waits: Vec<Option<Vec<u8>>>,
@@ -98,14 +98,14 @@ impl Scripted {
         }
     }
 
-    /// The octets that were taken so far.
+    /// Returns the bytes that were sent so far.
     pub fn taken(&self) -> &[u8]
         ensures { result.now ≡ self.now.taken }
     {
         self.room.written()
     }
 
-    /// Until when the last `wait` was asked to wait.
+    /// Returns the time until which the last `wait` was to wait.
     pub fn until(&self) -> Option<u64>
         ensures { result ≡ self.now.until }
     {
@@ -123,7 +123,7 @@ impl Link for Scripted {
 
     fn now(&mut self) -> u64
         ensures asks { Asks (recorded_of self.old) (recorded_of self.new) result }
-        // Beyond what each link ensures: which moment it is.
+        // Beyond what each link ensures: which time it is.
         ensures moment { result ≡ moment_at self.old.moments self.old.asked }
         ensures same { self.new ≡ record self.old { asked = next_count self.old.asked } }
     {
@@ -135,7 +135,7 @@ impl Link for Scripted {
     fn wait(&mut self, until: Option<u64>, into: &mut [u8]) -> Result<Got, LinkFault>
         requires { 0 < length into.old }
         ensures waits { Waits (recorded_of self.old) (recorded_of self.new) into.new result }
-        // Beyond what each link ensures: when it fails, and what it answers.
+        // Beyond what each link ensures: when it fails, and what it returns.
         ensures fails { IsErr result ↔ (self.old.fuse ≤ self.old.calls) }
         ensures answers { IfOk result
             (λ got. Answers (pass_over self.old.left) self.old.piece into.new got self.new.left) }
@@ -160,7 +160,7 @@ impl Link for Scripted {
         ensures bound { IfOk result (λ n. n ≤ length octets.now) }
         ensures some { IfOk result (λ n. 0 < length octets.now → 0 < n) }
         ensures sent { Sends (recorded_of self.old) (recorded_of self.new) octets.now result }
-        // Beyond what each link ensures: when it fails, that it takes as much as it may, and which room is left.
+        // Beyond what each link ensures: when it fails, that it writes as much as it may, and which capacity remains.
         ensures fails { IsErr result ↔ ((self.old.fuse ≤ self.old.calls) ⊎ (length self.old.room ≡ 0)) }
         ensures count { IfOk result (λ n. n ≡ min (min (length octets.now) (length self.old.room)) self.old.piece) }
         ensures room { IfOk result (λ n. self.new.room ≡ drop n self.old.room) }
@@ -185,14 +185,14 @@ impl Link for Scripted {
     }
 }
 
-/// It connects again as often as it is asked, to the same peer: the next connection goes on with the waits that are left.
+/// Reconnects as often as it is called, to the same peer. The next connection continues with the remaining waits.
 impl Again for Scripted {
     fn again(&mut self) -> bool {
         true
     }
 }
 
-/// The moment that call k of `now` answers.
+/// Returns the time that call k of `now` returns.
 fn moment_of(moments: &[u64], k: u64) -> u64
     ensures { result ≡ moment_at moments.now k }
 {

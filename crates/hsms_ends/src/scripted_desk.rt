@@ -1,20 +1,20 @@
-//! A desk with replies from a script.
+//! A message handler with replies from a script.
 
 use hsms_endpoint::{Answer, Desk, TurnDesk};
 use secs_text::Message;
 use std::alloc::{AllocError, Global};
 
-/// A desk that gives the replies of a script, and else what another desk says (SEMI E5).
+/// A message handler that returns the replies of a script, and otherwise the answer of another handler (SEMI E5).
 ///
-/// A primary is answered by the item of a reply that has its stream and its function plus one. Where several have, they
-/// are given in turn, in their order, and the last one again and again. Where none has, and one has its stream and
-/// function 0, it is aborted without a word of stream 9. Every other message the own desk answers. Of a reply neither W
-/// nor an odd function is looked at.
+/// A primary is answered with the item of a reply that has its stream and its function plus one. If several replies
+/// match, they are used in order, and then the last one repeats. If none matches and one has its stream and function
+/// 0, the primary is aborted without a message of stream 9. The other handler answers every other message. Neither
+/// the W bit of a reply nor an odd function of it is considered.
 #[derive(Debug, Drop)]
 pub struct ScriptedDesk<D: Desk + Drop> {
-    /// The replies, in the order in which they are looked through.
+    /// The replies, in the order in which they are searched.
     pub replies: Vec<Message>,
-    /// What answers each other message.
+    /// The handler that answers all other messages.
     pub own: D,
 }
 
@@ -43,7 +43,7 @@ ghost use Rattle.secs_text.specs.View.{content};
 ghost use Rattle.hsms_endpoint.specs.Answer.{answered, replies as replies_by};
 ghost use Rattle.hsms_ends.specs.ScriptedDesk.{in_turn, is_abort_of, is_reply_to};
 
-// Of the replies to a primary, the one whose turn it is behind so many primaries of its stream and function.
+// Returns the reply to a primary that comes after the given number of primaries of its stream and function.
 fn reply_to<'a>(replies: &'a [Message], primary: &Message, before: u64) -> Option<&'a Message>
     ensures { option_map (λ reply. reply.now) result
         ≡ in_turn before (filter (is_reply_to (content primary.now)) replies.now) }
@@ -62,7 +62,7 @@ fn reply_to<'a>(replies: &'a [Message], primary: &Message, before: u64) -> Optio
     given
 }
 
-// Whether a reply answers a primary.
+// Returns whether a reply answers a primary.
 fn answers(reply: &Message, primary: &Message) -> bool
     ensures { result ≡ is_reply_to (content primary.now) reply.now }
 {
@@ -70,7 +70,7 @@ fn answers(reply: &Message, primary: &Message) -> bool
         && u16::from(reply.function()) == u16::from(primary.function()) + 1
 }
 
-// Whether a reply aborts a primary.
+// Returns whether a reply aborts a primary.
 fn is_aborted(replies: &[Message], primary: &Message) -> bool
     ensures { result ≡ list_any (is_abort_of (content primary.now)) replies.now }
 {
@@ -80,7 +80,7 @@ fn is_aborted(replies: &[Message], primary: &Message) -> bool
         .any(|reply| reply.stream() == stream && reply.function() == 0)
 }
 
-// The answer with a reply's item.
+// Returns the answer with a reply's item.
 fn replied(alloc: Global, reply: &Message) -> Result<Answer, AllocError>
     ensures { IfOk result (λ answer. answered answer ≡ replies_by (content reply.now).item) }
 {

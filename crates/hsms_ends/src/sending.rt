@@ -1,4 +1,4 @@
-//! Octets to a link.
+//! Output of bytes to a link.
 
 ghost use Rattle.std.specs.Prelude.{◌≡◌, ◌<◌, ◌≤◌, ◌+◌, ◌^◌, ◌++◌, length, take};
 ghost use Rattle.hsms_frame.specs.Frame.{frame_octets};
@@ -8,14 +8,14 @@ use crate::fault::LinkFault;
 use crate::link::Link;
 use hsms_frame::{Frame, front_octets};
 
-// The octets before the text.
+// The number of bytes before the text.
 const FRONT: usize = 14;
 
-// The octets of a message that go to the link in its first call, at most: no fewer than a segment of Ethernet holds.
+// The maximum number of bytes of a message in the first call of the link: no fewer than an Ethernet segment holds.
 const BLOCK: usize = 1500;
 
-/// Sends a message (SEMI E37, section 8), or some octets from its front and fails. A message of at most 1,500 octets is
-/// one slice; of a longer one the rest of its text is another.
+/// Sends a message (SEMI E37, section 8), or fails after sending a prefix. A message of at most 1,500 bytes is one
+/// slice. Of a longer one, the rest of its text is another slice.
 pub fn send_frame<L: Link>(link: &mut L, frame: &Frame) -> Result<(), LinkFault>
     requires { 10 + length frame.now.text < 2 ^ 32 }
     ensures { SendsAll (L.link_state link.old) (L.link_state link.new) (frame_octets frame.now) result }
@@ -40,7 +40,7 @@ fn send_joined<L: Link>(link: &mut L, first: &[u8], second: &[u8]) -> Result<(),
     send_all(link, &block[..end])
 }
 
-/// Lays octets into a block at a place, and says where they end.
+/// Copies bytes into a block at an offset, and returns the offset of their end.
 fn append_chunk(block: &mut [u8], place: usize, octets: &[u8]) -> usize
     requires { place + length octets.now ≤ length block.old }
     ensures appended_text { take result block.new ≡ take place block.old ++ octets.now }
@@ -52,7 +52,7 @@ fn append_chunk(block: &mut [u8], place: usize, octets: &[u8]) -> usize
     end
 }
 
-/// Sends all octets, or some from their front and fails.
+/// Sends all bytes, or fails after sending a prefix.
 fn send_all<L: Link>(link: &mut L, octets: &[u8]) -> Result<(), LinkFault>
     ensures { SendsAll (L.link_state link.old) (L.link_state link.new) octets.now result }
 {

@@ -1,4 +1,4 @@
-//! A connection, served.
+//! Serving one connection.
 
 ghost use Rattle.std.specs.Prelude.{◌≡◌, drop, length};
 ghost use Rattle.hsms_endpoint.specs.EndState.{initial_state};
@@ -16,24 +16,24 @@ use hsms_log::write_settings;
 use hsms_machine::{Entry, Settings};
 use std::alloc::Global;
 
-// The octets that one wait takes at most.
+// The maximum number of bytes that one wait reads.
 const ROOM: usize = 4096;
 
-/// What was served.
+/// The counts of a served connection.
 #[derive(Clone, Copy, Debug, PartialEq, Eq)]
 pub struct Served {
-    /// How many entries were logged.
+    /// The number of logged entries.
     pub entries: u64,
-    /// How many steps the end refused.
+    /// The number of steps that the endpoint rejected.
     pub refused: u64,
 }
 
-/// What was served, and how much of the script was left.
+/// The counts of a served connection, and the remaining steps of the script.
 #[derive(Clone, Copy, Debug, PartialEq, Eq)]
 pub struct ServedScript {
-    /// What was served.
+    /// The counts of the connection.
     pub counts: Served,
-    /// How many steps of the script were left when the connection went down.
+    /// The number of steps of the script that remained when the connection was closed.
     pub left: usize,
 }
 
@@ -41,7 +41,7 @@ impl ServedScript {
     ghost use Rattle.std.specs.Prelude.{◌≡◌};
     ghost use Rattle.hsms_ends.specs.Serving.{is_complete};
 
-    /// Whether each step of the script was taken, and none was refused.
+    /// Returns whether each step of the script was taken, and none was rejected.
     pub fn is_complete(&self) -> bool
         ensures { result ≡ is_complete self.now }
     {
@@ -49,28 +49,28 @@ impl ServedScript {
     }
 }
 
-/// Serves one connection, as the end that the settings name, in at most so many turns.
+/// Serves one connection, as the endpoint that the settings name, in at most `turns` turns.
 ///
-/// The settings' line is written to the log, and the end is started at the link's moment. Each turn tells the end the
-/// moment. Then, where the end is selected and has no own open transaction, the next step of the script is taken; else
-/// the link is waited for until a timer runs out, and what came is told to the end. The entries of each call of the end
-/// are put out at once: of each its line to the log, and then the octets of a sent message to the link (SEMI E37,
-/// section 8, message format).
+/// The settings line is written to the log, and the endpoint is started at the link's time. Each turn first passes
+/// the time to the endpoint. Then, if the endpoint is selected and has no open own transaction, the next step of the
+/// script is taken. Otherwise the link is waited for until a timer expires, and the endpoint processes what was
+/// received. The entries of each call of the endpoint are written at once. Each entry's line goes to the log, then
+/// the bytes of a sent message to the link (SEMI E37, section 8, message format).
 ///
 /// **The log is the text of a run of the session machine, so that `audit` passes it** (`Serves`;
-/// `laws::served_log_passes`). In it:
+/// `laws::served_log_passes`). In this statement:
 ///
-/// - *the log*: what was written since the call, of a sink that tells it; after the answer `Log` whole lines and a part
-///   of the next one, whose entry the end gave in its last call.
-/// - *of a run*: the entries that the end gave for its inputs (`Accepts` of `hsms_endpoint`), in the order of the turns
-///   (`IsStory`); moments, octets and the answers of waits are those of the link.
-/// - The link took the octets of the sent messages whose lines are whole in the log, in order: all, or where it failed a
-///   part from their front. As this holds wherever the log fails, the link is at no moment ahead of the log.
-/// - `Ok` and `Link` are answered only where the last entry is `down`, `Turns` only where it isn't and so many turns were
-///   taken.
+/// - *the log*: what was written since the call, if the sink records it. After the result `Log` it is complete lines
+///   and a part of the next one, whose entry the endpoint returned in its last call.
+/// - *of a run*: the entries that the endpoint returned for its inputs (`Accepts` of `hsms_endpoint`), in the order
+///   of the turns (`IsStory`). Times, bytes and the results of waits are those of the link.
+/// - The link sent the bytes of the sent messages whose lines are complete in the log, in order. It sent all of them,
+///   or a prefix if it failed. Since this holds wherever the log fails, the link is never ahead of the log.
+/// - `Ok` and `Link` are returned only if the last entry is `down`. `Turns` is returned only if it is not `down` and
+///   `turns` turns were taken.
 ///
-/// What it does not say: that a peer answers, that time goes on, or that memory is there (`Memory`, where a growth was
-/// refused).
+/// It does not state that a peer answers, that time advances, or that memory is available (`Memory`: an allocation
+/// failed).
 pub fn serve<L: Link, W: Sink, D: TurnDesk + Drop>(
     alloc: Global,
     link: &mut L,
@@ -101,13 +101,13 @@ pub fn serve<L: Link, W: Sink, D: TurnDesk + Drop>(
     }
 }
 
-/// Serves one connection as [`serve`] does, and tests the link: where no step is due and nothing came and nothing was
-/// logged for a pause of so many milliseconds, the end sends Linktest.req (SEMI E37, section 7, linktest procedure). It
-/// does so while the session is selected, none is open, and fewer than 64 own transactions are (`test_due` of `hsms_endpoint`);
-/// T6 runs from there. Without a pause it is `serve`.
+/// Serves one connection as [`serve`] does, and tests the link. The endpoint sends Linktest.req (SEMI E37, section 7,
+/// linktest procedure) if no step is due and nothing was received or logged for `pause` milliseconds. It does so
+/// while the session is selected, no Linktest.req is open, and fewer than 64 own transactions are open (`test_due` of
+/// `hsms_endpoint`). T6 then runs. Without a pause it is `serve`.
 ///
-/// It ensures what `serve` does, and how many steps of the script are left. Each test of the link is one of the turns of
-/// its story (`MustTest`).
+/// It ensures what `serve` does, and the number of remaining steps of the script. Each test of the link is one of the
+/// turns of its story (`MustTest`).
 pub fn serve_testing<L: Link, W: Sink, D: TurnDesk + Drop>(
     alloc: Global,
     link: &mut L,
@@ -131,7 +131,7 @@ pub fn serve_testing<L: Link, W: Sink, D: TurnDesk + Drop>(
     }
 }
 
-/// Serves an end that was told nothing yet. The settings' line isn't written.
+/// Serves an endpoint that has received no input. Does not write the settings line.
 pub fn serve_end<L: Link, W: Sink, D: TurnDesk>(
     link: &mut L,
     log: &mut W,
@@ -177,15 +177,15 @@ pub fn serve_end<L: Link, W: Sink, D: TurnDesk>(
     }
 }
 
-/// How many steps of a script are left where so many were taken or refused.
+/// Returns the number of steps of a script that remain after `place` were taken or rejected.
 fn left_over(script: &[Step], place: usize) -> usize
     ensures { result ≡ length (drop place script.now) }
 {
     script.len().saturating_sub(place)
 }
 
-/// What is answered after a fault. After a link fault the end is closed first, and the fault of closing it counts, where
-/// there is one.
+/// Returns the error of serving. After a link error the endpoint is closed first; if closing it fails, returns that
+/// error.
 fn stopped<W: Sink, D: TurnDesk>(log: &mut W, end: &mut End<D>, stop: Stop) -> ServeFault
     ensures { StoppedAs D.answers_after stop result end.old end.new (W.state log.old) (W.state log.new) }
 {

@@ -2,13 +2,13 @@
 
 use secs_text::Message;
 
-/// What an end is told once it is selected and has no own open transaction.
+/// An input of an endpoint that is selected and has no open own transaction.
 #[derive(Debug, Drop)]
 pub enum Step {
-    /// This message is to be sent.
+    /// Send this message.
     Send(Message),
-    /// The other end is to be asked whether it is still there.
+    /// Send Linktest.req to check that the peer is still there.
     Linktest,
-    /// The session and the connection are to be ended.
+    /// End the session and the connection.
     Separate,
 }

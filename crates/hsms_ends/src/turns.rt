@@ -16,32 +16,32 @@ use hsms_endpoint::{End, EndFault, TurnDesk};
 use hsms_frame::Sink;
 use hsms_machine::{Entry, Phase, earlier};
 
-/// How far serving has come.
+/// The progress of serving.
 #[derive(Clone, Copy, Debug)]
 pub struct Progress {
-    /// How many steps were taken or refused.
+    /// The number of steps taken or rejected.
     pub place: usize,
-    /// How many entries there are.
+    /// The number of entries.
     pub entries: u64,
-    /// How many steps the end refused.
+    /// The number of steps that the endpoint rejected.
     pub refused: u64,
 }
 
-/// Whether the connection went down.
+/// Returns whether the connection was closed.
 pub fn has_gone<D: TurnDesk>(end: &End<D>) -> bool
     ensures { result ≡ is_down end.now }
 {
     matches!(end.phase(), Phase::Gone)
 }
 
-/// Whether the end is selected and has no own open transaction.
+/// Returns whether the endpoint is selected and has no open own transaction.
 fn is_idle<D: TurnDesk>(end: &End<D>) -> bool
     ensures { result ≡ is_free end.now }
 {
     matches!(end.phase(), Phase::Selected) && end.own_open() == 0
 }
 
-/// Counts the entries of a call, and puts them out.
+/// Counts the entries of a call, and writes them.
 fn deliver<L: Link, W: Sink>(
     link: &mut L,
     log: &mut W,
@@ -57,7 +57,7 @@ fn deliver<L: Link, W: Sink>(
     put_out(link, log, entries)
 }
 
-/// Makes a call of the end.
+/// Makes a call of the endpoint.
 fn make<D: TurnDesk>(end: &mut End<D>, call: Call<'_>) -> Result<Vec<Entry>, EndFault>
     ensures { MatchResult result
         (λ entries. Accepts D.answers_after end.old (called call.entry) entries.items end.new)
@@ -72,7 +72,7 @@ fn make<D: TurnDesk>(end: &mut End<D>, call: Call<'_>) -> Result<Vec<Entry>, End
     }
 }
 
-/// Makes a call of the end, and puts out what it gave.
+/// Makes a call of the endpoint, and writes the entries that it returned.
 fn hand<L: Link, W: Sink, D: TurnDesk>(
     link: &mut L,
     log: &mut W,
@@ -91,14 +91,14 @@ fn hand<L: Link, W: Sink, D: TurnDesk>(
     }
 }
 
-/// Asks the clock: the link's moment.
+/// Returns the link's time.
 fn now<L: Link>(link: &mut L) -> u64
     ensures { Asks (L.link_state link.old) (L.link_state link.new) result }
 {
     link.now()
 }
 
-/// Asks the clock, and tells the end the moment.
+/// Reads the clock, and passes the time to the endpoint.
 fn tick<L: Link, W: Sink, D: TurnDesk>(
     link: &mut L,
     log: &mut W,
@@ -113,7 +113,7 @@ fn tick<L: Link, W: Sink, D: TurnDesk>(
     hand(link, log, end, Call::Tick(now), count)
 }
 
-/// Tells the end a step.
+/// Passes a step to the endpoint.
 fn submit<D: TurnDesk>(end: &mut End<D>, step: &Step) -> Result<Vec<Entry>, EndFault>
     ensures { MatchResult result
         (λ entries. Accepts D.answers_after end.old (input_of step.now) entries.items end.new)
@@ -162,7 +162,7 @@ fn take_step<L: Link, W: Sink, D: TurnDesk>(
     }
 }
 
-/// Tells the end the moment, and then, unless that ended the connection, what a wait answered.
+/// Passes the time to the endpoint and then, unless that ended the connection, the result of a wait.
 fn process_input<L: Link, W: Sink, D: TurnDesk>(
     link: &mut L,
     log: &mut W,
@@ -186,7 +186,7 @@ fn process_input<L: Link, W: Sink, D: TurnDesk>(
     }
 }
 
-/// Waits once, into a slice that isn't empty, and tells the end what came of it.
+/// Waits once, into a slice that is not empty, and passes the result to the endpoint.
 fn wait_once<L: Link, W: Sink, D: TurnDesk>(
     link: &mut L,
     log: &mut W,
@@ -202,7 +202,7 @@ fn wait_once<L: Link, W: Sink, D: TurnDesk>(
         (L.link_state link.old) (L.link_state link.new) count.old count.new refused refused }
     ensures len { length into.new ≡ length into.old }
 {
-    // Past the moment at which the next timer is due, since only then it has run out.
+    // One past the time at which the next timer is due, since it has expired only then.
     let expiry = end.next_due().and_then(|due| due.checked_add(1));
     let until = earlier(expiry, test_moment(end, pause));
     match link.wait(until, into) {
@@ -221,8 +221,8 @@ fn wait_once<L: Link, W: Sink, D: TurnDesk>(
     }
 }
 
-/// One turn of an end that isn't down: it is told the moment, and then, unless that ended the connection, the next step
-/// of the script where one is due, or the link is tested where that is, or else waited for.
+/// Takes one turn of an endpoint that is not down. Passes it the time first. Then, unless that ended the connection,
+/// takes the next step of the script if one is due. Otherwise tests the link if that is due, or waits.
 fn turn<L: Link, W: Sink, D: TurnDesk>(
     link: &mut L,
     log: &mut W,
@@ -257,7 +257,7 @@ fn turn<L: Link, W: Sink, D: TurnDesk>(
     }
 }
 
-/// Whether the next step is to be taken now.
+/// Returns whether the next step is due now.
 fn step_is_due<D: TurnDesk>(end: &End<D>, script: &[Step], place: usize) -> bool
     ensures due { result ≡ step_due end.now (drop place script.now) }
     ensures within { result ≡ true → place < length script.now }
@@ -265,22 +265,22 @@ fn step_is_due<D: TurnDesk>(end: &End<D>, script: &[Step], place: usize) -> bool
     place < script.len() && is_idle(end)
 }
 
-/// Whether the link is to be tested now, after so long a pause.
+/// Returns whether the link is to be tested now, after a pause of this length.
 fn test_is_due<D: TurnDesk>(end: &End<D>, pause: Option<u64>) -> bool
     ensures { result ≡ test_due pause end.now }
 {
     test_moment(end, pause).is_some_and(|moment| moment <= end.moment())
 }
 
-/// The moment from which on the link is to be tested.
+/// Returns the time from which the link is to be tested.
 fn test_moment<D: TurnDesk>(end: &End<D>, pause: Option<u64>) -> Option<u64>
     ensures { result ≡ moment_of_test pause end.now }
 {
     end.test_due(pause?)
 }
 
-/// Starts the end at the link's moment, and takes at most so many turns, while the connection isn't down. What comes is
-/// read into a slice that isn't empty.
+/// Starts the endpoint at the link's time, and takes at most `turns` turns while the connection is not down. Received
+/// bytes are read into a slice that is not empty.
 pub fn run<L: Link, W: Sink, D: TurnDesk>(
     link: &mut L,
     log: &mut W,

@@ -1,4 +1,4 @@
-//! Lists of what an end is told, read from lines.
+//! Lists of inputs for an endpoint, read from lines.
 
 use anyhow::anyhow;
 use hsms_endpoint::Input;
@@ -7,12 +7,12 @@ use hsms_machine::Settings;
 use secs_text::read;
 use std::alloc::Global;
 
-/// An end, and what it is told.
+/// An endpoint, and its inputs.
 #[derive(Drop)]
 pub struct List {
     pub settings: Option<Settings>,
     pub first_system: u32,
-    /// Whether the desk is the obliging one, and not that of the role.
+    /// Whether the handler is the obliging one, and not the one of the role.
     pub is_obliging: bool,
     pub model: Vec<u8>,
     pub revision: Vec<u8>,
@@ -20,7 +20,7 @@ pub struct List {
 }
 
 impl List {
-    /// A list of which no line was read.
+    /// Creates an empty list.
     pub fn new(alloc: Global) -> List {
         List {
             settings: None,
@@ -32,7 +32,7 @@ impl List {
         }
     }
 
-    /// Adds what a line says.
+    /// Adds the content of a line.
     pub fn add(&mut self, alloc: Global, line: &str) -> Result<(), anyhow::Error> {
         let (word, rest) = line.split_once(' ').unwrap_or((line, ""));
         if word == "hsms-log" {
@@ -58,7 +58,7 @@ impl List {
     }
 }
 
-/// What an end is told by a line.
+/// Returns the input that a line describes.
 fn input_of(alloc: Global, word: &str, rest: &str) -> Result<Input, anyhow::Error> {
     match word {
         "start" => Ok(Input::Start(rest.parse::<u64>()?)),
@@ -72,7 +72,7 @@ fn input_of(alloc: Global, word: &str, rest: &str) -> Result<Input, anyhow::Erro
     }
 }
 
-/// The octets of a word of hexadecimal digits.
+/// Returns the bytes of a string of hexadecimal digits.
 fn octets_of(alloc: Global, digits: &str) -> Result<Vec<u8>, anyhow::Error> {
     if digits == "-" {
         return Ok(Vec::new(alloc));

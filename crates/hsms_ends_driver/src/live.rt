@@ -1,4 +1,4 @@
-//! Ends that are told a list, and the lines of what they answer.
+//! Endpoints that process a list, and the lines of their results.
 
 use crate::list::List;
 use crate::obliging::ReplyingDesk;
@@ -9,7 +9,7 @@ use hsms_log::write_entry;
 use hsms_machine::{Entry, Event, Role, Settings};
 use std::alloc::Global;
 
-/// Tells one end a list call by call, and another one the same list by `drive`. Gives the lines of what they answer.
+/// Passes a list to one endpoint call by call, and to another one by `drive`. Returns the lines of their results.
 pub fn live(alloc: Global, list: &List) -> Result<Vec<u8>, anyhow::Error> {
     let settings = list.settings.ok_or_else(|| anyhow!("no settings"))?;
     if list.is_obliging {
@@ -24,7 +24,7 @@ pub fn live(alloc: Global, list: &List) -> Result<Vec<u8>, anyhow::Error> {
     }
 }
 
-/// Tells a list to two ends, the one call by call and the other by `drive`, each with its desk.
+/// Passes a list to two endpoints, to one call by call and to the other by `drive`, each with its handler.
 fn live_with<D: Desk + Drop>(
     alloc: Global,
     settings: Settings,
@@ -44,7 +44,7 @@ fn desk_of(alloc: Global, list: &List) -> Result<EquipmentDesk, anyhow::Error> {
     })
 }
 
-/// The lines of what was answered: all of them, and those of entries and pending octets alone.
+/// The lines of the results: all of them, and those of entries and pending bytes alone.
 #[derive(Drop)]
 struct Reported {
     lines: Vec<u8>,
@@ -52,14 +52,14 @@ struct Reported {
 }
 
 impl Reported {
-    /// Adds what comes of an input that isn't refused.
+    /// Appends the result of an accepted input.
     fn accept(&mut self, line: &[u8]) -> Result<(), anyhow::Error> {
         self.lines.extend_from_slice(line)?;
         self.accepted.extend_from_slice(line)?;
         Ok(())
     }
 
-    /// Adds why an input is refused.
+    /// Appends the error of a rejected input.
     fn refuse(&mut self, alloc: Global, fault: &EndFault) -> Result<(), anyhow::Error> {
         let line = format!(in alloc; "refused {fault:?}\n")?;
         self.lines.extend_from_slice(line.as_bytes())?;
@@ -67,7 +67,7 @@ impl Reported {
     }
 }
 
-/// Tells an end each input of a list.
+/// Passes each input of a list to an endpoint.
 fn submit_all<D: Desk + Drop>(
     alloc: Global,
     settings: Settings,
@@ -83,7 +83,7 @@ fn submit_all<D: Desk + Drop>(
     Ok(reported)
 }
 
-/// Tells an end inputs, and adds what comes of them, and last what is pending.
+/// Passes inputs to an endpoint. Appends their results, and last the pending bytes.
 fn submit_each<D: Desk>(
     alloc: Global,
     end: &mut End<D>,
@@ -96,7 +96,7 @@ fn submit_each<D: Desk>(
     reported.accept(&pending_line(alloc, end.pending())?)
 }
 
-/// Tells an end one input, and adds what comes of it.
+/// Passes one input to an endpoint, and appends the result.
 fn submit_and_add<D: Desk>(
     alloc: Global,
     end: &mut End<D>,
@@ -109,7 +109,7 @@ fn submit_and_add<D: Desk>(
     }
 }
 
-/// Tells an end one input.
+/// Passes one input to an endpoint.
 fn submit<D: Desk>(end: &mut End<D>, input: &Input) -> Result<Vec<Entry>, EndFault> {
     match input {
         Input::Start(now) => end.start(*now),
@@ -122,7 +122,7 @@ fn submit<D: Desk>(end: &mut End<D>, input: &Input) -> Result<Vec<Entry>, EndFau
     }
 }
 
-/// The lines of what `drive` answers to a list.
+/// Returns the lines of the result of `drive` for a list.
 fn drive_all<D: Desk + Drop>(
     alloc: Global,
     settings: Settings,
@@ -135,7 +135,7 @@ fn drive_all<D: Desk + Drop>(
     Ok(lines)
 }
 
-/// The lines of a list, with the word that says whether `drive` answered the same.
+/// Returns the lines of a list, with the keyword that says whether `drive` returned the same.
 fn with_end(reported: Reported, driven: &[u8]) -> Result<Vec<u8>, anyhow::Error> {
     let Reported {
         mut lines,
@@ -150,7 +150,7 @@ fn with_end(reported: Reported, driven: &[u8]) -> Result<Vec<u8>, anyhow::Error>
     Ok(lines)
 }
 
-/// The lines of entries.
+/// Returns the lines of entries.
 fn lines_of(alloc: Global, entries: &[Entry]) -> Result<Vec<u8>, anyhow::Error> {
     let mut room = 0usize;
     for entry in entries {
@@ -163,7 +163,7 @@ fn lines_of(alloc: Global, entries: &[Entry]) -> Result<Vec<u8>, anyhow::Error> 
     Ok(Vec::from_slice(alloc, store.written())?)
 }
 
-/// At least as many octets as an entry's line has.
+/// Returns an upper bound of the bytes in an entry's line.
 fn room_of(entry: &Entry) -> usize {
     match &entry.event {
         Event::Sent(frame) | Event::Taken(frame) | Event::Discarded(frame) => frame

@@ -1,13 +1,14 @@
-//! Reads lists of what happens to an end, tells them to ends, and writes what those answer; for `tests/driven.py`.
+//! Reads lists of inputs, passes them to endpoints, and writes the results; for `tests/gate/endpoint_inputs.py`.
 //!
-//! A list is lines of standard input: the settings, as the first line of a log has them; `desk NUMBER MODEL REVISION`,
-//! the first system bytes and what the desk of equipment tells of itself, or `obliging NUMBER`, the first system bytes
-//! of an end whose desk answers each primary by a reply without an item; then what the end is told, by `start N`, `tick
-//! N`, `bytes OCTETS`, `send NOTATION`, `linktest`, `separate` and `lost`; and `end`. Octets, and texts of the desk,
-//! are hexadecimal, and `-` where there are none.
+//! A list is a sequence of lines of standard input. First come the settings, as in the first line of a log. Then
+//! comes `desk NUMBER MODEL REVISION`: the first system bytes, and the texts that the equipment handler sends. Or
+//! `obliging NUMBER`: the first system bytes of an endpoint whose handler answers each primary with a reply without
+//! an item. Then come the inputs: `start N`, `tick N`, `bytes OCTETS`, `send NOTATION`, `linktest`, `separate` and
+//! `lost`. The last line is `end`. Bytes, and texts of the handler, are hexadecimal; `-` means none.
 //!
-//! Of each list it writes the lines of the entries that each call answers, or `refused FAULT`, then `pending OCTETS`,
-//! and `end` where `drive` has the same entries and the same pending octets, else `other`.
+//! For each list it writes the lines of the entries that each call returns, or `refused FAULT`, then
+//! `pending OCTETS`. The last line is `end` if `drive` has the same entries and the same pending bytes, otherwise
+//! `other`.
 #![tactic(auto)]
 
 mod list;

@@ -1,10 +1,10 @@
-//! A desk that has a reply to everything.
+//! A message handler that replies to everything.
 
 use hsms_endpoint::{Answer, Desk};
 use secs_text::Message;
 use std::alloc::{AllocError, Global};
 
-/// Answers each primary by a reply without an item.
+/// Answers each primary with a reply without an item.
 #[derive(Clone, Copy, Debug)]
 pub struct ReplyingDesk;
 

@@ -1,5 +1,5 @@
-//! Worked sessions of one end, and served connections: tests of `hsms_ends`, in a crate of their own, since a crate is
-//! proved once more with its tests.
+//! Example sessions of one endpoint, and served connections: tests of `hsms_ends`. They are in a crate of their own,
+//! since a crate is proved again with its tests.
 #![tactic(auto)]
 
 #[cfg(test)]

@@ -1,4 +1,4 @@
-//! Worked sessions of one end: what it is told, and the lines that its log gets.
+//! Example sessions of one endpoint: its inputs, and the lines of its log.
 
 mod answers;
 mod connection;
@@ -33,18 +33,18 @@ use secs_text::{Message, TextFault, read};
 use std::alloc::{AllocError, AllocFailed, Global};
 use std::process::Abort;
 
-/// Why a test ends. It is small and can be copied, since the check follows each one to where the test ends, and std's
-/// own, which holds a text, takes it several times as long.
+/// Why a test ends. It is small and can be copied, since the check follows each one to where the test ends. The type
+/// of `std` holds a text and takes the check several times as long.
 #[derive(Clone, Copy, Debug)]
 enum Stop {
     Memory,
-    /// A call was refused that isn't to be.
+    /// A call that should be accepted returned an error.
     Refused,
-    /// What stands in a row can't be read.
+    /// A row cannot be read.
     Line,
     /// A log fails its audit.
     Verdict,
-    /// A run has no end.
+    /// A run does not end.
     Endless,
 }
 
@@ -111,23 +111,23 @@ impl From<LogFault> for Stop {
     }
 }
 
-// Sessions are one text, since a constant of many parts takes the check longer, and so does each function that is given
-// one. Each begins with `# ` and its name, the first line of its log, and `from` with the first system bytes. Its other
-// lines are what the end is told, each with the lines of the log or the fault that it answers below it, and last what is
-// pending, if something is. An end is told `start N`, `tick N`, `comes DIGITS`, a message as a line of a log has it,
-// `octets DIGITS`, `send NOTATION`, `linktest`, `separate` or `lost`.
+// Sessions are one text, since a constant of many parts takes the check longer, and so does each function that is
+// given one. Each begins with `# ` and its name, the first line of its log, and `from` with the first system bytes.
+// Its other lines are the inputs of the endpoint, each followed by the lines of the log or the error that it returns.
+// The last line is what is pending, if anything is. The inputs are `start N`, `tick N`, `comes DIGITS` (a message as
+// in a line of a log), `octets DIGITS`, `send NOTATION`, `linktest`, `separate` and `lost`.
 
-/// The first line of lines, and the others.
+/// Returns the first line, and the others.
 fn first_of<'a>(lines: &'a str) -> (&'a str, &'a str) {
     lines.split_once('\n').unwrap_or((lines, ""))
 }
 
-/// The settings of a session's second line.
+/// Returns the settings in a session's second line.
 fn settings_in(line: &str) -> Result<Settings, Stop> {
     read_settings(line.as_bytes()).ok_or(Stop::Line)
 }
 
-/// The first system bytes of its third line.
+/// Returns the first system bytes in its third line.
 fn system_in(line: &str) -> Result<u32, Stop> {
     let number = number_of(line.strip_prefix("from ").ok_or(Stop::Line)?)?;
     u32::try_from(number).ok().ok_or(Stop::Line)
@@ -137,7 +137,7 @@ fn settings(role: Role, side: Side, max: u32) -> Option<Settings> {
     Settings::new(role, side, 0, 45000, 6000, 10000, 5000, max, 32)
 }
 
-/// The desk of equipment with model M and revision 1.
+/// Returns the message handler of equipment with model M and revision 1.
 fn equipment(alloc: Global) -> Result<EquipmentDesk, AllocError> {
     Ok(EquipmentDesk {
         mdln: Vec::from_slice(alloc, b"M")?,
@@ -145,7 +145,7 @@ fn equipment(alloc: Global) -> Result<EquipmentDesk, AllocError> {
     })
 }
 
-/// The lines of entries.
+/// Returns the lines of entries.
 fn lines_of(alloc: Global, entries: &[Entry]) -> Result<Vec<u8>, Stop> {
     let room = entries.len().saturating_mul(600);
     let mut store = Store::new(vec![in alloc; 0u8; room]?, 4096, u64::MAX);
@@ -155,7 +155,7 @@ fn lines_of(alloc: Global, entries: &[Entry]) -> Result<Vec<u8>, Stop> {
     Ok(Vec::from_slice(alloc, store.written())?)
 }
 
-/// The octets of the message of a line.
+/// Returns the bytes of the message of a line.
 fn octets_of(alloc: Global, digits: &str) -> Result<Vec<u8>, Stop> {
     let octets = hex::decode(alloc, digits)?;
     let length = u32::try_from(octets.len()).ok().ok_or(Stop::Line)?;
@@ -164,7 +164,7 @@ fn octets_of(alloc: Global, digits: &str) -> Result<Vec<u8>, Stop> {
     Ok(message)
 }
 
-/// The octets of the messages of words.
+/// Returns the bytes of several messages.
 fn octets_of_all(alloc: Global, messages: &str) -> Result<Vec<u8>, Stop> {
     let mut octets = Vec::new(alloc);
     for message in messages.split_whitespace() {
@@ -177,7 +177,7 @@ fn number_of(text: &str) -> Result<u64, Stop> {
     Ok(text.parse::<u64>().ok().ok_or(Stop::Line)?)
 }
 
-/// What an end is told by a line, or None where the line says what it answers.
+/// Returns the input of a line, or `None` if the line is a result.
 fn input_of(alloc: Global, line: &str) -> Result<Option<Input>, Stop> {
     let (word, rest) = line.split_once(' ').unwrap_or((line, ""));
     let input = match word {
@@ -194,7 +194,7 @@ fn input_of(alloc: Global, line: &str) -> Result<Option<Input>, Stop> {
     Ok(Some(input))
 }
 
-/// Tells an end one input.
+/// Passes one input to an endpoint.
 fn submit<D: TurnDesk>(end: &mut End<D>, input: &Input) -> Result<Vec<Entry>, EndFault> {
     match input {
         Input::Start(now) => end.start(*now),
@@ -207,8 +207,8 @@ fn submit<D: TurnDesk>(end: &mut End<D>, input: &Input) -> Result<Vec<Entry>, En
     }
 }
 
-// A test is made of small functions without clauses, which look at references to what others own: an assertion in a
-// function of its own, and few ways out of a function that owns much, are proved in a tenth of the time.
+// A test is made of small functions without clauses, which borrow what others own. An assertion in a function of its
+// own, and few exits from a function that owns much, are proved in a tenth of the time.
 
 fn assert_so(rt: &impl Abort, is_so: bool, name: &str) {
     assert!(rt; is_so, "{name}");
@@ -222,20 +222,20 @@ fn assert_fault(rt: &impl Abort, fault: Option<EndFault>, want: Option<EndFault>
     assert_so(rt, fault == want, name);
 }
 
-/// An end that is spent refuses an input.
+/// Checks that a spent endpoint rejects an input.
 fn assert_refused<D: TurnDesk>(rt: &impl Abort, end: &mut End<D>, input: &Input) {
     let answer = submit(end, input);
     assert_fault(rt, answer.err(), Some(EndFault::Spent), "spent");
 }
 
-/// Tells an end something that it doesn't refuse.
+/// Passes an input to an endpoint that accepts it.
 fn submit_ok<D: TurnDesk>(alloc: Global, end: &mut End<D>, line: &str) -> Result<(), Stop> {
     let input = input_of(alloc, line)?.ok_or(Stop::Line)?;
     submit(end, &input)?;
     Ok(())
 }
 
-/// Each call of an end that is spent is refused. Where an allocation is refused, a test ends with that error.
+/// Checks that a spent endpoint rejects each call. If an allocation fails, a test ends with that error.
 fn assert_spent<D: TurnDesk>(rt: &impl Abort, alloc: Global, end: &mut End<D>) {
     let message = Message::new(1, 1, true, None);
     assert_refused(rt, end, &Input::Start(0));
@@ -247,7 +247,7 @@ fn assert_spent<D: TurnDesk>(rt: &impl Abort, alloc: Global, end: &mut End<D>) {
     assert_refused(rt, end, &Input::Lost);
 }
 
-/// Adds a line.
+/// Appends a line.
 fn add_line(text: &mut Vec<u8>, word: &str, rest: &str) -> Result<(), AllocError> {
     text.extend_from_slice(word.as_bytes())?;
     text.extend_from_slice(rest.as_bytes())?;
@@ -255,7 +255,7 @@ fn add_line(text: &mut Vec<u8>, word: &str, rest: &str) -> Result<(), AllocError
     Ok(())
 }
 
-/// Adds what is pending, if something is.
+/// Appends the pending bytes, if there are any.
 fn add_pending(alloc: Global, text: &mut Vec<u8>, pending: &[u8]) -> Result<(), AllocError> {
     if pending.is_empty() {
         return Ok(());
@@ -263,7 +263,7 @@ fn add_pending(alloc: Global, text: &mut Vec<u8>, pending: &[u8]) -> Result<(), 
     add_line(text, "pending ", hex::encode(alloc, pending)?.as_str())
 }
 
-/// Adds the lines of entries. There is no fault.
+/// Appends the lines of entries. Returns no error of the endpoint.
 fn add_entries(
     alloc: Global,
     entries: &[Entry],
@@ -274,14 +274,14 @@ fn add_entries(
     Ok(None)
 }
 
-/// Adds the line of a fault, and answers it.
+/// Appends the line of an error, and returns the error.
 fn add_fault(alloc: Global, fault: EndFault, text: &mut Vec<u8>) -> Result<Option<EndFault>, Stop> {
     let name = format!(in alloc; "{fault:?}")?;
     add_line(text, "refused ", name.as_str())?;
     Ok(Some(fault))
 }
 
-/// Tells an end one input, and adds the lines of what it answers. Answers its fault.
+/// Passes one input to an endpoint, and appends the lines of the result. Returns the endpoint's error.
 fn add_answer<D: TurnDesk>(
     alloc: Global,
     end: &mut End<D>,
@@ -294,7 +294,7 @@ fn add_answer<D: TurnDesk>(
     }
 }
 
-/// Tells an end what a line says, if that is an input, and adds it and what is answered.
+/// Passes a line to an endpoint if it is an input, and appends the line and the result.
 fn add_returned<D: TurnDesk>(
     alloc: Global,
     end: &mut End<D>,
@@ -308,7 +308,8 @@ fn add_returned<D: TurnDesk>(
     add_answer(alloc, end, &input, text)
 }
 
-/// Tells an end all of a session, and adds its lines as they come. Answers whether the end had no memory.
+/// Passes a complete session to an endpoint, and appends its lines. Returns whether an allocation of the endpoint
+/// failed.
 fn add_session<D: TurnDesk>(
     alloc: Global,
     end: &mut End<D>,
@@ -324,7 +325,8 @@ fn add_session<D: TurnDesk>(
     Ok(false)
 }
 
-/// A session has these lines. An end that had no memory is spent, and that is handed up, unless it is wanted.
+/// Checks that a session has these lines. An endpoint whose allocation failed is spent; that error is passed on
+/// unless the session expects it.
 fn judge<D: TurnDesk>(
     rt: &impl Abort,
     alloc: Global,
@@ -348,7 +350,7 @@ fn end_of<D: TurnDesk>(alloc: Global, settings: Settings, desk: D, first_system:
     End::new(alloc, settings, desk, first_system)
 }
 
-/// Each role has a desk of its own.
+/// Checks the lines of a session. Each role has its own message handler.
 fn check_lines(
     rt: &impl Abort,
     alloc: Global,
@@ -412,7 +414,7 @@ fn edges_of_an_end(rt: HostRuntime) -> Result<(), Stop> {
     check_all(&rt, rt.alloc(), EDGES)
 }
 
-/// What the end is told in a session, as a list.
+/// Returns the inputs of a session, as a list.
 fn inputs_of(alloc: Global, session: &str) -> Result<Vec<Input>, Stop> {
     let mut inputs = Vec::new(alloc);
     for line in session.lines() {
@@ -423,7 +425,7 @@ fn inputs_of(alloc: Global, session: &str) -> Result<Vec<Input>, Stop> {
     Ok(inputs)
 }
 
-/// What comes of a list.
+/// Returns the result of a list.
 fn driven(
     alloc: Global,
     settings: Settings,
@@ -439,14 +441,14 @@ fn driven(
     }
 }
 
-/// The lines of what comes of a list.
+/// Returns the lines of the result of a list.
 fn driven_lines(alloc: Global, driven: &Driven) -> Result<Vec<u8>, Stop> {
     let mut text = lines_of(alloc, &driven.entries)?;
     add_pending(alloc, &mut text, &driven.pending)?;
     Ok(text)
 }
 
-/// Whether a line says what came of a call: an entry, or what is pending.
+/// Returns whether a line is the result of a call: an entry, or the pending bytes.
 fn is_accepted(line: &str) -> bool {
     match line.split_once(' ') {
         Some(("pending", _)) => true,
@@ -455,7 +457,7 @@ fn is_accepted(line: &str) -> bool {
     }
 }
 
-/// The lines of entries and of what is pending in a session, one after the other.
+/// Returns the lines of entries and of pending bytes in a session, one after the other.
 fn accepted_lines(alloc: Global, session: &str) -> Result<Vec<u8>, AllocError> {
     let mut text = Vec::new(alloc);
     for line in session.lines() {
@@ -466,7 +468,7 @@ fn accepted_lines(alloc: Global, session: &str) -> Result<Vec<u8>, AllocError> {
     Ok(text)
 }
 
-/// The lines of what comes of a list of inputs.
+/// Returns the lines of the result of a list of inputs.
 fn lines_of_all(
     alloc: Global,
     settings: Settings,
@@ -477,7 +479,7 @@ fn lines_of_all(
     driven_lines(alloc, &driven)
 }
 
-/// These are the lines of entries and of what is pending in a session.
+/// Checks that these are the lines of entries and of pending bytes in a session.
 fn assert_accepted(
     rt: &impl Abort,
     alloc: Global,
@@ -490,7 +492,7 @@ fn assert_accepted(
     Ok(())
 }
 
-/// The lines of what comes of the list of a session.
+/// Returns the lines of the result of a session's list.
 fn lines_of_session(
     alloc: Global,
     settings: Settings,
@@ -501,7 +503,7 @@ fn lines_of_session(
     lines_of_all(alloc, settings, first_system, &inputs)
 }
 
-/// The entries of the list of a session are the lines of its calls, one after the other.
+/// Checks that the entries of a session's list are the lines of its calls, one after the other.
 fn check_list(
     rt: &impl Abort,
     alloc: Global,

@@ -1,4 +1,4 @@
--- The octets that calls of a framer took in, and the messages that they gave.
+-- The bytes that calls of a framer took, and the messages that they returned.
 use Rattle.std.proofs.Common.{◌≡◌, ◌≤◌, ◌+◌, ◌++◌, ℕ, List, [], ◌∷◌, length, Some, None, Ok, Err, refl, sym, ◌∙◌, ap, subst}
 use Rattle.std.specs.Prelude.{flat_map}
 use Rattle.std.proofs.lemmas.List.{append-nil, append_assoc}
@@ -9,7 +9,7 @@ use Rattle.hsms_frame.specs.Framing.{FramerState, FramesAs}
 use Rattle.hsms_frame.specs.Calls.{Call, Push, Next, Performs, PerformsAll, octets_of, message_of, IsDrained}
 use Rattle.hsms_frame.proofs.Determined.{same_front}
 
--- a fault leaves what is pending
+-- An error leaves the pending bytes unchanged.
 fault_keeps : (max : ℕ) (pending rest : List ℕ) (fault : FrameFault) → FramesAs max pending (Err fault) rest → rest ≡ pending
 fault_keeps max pending rest (TooShort n) h = h.1
 fault_keeps max pending rest (TooLong n g) h = h.1
@@ -34,12 +34,12 @@ gives_what_was_pushed old new (Next (Ok None) ∷ calls) (mid, does, more) =
 gives_what_was_pushed old new (Next (Err e) ∷ calls) (mid, does, more) =
     ap (λ xs. xs ++ flat_map octets_of calls) (sym (fault_keeps old.max old.pending mid.pending e does.0)) ∙ gives_what_was_pushed mid new calls more
 
--- each is a message within the limit
+-- Each is a message within the limit.
 AreMessages : ℕ → List Frame → Type 0
 AreMessages max [] = Unit {0}
 AreMessages max (f ∷ fs) = IsFrame f × (10 + length f.text ≤ max) × AreMessages max fs
 
--- a call keeps the limit
+-- A call preserves the limit.
 keeps_limit : (old mid : FramerState) (call : Call) → Performs old call mid → mid.max ≡ old.max
 keeps_limit old mid (Push octets (Ok u)) does = ap (λ (s : FramerState). s.max) does
 keeps_limit old mid (Push octets (Err e)) does = ap (λ (s : FramerState). s.max) does
@@ -65,11 +65,11 @@ are_messages old new (Next (Err e) ∷ calls) (mid, does, more) =
     let P : ℕ → Type 0 = λ n. AreMessages n (flat_map message_of calls) in
     subst P does.1 (are_messages mid new calls more)
 
--- octets begin with no message within the limit
+-- The bytes begin with no message within the limit.
 abbrev HasNone : ℕ → List ℕ → Type 0
 HasNone max octets = (f : Frame) (rest : List ℕ) → FramesAs max octets (Ok (Some f)) rest → ⊥
 
--- the same octets are the same messages, and the same behind them
+-- The same bytes are the same messages, followed by the same bytes.
 same_messages : (max : ℕ) (ms ns : List Frame) (x y : List ℕ) → AreMessages max ms → AreMessages max ns → HasNone max x → HasNone max y
     → flat_map frame_octets ms ++ x ≡ flat_map frame_octets ns ++ y → (ms ≡ ns) × (x ≡ y)
 unfolding AreMessages

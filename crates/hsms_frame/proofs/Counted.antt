@@ -1,4 +1,4 @@
--- What a fill counts, told of what is read by it: of a part that has to be there, or of a whole that may be missing.
+-- The counts of a fill as the counts of what it reads: a part that is required, or a whole that may be missing.
 use Rattle.std.proofs.Common.{◌≡◌, ◌≤◌, ◌<◌, ℕ, Some, None, Ok, Err, refl, sym, ◌∙◌, ap, subst, arith}
 use Rattle.std.specs.Prelude.{Option, Result}
 use Rattle.std.specs.Result.{IsErrAnd}
@@ -11,14 +11,14 @@ use Rattle.hsms_frame.specs.CallCounts.{next_count}
 use Rattle.hsms_frame.specs.Io.{SourceState, CountsFill, ends_after_fill}
 use Rattle.hsms_frame.specs.Reading.{CountsPart, CountsWhole, ends_after_part, failures_after}
 
--- a fill that isn't full finds the end, and a full one doesn't
+-- A fill that is not full finds the end, and a full one does not.
 found : (room n old new : ℕ) → n < room → new ≡ ends_after_fill room (Ok n) old → new ≡ next_count old
 found room n old new less step = grind (arith, nat_tests, step, less)
 
 not_found : (room n old new : ℕ) → room ≤ n → new ≡ ends_after_fill room (Ok n) old → new ≡ old
 not_found room n old new full step = grind (arith, nat_tests, step, full)
 
--- a fill failed, and so did what is read by it
+-- A fill failed, and so did the read that uses it.
 pub part_failed : {T : Type 0} (r : Result T ReadFault) (room : ℕ) (e : Failed) (old new : SourceState) → IsErrAnd r (λ x. x ≡ Read)
     → CountsFill room (Err e) old new → CountsPart r old new
 part_failed (Ok x) room e old new fails counts = absurd fails
@@ -37,7 +37,7 @@ pub not_memory : {T : Type 0} (r : Result T ReadFault) → IsErrAnd r (λ x. x �
 not_memory (Ok x) fails is = absurd fails
 not_memory (Err x) fails is = absurd cc
 
--- the input ended before it was full
+-- The input ended before the part was full.
 pub part_cut : {T : Type 0} (room n : ℕ) (old new : SourceState) → n < room → CountsFill room (Ok n) old new → CountsPart {T = T} (Err CutOff) old new
 part_cut room n old new less counts =
     record { empty_pulls = counts.empty_pulls; ends = found room n _ _ less counts.ends; failures = counts.failures }
@@ -50,7 +50,7 @@ pub whole_missing : {T : Type 0} (room n : ℕ) (old new : SourceState) → n < 
 whole_missing room n old new less counts =
     record { empty_pulls = counts.empty_pulls; ends = found room n _ _ less counts.ends; failures = counts.failures }
 
--- it was full
+-- The part was full.
 pub part_full : {T : Type 0} (x : T) (room n : ℕ) (old new : SourceState) → room ≤ n → CountsFill room (Ok n) old new → CountsPart (Ok x) old new
 part_full x room n old new full counts =
     record { empty_pulls = counts.empty_pulls; ends = not_found room n _ _ full counts.ends; failures = counts.failures }
@@ -60,7 +60,7 @@ pub whole_full : {T : Type 0} (x : T) (room n : ℕ) (old new : SourceState) →
 whole_full x room n old new full counts =
     record { empty_pulls = counts.empty_pulls; ends = not_found room n _ _ full counts.ends; failures = counts.failures }
 
--- a whole part was read, and then this is the answer
+-- A complete part was read, and then this is the result.
 pub whole_as_none : {T U : Type 0} (old new : SourceState) → CountsWhole {T = T} (Ok None) old new → CountsWhole {T = U} (Ok None) old new
 whole_as_none old new counts = record { empty_pulls = counts.empty_pulls; ends = counts.ends; failures = counts.failures }
 
@@ -75,7 +75,7 @@ pub whole_as_long : {T U : Type 0} (x : T) (n : ℕ) (h : Header) (old new : Sou
     → CountsWhole {T = U} (Err (TooLong n h)) old new
 whole_as_long x n h old new counts = record { empty_pulls = counts.empty_pulls; ends = counts.ends; failures = counts.failures }
 
--- one more part was read
+-- One more part was read.
 pub whole_then : {T U : Type 0} (x : T) (y : U) (old mid new : SourceState) → CountsWhole (Ok (Some x)) old mid → CountsPart (Ok y) mid new
     → CountsWhole (Ok (Some x)) old new
 whole_then x y old mid new first next = record {
@@ -84,7 +84,7 @@ whole_then x y old mid new first next = record {
   failures = next.failures ∙ first.failures;
 }
 
--- no more could be read, for the same reason
+-- No more could be read, for the same reason.
 same_failures : (T U : Type 0) (e : ReadFault) (n : ℕ) → failures_after {T = T} (Err e) n ≡ failures_after {T = U} (Err e) n
 same_failures T U (TooShort _) n = refl
 same_failures T U (TooLong _ _) n = refl

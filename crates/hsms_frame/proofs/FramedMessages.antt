@@ -1,4 +1,4 @@
--- Octets that spell a header or a message.
+-- Bytes that encode a header or a message.
 use Rattle.std.proofs.Common.{◌≡◌, ◌≤◌, ◌<◌, ◌+◌, ◌-◌, ◌^◌, ◌++◌, ℕ, List, [], ◌∷◌, length, take, drop, get_or, replicate, sym, ◌∙◌, ap, refl, arith}
 use Rattle.std.specs.Int.{w16, w32, to_be_bytes, from_be_bytes}
 use Rattle.std.proofs.lemmas.Nat.{be_bytes_2, be_bytes_4, from_be_bytes-to_be_bytes_2, from_be_bytes-to_be_bytes_4}
@@ -9,7 +9,7 @@ use Rattle.hsms_frame.specs.Header.{header_octets, IsHeader}
 use Rattle.hsms_frame.specs.Frame.{Frame, frame_octets, IsFrame, IsOctets, length_field, IsProperFront, IsFaultless}
 use Rattle.hsms_frame.proofs.Octets.{IsOctets-take, IsOctets-drop, IsOctets-append, IsOctets-replicate}
 
--- the header that ten octets spell
+-- The header that ten bytes encode.
 abbrev pub header_of : List ℕ → Header
 header_of octets = record {
   session = from_be_bytes w16 (take 2 octets);
@@ -27,7 +27,7 @@ header_of-header_octets h fits =
     ∙ ap (λ (n : ℕ). record { session = h.session; byte2 = h.byte2; byte3 = h.byte3; ptype = h.ptype; stype = h.stype; system = n })
     (from_be_bytes-to_be_bytes_4 h.system fits.system)
 
--- the four octets behind the session ID
+-- The four bytes after the session ID.
 four : (octets : List ℕ) → length octets ≡ 10
     → get_or octets 2 0 ∷ get_or octets 3 0 ∷ get_or octets 4 0 ∷ get_or octets 5 0 ∷ drop 6 octets ≡ drop 2 octets
 four octets size =
@@ -62,11 +62,11 @@ IsHeader-header_of octets fits = record {
   system = (let a = IsOctets-drop 6 octets fits in omega (arith, a 0, a 1, a 2, a 3));
 }
 
--- what stands behind the length field and the header
+-- The bytes after the length field and the header.
 abbrev pub subsequent : List ℕ → List ℕ
 subsequent octets = drop 10 (drop 4 octets)
 
--- a length field, a header and a text at the front of an input are a message
+-- A length field, a header and a text at the front of an input are a message.
 pub encodes_to : (input text : List ℕ) (h : Header) → 14 ≤ length input → IsOctets (take 4 input)
     → length_field input ≡ 10 + length text → take 10 (drop 4 input) ≡ header_octets h → text ≡ take (length text) (subsequent input)
     → input ≡ frame_octets (record { header = h; text = text }) ++ drop (length text) (subsequent input)
@@ -86,11 +86,11 @@ encodes_to input text h there fits field header front =
     ∙ take-append-drop 4 input
     )
 
--- how many octets those are
+-- The number of bytes after the length field and the header.
 pub length-subsequent : (octets : List ℕ) → length (subsequent octets) ≡ length octets - 14
 length-subsequent octets = omega (arith, length-drop 10 (drop 4 octets), length-drop 4 octets)
 
--- octets of the length that their length field counts are a message
+-- Bytes with the length that their length field states are a message.
 pub whole : (octets : List ℕ) → IsOctets octets → length octets ≡ 4 + length_field octets → 10 ≤ length_field octets
     → (f : Frame) × IsFrame f × (frame_octets f ≡ octets)
 whole octets fits size enough =
@@ -112,7 +112,7 @@ whole octets fits size enough =
       sym (encoded_bytes ∙ ap (λ x. frame_octets (record { header = h; text = text }) ++ x) none ∙ append-nil (frame_octets (record { header = h; text = text }))),
     )
 
--- octets that reach into a message and not to its end
+-- Bytes that reach into a message and not to its end.
 pub cut_within : (octets : List ℕ) → IsOctets octets → 4 ≤ length octets → 10 ≤ length_field octets
     → length octets < 4 + length_field octets → IsProperFront octets
 cut_within octets fits there enough short =
@@ -125,7 +125,7 @@ cut_within octets fits there enough short =
     let found = whole all (IsOctets-append octets more fits (IsOctets-replicate m 0 (omega arith))) (omega arith) (omega arith) in
     (found.0, more, found.1, (λ none. let size : length more ≡ 0 = ap length none in absurd (omega arith)), found.2)
 
--- a front of a front
+-- A prefix of such bytes.
 cut_shorter : (octets more : List ℕ) → IsProperFront (octets ++ more) → IsProperFront octets
 cut_shorter octets more (f, rest, fits, some, same) = (
   f,
@@ -136,7 +136,7 @@ cut_shorter octets more (f, rest, fits, some, same) = (
   same ∙ append_assoc octets more rest,
 )
 
--- three octets or fewer
+-- Three bytes or fewer.
 pub cut_early : (octets : List ℕ) → IsOctets octets → length octets < 4 → IsProperFront octets
 cut_early octets fits short =
     let pad : List ℕ = replicate (3 - length octets) 0 in
@@ -153,7 +153,8 @@ cut_early octets fits short =
     let big : 255 ≤ length_field long = omega arith in
     cut_shorter octets pad (cut_shorter front (255 ∷ []) (cut_within long long_fits (omega arith) (omega arith) (omega arith)))
 
--- no fault where the length field, once it is there, counts a header, and once the header is there, is within the limit
+-- There is no error if the length field, once present, is large enough for a header. Once the header is present, the
+-- field is also within the limit.
 pub faultless : (max : ℕ) (octets : List ℕ) → (4 ≤ length octets → 10 ≤ length_field octets)
     → (14 ≤ length octets → length_field octets ≤ max) → IsFaultless max octets
 faultless max octets enough within = record {

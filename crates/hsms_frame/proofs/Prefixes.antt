@@ -1,4 +1,4 @@
--- What stands at the front of pending octets.
+-- What is at the front of pending bytes.
 use Rattle.std.proofs.Common.{◌≡◌, ◌≤◌, ◌<◌, ◌+◌, ◌^◌, ◌++◌, ℕ, zero, suc, true, false, List, length, take, drop, Some, Ok, Err, refl, sym, ◌∙◌, ap, subst, arith}
 use Rattle.std.proofs.lemmas.List.{length-take-le, length-drop, drop-drop}
 use Rattle.hsms_frame.specs.declared.header.Header.{Header}
@@ -9,17 +9,18 @@ use Rattle.hsms_frame.proofs.Octets.{IsOctets-take, IsOctets-drop}
 use Rattle.hsms_frame.proofs.FramedMessages.{subsequent, encodes_to, cut_within, cut_early, faultless}
 use Rattle.hsms_frame.proofs.ReadResults.{subsequent-drop}
 
--- fewer than four octets
+-- Fewer than four bytes.
 pub cut_in_field : (max : ℕ) (octets : List ℕ) → IsOctets octets → length octets < 4 → IsFaultless max octets × IsProperFront octets
 cut_in_field max octets fits short = (faultless max octets (λ there. absurd (omega arith)) (λ there. absurd (omega arith)), cut_early octets fits short)
 
--- a length field that counts a header, within the limit once the header is there, and not all octets that it counts
+-- A length field that is large enough for a header, and within the limit once the header is present, and fewer bytes
+-- than it states.
 pub cut_after_field : (max : ℕ) (octets : List ℕ) → IsOctets octets → 4 ≤ length octets → 10 ≤ length_field octets
     → (14 ≤ length octets → length_field octets ≤ max) → length octets < 4 + length_field octets → IsFaultless max octets × IsProperFront octets
 cut_after_field max octets fits there enough within short =
     (faultless max octets (λ _. enough) within, cut_within octets fits there enough short)
 
--- a message that is there whole
+-- A complete message.
 pub whole_at_front : (max : ℕ) (octets text : List ℕ) (h : Header) (size : ℕ) → IsFrontOf max octets h size → text ≡ take size (drop 14 octets)
     → FramesAs max octets (Ok (Some (record { header = h; text = text }))) (drop (14 + length text) octets)
 whole_at_front max octets text h size front same =
@@ -43,7 +44,7 @@ whole_at_front max octets text h size front same =
       omega arith,
     )
 
--- the same where its text, which isn't empty, finds no memory
+-- A complete message whose nonempty text cannot be allocated.
 pub whole_unread : (max : ℕ) (octets : List ℕ) (h : Header) (size : ℕ) → IsFrontOf max octets h size → 0 < size
     → FramesAs max octets (Err Memory) octets
 whole_unread max octets h size front some =

@@ -1,4 +1,4 @@
--- The answers of a read, by where it stops.
+-- The results of a read, by where it stops.
 use Rattle.std.proofs.Common.{◌≡◌, ◌≢◌, ◌≤◌, ◌<◌, ◌+◌, ◌-◌, ℕ, List, [], length, take, drop, Some, Ok, Err, refl, ◌^◌, sym, ◌∙◌, ap, subst, arith}
 use Rattle.std.specs.Prelude.{Option}
 use Rattle.std.proofs.lemmas.List.{length-drop, drop-drop, length-take-le, take-append-drop, take-append-le}
@@ -19,7 +19,7 @@ subsequent-drop input = drop-drop 10 4 input
 pub nonempty : (input : List ℕ) → 0 < length input → input ≢ []
 nonempty input some none = let size : length input ≡ 0 = ap length none in absurd (omega arith)
 
--- a front was taken that has the length field, and doesn't reach the end of the message
+-- A prefix was taken that has the length field and ends before the end of the message.
 stops_within : (max : ℕ) (input : List ℕ) (n : ℕ) (left : Option (List ℕ)) → 4 ≤ n → n ≤ length input → IsOctets (take n input)
     → 10 ≤ length_field input → (14 ≤ n → length_field input ≤ max) → n < 4 + length_field input → left ≡ Some (drop n input)
     → StopsWithin max input left
@@ -36,13 +36,13 @@ stops_within max input n left there within fits enough small short known_input =
       cut_within taken fits (omega arith) (omega arith) (omega arith),
     )
 
--- the octets of two parts at the front
+-- The two parts at the front are bytes.
 front_fits : (n k : ℕ) (input : List ℕ) → IsOctets (take n input) → IsOctets (take k (drop n input)) → IsOctets (take (n + k) input)
 front_fits n k input a b =
     let P : List ℕ → Type 0 = λ xs. IsOctets xs in
     subst P (sym (take-add n k input)) (IsOctets-append (take n input) (take k (drop n input)) a b)
 
--- the input ends in the length field
+-- The input ends in the length field.
 pub cut_at_length : (max : ℕ) (input : List ℕ) (e : ReadFault) (left : Option (List ℕ))
     → TakesLength input (Err e) left → ReadsAs max input (Err e) left
 cut_at_length max input CutOff left h = (
@@ -64,7 +64,7 @@ cut_at_length max input Memory left h = absurd h
 cut_at_length max input (TooShort n) left h = absurd h
 cut_at_length max input (TooLong n k) left h = absurd h
 
--- the input ends in the header
+-- The input ends in the header.
 pub cut_at_header : {T : Type 0} (view : T → List ℕ) (max : ℕ) (input : List ℕ) (e : ReadFault) (left : Option (List ℕ))
     → 4 ≤ length input → 10 ≤ length_field input → IsOctets (take 4 input) → (e ≡ Memory → ⊥)
     → TakesFront view 10 (drop 4 input) (Err e) left → ReadsAs max input (Err e) left
@@ -83,7 +83,7 @@ cut_at_header view max input Memory left there enough fits ample h = absurd (amp
 cut_at_header view max input (TooShort n) left there enough fits ample h = absurd h
 cut_at_header view max input (TooLong n k) left there enough fits ample h = absurd h
 
--- the input ends in the text, or memory does
+-- The input ends in the text, or its allocation fails.
 pub cut_at_text : {T : Type 0} (view : T → List ℕ) (max : ℕ) (input : List ℕ) (n : ℕ) (e : ReadFault) (left : Option (List ℕ))
     → 14 ≤ length input → n ≡ length_field input → 10 ≤ n → n ≤ max → IsOctets (take 4 input) → IsOctets (take 10 (drop 4 input))
     → TakesFront view (n - 10) (subsequent input) (Err e) left → ReadsAs max input (Err e) left
@@ -110,11 +110,11 @@ cut_at_text view max input n Memory left there field enough within fits header_f
 cut_at_text view max input n (TooShort m) left there field enough within fits header_fits h = absurd h
 cut_at_text view max input n (TooLong m k) left there field enough within fits header_fits h = absurd h
 
--- the length field is too small
+-- The length field is too small.
 pub too_short : (input : List ℕ) (n : ℕ) → 4 ≤ length input → n ≡ length_field input → n < 10 → IsTooShort input n
 too_short input n there field short = record { there = there; field = field; short = short }
 
--- the length field is past the limit
+-- The length field exceeds the limit.
 pub too_long : (max : ℕ) (input : List ℕ) (n : ℕ) (h : Header) → 14 ≤ length input → n ≡ length_field input
     → header_octets h ≡ take 10 (drop 4 input) → IsHeader h → 10 ≤ n → max < n → IsTooLong max input n h
 too_long max input n h there field header fits enough long = record {
@@ -126,7 +126,7 @@ too_long max input n h there field header fits enough long = record {
   long = long;
 }
 
--- a message is there
+-- There is a message.
 pub read_whole : (max : ℕ) (input text : List ℕ) (n : ℕ) (h : Header) (left : Option (List ℕ)) → 14 ≤ length input
     → n ≡ length_field input → 10 ≤ n → n ≤ max → n < 2 ^ 32 → IsOctets (take 4 input) → header_octets h ≡ take 10 (drop 4 input) → IsHeader h
     → TakesFront (λ t. t) (n - 10) (subsequent input) (Ok text) left

@@ -1,4 +1,4 @@
--- Each input has an answer that is no refusal, and so has what is pending.
+-- Each input has a result that is not a refusal, and so have pending bytes.
 use Rattle.std.proofs.Common.{◌≡◌, ◌≢◌, ◌≤◌, ◌<◌, ◌+◌, ◌-◌, ◌^◌, ℕ, List, [], length, take, drop, Some, None, Ok, Err, refl, sym, ◌∙◌, ap, subst, inl, inr, arith}
 use Rattle.std.specs.Prelude.{Option, Result}
 use Rattle.std.proofs.lemmas.Bool.{cases_lt}
@@ -17,7 +17,7 @@ use Rattle.hsms_frame.proofs.ReadResults.{nonempty, too_short, too_long, read_wh
 use Rattle.hsms_frame.proofs.Prefixes.{cut_in_field}
 use Rattle.hsms_frame.proofs.Determined.{one_answer, one_framed}
 
--- an answer to an input, which the input decides
+-- A result for an input that the input decides.
 abbrev Decided : ℕ → List ℕ → Type 0
 Decided max input =
     (answer : Result (Option Frame) ReadFault) × (left : Option (List ℕ)) × (IsRefusal answer → ⊥) × ReadsAs max input answer left
@@ -38,11 +38,11 @@ cut_decides : IsRefusal (Err CutOff) → ⊥
 cut_decides (inl e) = absurd cc
 cut_decides (inr e) = absurd cc
 
--- the input ends within a message
+-- The input ends within a message.
 ends_within : (max : ℕ) (input : List ℕ) → 0 < length input → IsFaultless max input → IsProperFront input → Decided max input
 ends_within max input some none front = (Err CutOff, Some [], cut_decides, (nonempty input some, none, front, refl))
 
--- a message is there whole
+-- There is a complete message.
 whole_message : (max : ℕ) (input : List ℕ) → IsOctets input → 14 ≤ length input → 10 ≤ length_field input → length_field input ≤ max
     → 4 + length_field input ≤ length input → Decided max input
 whole_message max input fits there enough within whole =
@@ -61,7 +61,7 @@ whole_message max input fits there enough within whole =
           (omega (arith, length-subsequent input), refl, IsOctets-take size (subsequent input) (IsOctets-drop 10 (drop 4 input) (IsOctets-drop 4 input fits)), refl),
     )
 
--- the header is there
+-- The header is present.
 past_header : (max : ℕ) (input : List ℕ) → IsOctets input → 14 ≤ length input → 10 ≤ length_field input → Decided max input
 past_header max input fits there enough =
     let front : List ℕ = take 10 (drop 4 input) in
@@ -84,7 +84,7 @@ past_header max input fits there enough =
       ]
     ]
 
--- the length field is there
+-- The length field is present.
 past_field : (max : ℕ) (input : List ℕ) → IsOctets input → 4 ≤ length input → Decided max input
 past_field max input fits there =
     elim (cases_lt (length_field input) 10) [
@@ -112,7 +112,7 @@ some_answer max input fits =
       | inr there ↦ past_field max input fits there
     ]
 
--- an answer tells what is left
+-- A result determines what is left.
 one_left : (max : ℕ) (input : List ℕ) (answer : Result (Option Frame) ReadFault) (left other : Option (List ℕ)) → (IsRefusal answer → ⊥)
     → ReadsAs max input answer left → ReadsAs max input answer other → left ≡ other
 one_left max input (Ok (Some f)) left other decides h k =
@@ -135,7 +135,7 @@ no_other max input a b left other decides decides_too h k =
     let P : Result (Option Frame) ReadFault → Type 0 = λ x. ReadsAs max input x left in
     (same, one_left max input b left other decides_too (subst P same h) k)
 
--- the same of what is pending
+-- A result of a read is a result for pending bytes.
 as_pending : (max : ℕ) (pending : List ℕ) (answer : Result (Option Frame) ReadFault) (left : Option (List ℕ)) → IsOctets pending
     → (IsRefusal answer → ⊥) → ReadsAs max pending answer left
     → (framed : Result (Option Frame) FrameFault) × (rest : List ℕ) × (framed ≢ Err framing.Memory) × FramesAs max pending framed rest

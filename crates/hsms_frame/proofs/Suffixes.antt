@@ -1,4 +1,4 @@
--- Octets that are read behind others, in one vector.
+-- Bytes that are read after others, in one vector.
 use Rattle.std.proofs.Common.{◌≡◌, ◌≤◌, ◌<◌, ◌+◌, ◌-◌, ◌++◌, ◌∙◌, ℕ, Bool, List, Ok, Err, length, take, drop, true, false, refl, sym, ap, subst, max, arith}
 use Rattle.std.specs.Prelude.{Option, Result, IfOk, OnErr, IsErr, nat_lt, if◌then◌else◌}
 use Rattle.std.specs.Result.{IsErrAnd}
@@ -13,13 +13,13 @@ use Rattle.hsms_frame.specs.ReadAhead.{ReadsMore, ends_after_more, failures_afte
 use Rattle.hsms_frame.specs.CallCounts.{next_count}
 use Rattle.hsms_frame.specs.Io.{Stays, Takes, IfRecorded, ends_after}
 
--- a part that begins later
+-- A part that begins later.
 pub slice_range_advance : (xs : List ℕ) (i j n : ℕ) → i + n ≤ j → slice_range xs (i + n) j ≡ drop n (slice_range xs i j)
 slice_range_advance xs i j n within =
     let len : j - i ≡ n + (j - (i + n)) = omega arith in
     sym (ap (λ k. drop n (take k (drop i xs))) len ∙ drop-take n (j - (i + n)) (drop i xs) ∙ ap (take (j - (i + n))) (drop-drop n i xs))
 
--- the front of octets of which a part was written: what stands before the part, and the front of the part
+-- The front of bytes of which a part was written: what precedes the part, and the front of the part.
 pub front_of_written : (before part after rest : List ℕ) (end n len : ℕ) → length before ≡ end → n ≤ length part → end + n ≤ len
     → take (end + n) (take len (before ++ (part ++ after) ++ rest)) ≡ before ++ take n part
 front_of_written before part after rest end n len size within short =
@@ -29,20 +29,20 @@ front_of_written before part after rest end n len size within short =
     ∙ ap (λ k. take (k + n) whole) (sym size) ∙ take-append-add before (part ++ after) n
     ∙ ap (λ (xs : List ℕ). before ++ xs) (take-append-le n part after within)
 
--- octets were read behind the others
+-- Bytes were read after the others.
 pub more_read : (ahead buffer now input : List ℕ) (n : ℕ) → now ≡ ahead ++ take n buffer → take n buffer ≡ take n input → ahead ++ input ≡ now ++ drop n input
 more_read ahead buffer now input n is same =
     ap (λ (xs : List ℕ). ahead ++ xs) (sym (take-append-drop n input)) ∙ sym (append_assoc ahead (take n input) (drop n input))
     ∙ ap (λ (xs : List ℕ). ahead ++ xs ++ drop n input) (sym same) ∙ ap (λ (xs : List ℕ). xs ++ drop n input) (sym is)
 
--- what stands before the part is kept
+-- The bytes before the part are preserved.
 pub front_is_kept : (before subsequent rest : List ℕ) (end len : ℕ) → length before ≡ end → end ≤ len
     → take end (take len (before ++ subsequent ++ rest)) ≡ before
 front_is_kept before subsequent rest end len size within =
     take-take end len (before ++ subsequent ++ rest) within
     ∙ take-append-le end (before ++ subsequent) rest (omega (arith, size, length-append before subsequent)) ∙ take_at before subsequent end size
 
--- a pull to behind the others
+-- A pull to the space after the others.
 pub reads_after : (r : Result ℕ Failed) (old new : Option (List ℕ)) (items whole part after rest : List ℕ) (end len : ℕ)
     → whole ≡ items → end ≤ length whole → end + length part ≤ len → IfOk r (λ n. n ≤ length part) → IfOk r (λ n. Takes old new n part)
     → IfOk r (λ n. IfRecorded old
@@ -54,12 +54,12 @@ reads_after (Ok n) old new items whole part after rest end len same fits room wi
     (drop n input, t.2, more_read (take end items) part _ input n now t.1)
 reads_after (Err e) old new items whole part after rest end len same fits room within takes = tt
 
--- such a pull stays within its room
+-- Such a pull stays within its room.
 pub within_after : (r : Result ℕ Failed) (room end most : ℕ) → room + end ≡ most → IfOk r (λ n. n ≤ room) → IfOk r (λ n. end + n ≤ most)
 within_after (Ok n) room end most is within = omega (arith, within)
 within_after (Err e) room end most is within = tt
 
--- with room, it finds the end where it gives nothing
+-- With room, it finds the end if it returns nothing.
 pub none_after : (r : Result ℕ Failed) (room : ℕ) (X : Type 0) → 0 < room → IfOk r (λ n. n ≡ 0 → 0 < room → X) → IfOk r (λ n. n ≡ 0 → X)
 none_after (Ok n) room X some end = λ none. end none some
 none_after (Err e) room X some end = tt
@@ -73,18 +73,18 @@ pub ends_stay : (r : Result ℕ Failed) (room old new : ℕ) → new ≡ ends_af
 ends_stay (Ok n) room old new step = tt
 ends_stay (Err e) room old new step = step
 
--- a part from the front on
+-- A part from the front on.
 front_of_range : (xs : List ℕ) (end : ℕ) → slice_range xs 0 end ≡ take end xs
 front_of_range xs end =
     let same : end - 0 ≡ end = omega arith in
     ap (λ k. take k xs) same
 
--- how many octets a part has
+-- The number of bytes of a part.
 pub length_of_range : (xs now : List ℕ) (place end : ℕ) → place ≤ end → end ≤ length xs → slice_range xs place end ≡ now → length now ≡ end - place
 length_of_range xs now place end order within is =
     sym (ap length is) ∙ omega (arith, length-take (end - place) (drop place xs), length-drop place xs)
 
--- a part that was moved to the front is there once there is more room behind it
+-- A part that was moved to the front is present once there is more room after it.
 pub moved_is_there : (own whole moved rest grown now : List ℕ) (place end count len : ℕ) → whole ≡ own → slice_range own place end ≡ now
     → length whole ≡ len → end ≤ len → length moved ≡ length whole → count ≡ end - place → take count moved ≡ slice_range whole place end
     → take count grown ≡ take count (take len (moved ++ rest)) → slice_range grown 0 count ≡ now
@@ -92,11 +92,11 @@ moved_is_there own whole moved rest grown now place end count len same view size
     front_of_range grown count ∙ kept ∙ take-take count len (moved ++ rest) (omega arith) ∙ take-append-le count moved rest (omega arith)
     ∙ front ∙ ap (λ xs. slice_range xs place end) same ∙ view
 
--- and where octets were read behind it
+-- It is also present after bytes were read after it.
 pub still_there : (grown new now : List ℕ) (count : ℕ) → slice_range grown 0 count ≡ now → take count new ≡ take count grown → slice_range new 0 count ≡ now
 still_there grown new now count held kept = front_of_range new count ∙ kept ∙ sym (front_of_range grown count) ∙ held
 
--- what was read stands behind it
+-- The bytes that were read follow it.
 pub reads_more : (grown new now input : List ℕ) (left : Option (List ℕ)) (count n given : ℕ) → slice_range grown 0 count ≡ now
     → ReadsMore (take count grown) input (take (count + n) new) left → given ≡ n → ReadsMore now input (slice_range new 0 (count + given)) left
 reads_more grown new now input left count n given held (rest, left_is, same) all = (
@@ -106,7 +106,7 @@ reads_more grown new now input left count n given held (rest, left_is, same) all
       ∙ ap (λ (xs : List ℕ). xs ++ rest) (sym (front_of_range new (count + n))) ∙ ap (λ k. slice_range new 0 (count + k) ++ rest) (sym all),
 )
 
--- how many there are then
+-- The number of bytes then.
 pub count_ahead : (new now : List ℕ) (count n : ℕ) → length now ≡ count → count + n ≤ length new → length (slice_range new 0 (count + n)) ≡ length now + n
 count_ahead new now count n size within = ap length (front_of_range new (count + n)) ∙ length-take-le (count + n) new within ∙ omega arith
 
@@ -131,7 +131,7 @@ none_ahead new now count n given X held end all is =
     let same : count + given ≡ count = omega (arith, none, all) in
     (ap (λ k. slice_range new 0 k) same ∙ held, end none)
 
--- as many as before are within the bound
+-- As many bytes as before are within the bound.
 pub bound_kept : (view now : List ℕ) → view ≡ now → length view ≤ most_ahead (length now)
 bound_kept view now same = omega (arith, ap length same)
 
@@ -141,12 +141,12 @@ bound_ahead new now count n given most size is within all =
     let cut : length (take (count + given) new) ≤ count + given = omega (arith, length-take (count + given) new) in
     omega (arith, ap length (front_of_range new (count + given)), cut, size, within, is, all)
 
--- what was read lies within the room, which is as large as before, at least
+-- The bytes that were read are within the room, which is at least as large as before.
 pub within_room : (count n given most own grown new : ℕ) → most ≡ max (count + 65536) 131072 → count + n ≤ most → count + 65536 ≤ grown
     → 131072 ≤ own → own ≤ grown → new ≡ grown → given ≡ n → (0 ≤ count + given) × (count + given ≤ new) × (131072 ≤ new)
 within_room count n given most own grown new is within room large longer kept all = (omega arith, omega arith, omega arith)
 
--- the ways out of a read ahead that failed
+-- The exits of a read ahead that failed.
 pub no_answer : {E : Type 0} (X : Type 0) (r : Result Bool E) (b : Bool) → IsErr r → r ≡ Ok b → X
 no_answer X (Ok x) b fails is = absurd cc
 no_answer X (Err e) b fails is = absurd cc

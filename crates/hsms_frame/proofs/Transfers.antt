@@ -1,4 +1,4 @@
--- Steps of a transfer that goes on where the one before it stopped.
+-- Steps of a transfer that continues where the step before it stopped.
 use Rattle.std.proofs.Common.{Ok, Err, ◌≡◌, ◌≤◌, ◌+◌, ◌-◌, ◌++◌, ℕ, List, length, take, drop, min, ◌^◌, Some, sym, ◌∙◌, ap, arith}
 use Rattle.std.specs.Prelude.{Option, Result, OnErr}
 use Rattle.std.proofs.lemmas.List.{length-take, drop_at, take_at, take_all, drop_all, drop-drop, length-append, length-drop, length-take-le, take-append-le, append-nil, append_assoc}
@@ -8,7 +8,7 @@ use Rattle.std.specs.Prelude.{◌<◌}
 use Rattle.std.proofs.lemmas.Bool.Decides.{nat_tests}
 use Rattle.hsms_frame.specs.Io.{Takes, TakesFewer, Stays, Grows, IsAtEnd, ends_after, ends_after_fill}
 
--- what a buffer has at its front once a part behind the front was written
+-- The front of a buffer after a part after the front was written.
 pub take-put_mid_add : (n k m : ℕ) (buffer part : List ℕ) → n ≤ length buffer → k ≤ length part
     → take (n + k) (put_mid n m buffer part) ≡ take n buffer ++ take k part
 take-put_mid_add n k m buffer part within fits =
@@ -19,7 +19,7 @@ take-put_mid_add n k m buffer part within fits =
     ∙ ap (λ x. take n buffer ++ take k x) (drop_at (take n buffer) (part ++ post) n front)
     ∙ ap (λ x. take n buffer ++ x) (take-append-le k part post fits)
 
--- what stands behind the octets that were written to a room from a place on
+-- What follows the bytes that were written to a room from an index on.
 pub after_written : (place n size : ℕ) (old part given after : List ℕ) → place ≤ length old → size ≡ length old → length given ≡ n
     → n ≤ length old - place → part ≡ given ++ drop n (take (length old - place) (drop place old))
     → drop (place + n) (take size (put_mid place (length old - place) old part ++ after)) ≡ drop n (drop place old)
@@ -38,7 +38,7 @@ after_written place n size old part given after within whole count fits is =
     ∙ ap (λ x. drop n x) (drop_at (take place old) tail place front)
     ∙ drop_at given (drop n rest) n count
 
--- a pull into the part of a buffer behind what was filled
+-- A pull into the part of a buffer after the filled part.
 pub takes_more : (old mid new : Option (List ℕ)) (n k m : ℕ) (buffer part : List ℕ) → n ≤ length buffer → k ≤ length part
     → Takes old mid n buffer → Takes mid new k part → Takes old new (n + k) (put_mid n m buffer part)
 takes_more old mid new n k m buffer part within fits first next octets known_input =
@@ -52,7 +52,7 @@ takes_more old mid new n k m buffer part within fits first next octets known_inp
     ∙ ap (λ x. x ++ take k part) a.1 ∙ ap (λ x. take n octets ++ x) b.1 ∙ sym (take-add n k octets) in
     (omega arith, same, b.2 ∙ ap Some (drop-drop k n octets))
 
--- a pull that failed takes none, and leaves what was filled
+-- A pull that failed takes nothing, and preserves the filled part.
 takes_none : (old mid new : Option (List ℕ)) (n m : ℕ) (buffer part : List ℕ) → n ≤ length buffer
     → Takes old mid n buffer → Stays mid new → Takes old new n (put_mid n m buffer part)
 takes_none old mid new n m buffer part within first stays octets known_input =
@@ -63,20 +63,20 @@ takes_none old mid new n m buffer part within first stays octets known_input =
       stays (drop n octets) a.2,
     )
 
--- so less than the buffer was filled
+-- So less than the buffer was filled.
 pub stops_short : {T E : Type 0} (r : Result T E) (old mid new : Option (List ℕ)) (n m : ℕ) (buffer part : List ℕ) → n ≤ length buffer
     → n < length (put_mid n m buffer part) → Takes old mid n buffer → Stays mid new → OnErr r (TakesFewer old new (put_mid n m buffer part))
 stops_short (Ok x) old mid new n m buffer part within less first stays = tt
 stops_short (Err e) old mid new n m buffer part within less first stays = (n, less, takes_none old mid new n m buffer part within first stays)
 
--- a give of what was left of a slice
+-- A give of the rest of a slice.
 pub grows_more : (old mid new : Option (List ℕ)) (n k : ℕ) (octets : List ℕ)
     → Grows old mid (take n octets) → Grows mid new (take k (drop n octets)) → Grows old new (take (n + k) octets)
 grows_more old mid new n k octets first next before known_input =
     next (before ++ take n octets) (first before known_input)
     ∙ ap Some (append_assoc before (take n octets) (take k (drop n octets)) ∙ ap (λ x. before ++ x) (sym (take-add n k octets)))
 
--- a pull that found the end: what was taken before is all that there was
+-- A pull that found the end: the bytes that were taken before are all bytes.
 pub ends_at : (old mid : Option (List ℕ)) (n : ℕ) (buffer : List ℕ) → Takes old mid n buffer → IsAtEnd mid
     → (octets : List ℕ) → old ≡ Some octets → length octets ≡ n
 ends_at old mid n buffer takes end octets known_input =
@@ -85,19 +85,19 @@ ends_at old mid n buffer takes end octets known_input =
     let none : length (drop n octets) ≡ 0 = ap length (end (drop n octets) t.2) in
     omega (arith, length-drop n octets, none, within)
 
--- a saturated count that rises by one stays within a bound that rises by at least one
+-- A saturated count that increases by one stays within a bound that increases by at least one.
 pub counts_more : (old mid new n k : ℕ) → mid ≤ old + n → new ≡ min (mid + 1) (2 ^ 64 - 1) → (k ≡ 0 → ⊥) → new ≤ old + (n + k)
 counts_more old mid new n k within step some = omega (arith, step, within, some)
 
--- the end of what a call moved lies within the slice
+-- The end of what a call moved is within the slice.
 pub part_within : (n k : ℕ) (octets : List ℕ) → n ≤ length octets → k ≤ length (take (length octets - n) (drop n octets)) → n + k ≤ length octets
 part_within n k octets within fits = omega (arith, length-take (length octets - n) (drop n octets), length-drop n octets, fits)
 
--- a pull that gave something didn't find the end
+-- A pull that returned bytes did not find the end.
 pub no_end : (room n ends new : ℕ) → (n ≡ 0 → ⊥) → new ≡ ends_after room (Ok n) ends → new ≡ ends
 no_end room n ends new some step = grind (arith, nat_tests, step, some)
 
--- a pull with room that gave nothing found it
+-- A pull with room that returned nothing found the end.
 pub found_end : (room part n filled ends new : ℕ) → 0 < part → n ≡ 0 → filled < room → new ≡ ends_after part (Ok n) ends
     → new ≡ ends_after_fill room (Ok filled) ends
 found_end room part n filled ends new some none less step = grind (arith, nat_tests, step, none, some, less)

@@ -2,7 +2,7 @@
 use Rattle.std.specs.Prelude.{ℕ, Bool, ◌+◌, ◌==◌, if◌then◌else◌}
 use Rattle.hsms_frame.specs.declared.header.Header.{Header}
 
--- data: the device, the W bit and the stream, the function
+-- The header of a data message: the device ID, the W bit and the stream, the function.
 abbrev pub data_header_of : ℕ → ℕ → ℕ → Bool → ℕ → Header
 data_header_of device stream function wait system = record {
   session = device;
@@ -13,7 +13,7 @@ data_header_of device stream function wait system = record {
   system = system;
 }
 
--- control but Reject: session ID ffff, and byte 3 where it carries something
+-- The header of a control message except Reject: session ID ffff, and byte 3 if it is used.
 abbrev pub control_header_of : ℕ → ℕ → ℕ → Header
 control_header_of stype byte3 system = record {
   session = 65535;
@@ -24,8 +24,8 @@ control_header_of stype byte3 system = record {
   system = system;
 }
 
--- Reject: session ID and system bytes of the rejected message, its PType where that is the reason (2) and else its
--- SType, and the reason
+-- The header of a Reject: session ID and system bytes of the rejected message, its PType if that is the reason (2) and
+-- otherwise its SType, and the reason.
 abbrev pub reject_header_of : Header → ℕ → Header
 reject_header_of h reason = record {
   session = h.session;

@@ -1,4 +1,4 @@
--- The words for what is wrong with a message.
+-- The names of the errors of a message.
 use Rattle.std.specs.Prelude.{ℕ, List, ◌++◌, codes, decimal}
 use Rattle.hsms_frame.specs.declared.fault.AheadFault.{AheadFault}
 use Rattle.hsms_frame.specs.declared.fault.AheadFault.TheVariants as ahead
@@ -9,13 +9,13 @@ use Rattle.hsms_frame.specs.declared.fault.ReadFault.TheVariants as read
 use Rattle.hsms_frame.specs.declared.fault.WriteFault.{WriteFault}
 use Rattle.hsms_frame.specs.declared.fault.WriteFault.TheVariants as write
 
--- the name of a fault of octets, and the length that it tells
+-- The name of an error in bytes, and its length.
 abbrev pub frame_fault_text : FrameFault → List ℕ
 frame_fault_text (frame.TooShort length) = codes "TooShort length=" ++ decimal length
 frame_fault_text (frame.TooLong length header) = codes "TooLong length=" ++ decimal length
 frame_fault_text frame.Memory = codes "Memory"
 
--- the name of a fault of a reading, and the length that it tells
+-- The name of an error of a read, and its length.
 abbrev pub read_fault_text : ReadFault → List ℕ
 read_fault_text (read.TooShort length) = codes "TooShort length=" ++ decimal length
 read_fault_text (read.TooLong length header) = codes "TooLong length=" ++ decimal length
@@ -23,12 +23,12 @@ read_fault_text read.Memory = codes "Memory"
 read_fault_text read.CutOff = codes "CutOff"
 read_fault_text read.Read = codes "Read"
 
--- the name of a fault of a writing, and the length that it tells
+-- The name of an error of a write, and its length.
 abbrev pub write_fault_text : WriteFault → List ℕ
 write_fault_text (write.TooLong length header) = codes "TooLong length=" ++ decimal length
 write_fault_text write.Write = codes "Write"
 
--- the name of a fault of a reading ahead
+-- The name of an error of a read ahead.
 abbrev pub ahead_fault_text : AheadFault → List ℕ
 ahead_fault_text ahead.Read = codes "Read"
 ahead_fault_text ahead.Memory = codes "Memory"

@@ -1,4 +1,4 @@
--- Messages from octets that come in pieces.
+-- Messages from bytes that come in chunks.
 use Rattle.std.specs.Prelude.{◌≡◌, ◌≤◌, ◌<◌, ◌+◌, ◌++◌, ℕ, List, length, take, drop, Option, Some, None, Result, Ok, Err}
 use Rattle.hsms_frame.specs.declared.header.Header.{Header}
 use Rattle.hsms_frame.specs.declared.fault.FrameFault.{FrameFault}
@@ -6,16 +6,16 @@ use Rattle.hsms_frame.specs.declared.fault.FrameFault.TheVariants.{TooShort, Too
 use Rattle.hsms_frame.specs.Header.{header_octets, IsHeader}
 use Rattle.hsms_frame.specs.Frame.{Frame, frame_octets, length_field, IsFrame, IsOctets, IsTooShort, IsTooLong, IsFaultless, IsProperFront}
 
--- what a framer is known by: its limit, and the octets that belong to no message that was given
+-- The state of a framer: its limit, and the bytes that belong to no returned message.
 pub record FramerState : Type 0 where
   pub max : ℕ
   pub pending : List ℕ
 
--- the octets came in behind the pending ones
+-- Holds if the bytes were appended to the pending bytes.
 abbrev pub IsPushed : FramerState → List ℕ → FramerState → Type 0
 IsPushed old octets new = new ≡ record old { pending = old.pending ++ octets }
 
--- the answers to pending octets, each with what is pending afterwards
+-- Holds if this is a result for pending bytes, and the last argument is what is pending afterwards.
 abbrev pub FramesAs : ℕ → List ℕ → Result (Option Frame) FrameFault → List ℕ → Type 0
 FramesAs max pending (Ok (Some f)) rest = (pending ≡ frame_octets f ++ rest) × IsFrame f × (10 + length f.text ≤ max)
 FramesAs max pending (Ok None) rest = IsFaultless max pending × IsProperFront pending × (rest ≡ pending)
@@ -25,13 +25,13 @@ FramesAs max pending (Err Memory) rest =
     (f : Frame) × (more : List ℕ) × (pending ≡ frame_octets f ++ more) × IsFrame f × (10 + length f.text ≤ max)
     × (0 < length f.text) × (rest ≡ pending)
 
--- how many octets an answer takes away: those of the message that was given, or none
+-- How many bytes a result removes: those of the returned message, or none.
 abbrev pub size_of : Result (Option Frame) FrameFault → ℕ
 size_of (Ok (Some f)) = 14 + length f.text
 size_of (Ok None) = 0
 size_of (Err fault) = 0
 
--- the header and the size of the text of a message that is there whole
+-- Holds if a complete message is at the front, with this header and this size of its text.
 pub record IsFrontOf (max : ℕ) (octets : List ℕ) (h : Header) (size : ℕ) : Type 0 where
   pub there : 14 + size ≤ length octets
   pub field : length_field octets ≡ 10 + size
@@ -40,7 +40,7 @@ pub record IsFrontOf (max : ℕ) (octets : List ℕ) (h : Header) (size : ℕ) :
   pub header_fits : IsHeader h
   pub fits : IsOctets octets
 
--- what is found at the front of octets: a message that is there whole, a part of one, or a fault
+-- Holds if this is the result for the front of bytes: a complete message, a part of one, or an error.
 abbrev pub FrontAs : ℕ → List ℕ → Result (Option (Header × ℕ)) FrameFault → Type 0
 FrontAs max octets (Ok (Some front)) = IsFrontOf max octets front.0 front.1
 FrontAs max octets (Ok None) = IsFaultless max octets × IsProperFront octets

@@ -5,12 +5,12 @@ use Rattle.hsms_frame.specs.declared.header.Header.{Header}
 use Rattle.hsms_frame.specs.declared.kinds.Kind.{Kind}
 use Rattle.hsms_frame.specs.declared.kinds.Kind.TheVariants.{Primary, Reply, SelectReq, SelectRsp, LinktestReq, LinktestRsp, Reject, Separate, OtherSType, OtherPType}
 
--- the ten octets: session ID, byte 2, byte 3, PType, SType, system bytes
+-- The ten bytes: session ID, byte 2, byte 3, PType, SType, system bytes.
 abbrev pub header_octets : Header → List ℕ
 header_octets h =
     to_be_bytes w16 h.session ++ (h.byte2 ∷ h.byte3 ∷ h.ptype ∷ h.stype ∷ []) ++ to_be_bytes w32 h.system
 
--- each number of a header lies within its range
+-- Holds if each number of a header is within its range.
 pub record IsHeader (h : Header) : Type 0 where
   pub session : h.session < 2 ^ 16
   pub byte2 : h.byte2 < 2 ^ 8
@@ -19,19 +19,19 @@ pub record IsHeader (h : Header) : Type 0 where
   pub stype : h.stype < 2 ^ 8
   pub system : h.system < 2 ^ 32
 
--- the stream of a data message
+-- The stream of a data message.
 abbrev pub stream_of : Header → ℕ
 stream_of h = h.byte2 % 128
 
--- the function of a data message
+-- The function of a data message.
 abbrev pub function_of : Header → ℕ
 function_of h = h.byte3
 
--- the W bit of a data message
+-- The W bit of a data message.
 abbrev pub wait_of : Header → Bool
 wait_of h = nat_le 128 h.byte2
 
--- the kind of a message by its SType (SEMI E37, section 8.2.6), at PType 0
+-- The kind of a message by its SType (SEMI E37, section 8.2.6), at PType 0.
 abbrev pub kind_by_stype : ℕ → ℕ → Kind
 kind_by_stype stype function =
     if stype == 0 then (if function % 2 == 1 then Primary else Reply)
@@ -43,6 +43,6 @@ kind_by_stype stype function =
     else if stype == 9 then Separate
     else OtherSType
 
--- the kind of a message
+-- The kind of a message.
 abbrev pub kind_of : Header → Kind
 kind_of h = if h.ptype == 0 then kind_by_stype h.stype h.byte3 else OtherPType

@@ -1,4 +1,4 @@
--- What holds of messages, whatever the code does.
+-- Facts about messages that do not depend on the code.
 use Rattle.std.specs.Prelude.{◌≡◌, ◌≢◌, ◌++◌, ℕ, List, flat_map, Option, Result, Err}
 use Rattle.hsms_frame.specs.declared.header.Header.{Header}
 use Rattle.hsms_frame.specs.declared.fault.ReadFault.{ReadFault}
@@ -10,20 +10,20 @@ use Rattle.hsms_frame.specs.Reading.{ReadsAs, IsRefusal}
 use Rattle.hsms_frame.specs.Framing.{FramerState, FramesAs}
 use Rattle.hsms_frame.specs.Calls.{Call, PerformsAll, octets_of, message_of, IsDrained}
 
--- What spells a header is octets.
+-- The encoding of a header consists of bytes.
 abbrev pub HeadersAreOctets : Type 0
 HeadersAreOctets = (h : Header) → IsHeader h → IsOctets (header_octets h)
 
--- What spells a message is octets.
+-- The encoding of a message consists of bytes.
 abbrev pub MessagesAreOctets : Type 0
 MessagesAreOctets = (f : Frame) → IsFrame f → IsOctets (frame_octets f)
 
--- No message stands at the front of another, and no octets are two messages.
+-- No message is a prefix of another, and no bytes encode two messages.
 abbrev pub OneMessageAtFront : Type 0
 OneMessageAtFront =
     (f g : Frame) (x y : List ℕ) → IsFrame f → IsFrame g → frame_octets f ++ x ≡ frame_octets g ++ y → (f ≡ g) × (x ≡ y)
 
--- ---- exactly one answer to an input that is read, but for a refusal
+-- ---- an input that is read has exactly one result, unless a read or an allocation fails
 
 abbrev pub SomeAnswer : Type 0
 SomeAnswer =
@@ -37,7 +37,7 @@ OneAnswer =
     → (IsRefusal a → ⊥) → (IsRefusal b → ⊥) → ReadsAs max input a left → ReadsAs max input b other
     → (a ≡ b) × (left ≡ other)
 
--- ---- and to what is pending in a framer, but for want of memory
+-- ---- and so have the pending bytes of a framer, unless an allocation fails
 
 abbrev pub SomeAnswerToPending : Type 0
 SomeAnswerToPending =
@@ -53,14 +53,15 @@ OneAnswerToPending =
 
 -- ---- any calls of a framer, in order
 
--- What was pending and what was pushed are the messages that were given, in order, and then what is pending.
+-- The pending and the pushed bytes are those of the returned messages, in order, followed by the bytes that are pending
+-- now.
 abbrev pub GivesWhatWasPushed : Type 0
 GivesWhatWasPushed =
     (old new : FramerState) (calls : List Call) → PerformsAll old calls new
     → old.pending ++ flat_map octets_of calls ≡ flat_map frame_octets (flat_map message_of calls) ++ new.pending
 
--- However the same octets are cut into pieces, the messages are the same, once none is pending whole, and so is the
--- framer.
+-- The messages and the framer do not depend on how the same bytes are divided into chunks, once no complete message is
+-- pending.
 abbrev pub AnyPiecesGiveTheSame : Type 0
 AnyPiecesGiveTheSame =
     (old new end : FramerState) (calls others : List Call) → PerformsAll old calls new → PerformsAll old others end

@@ -1,8 +1,9 @@
--- What contracts see of the devices in memory.
+-- The state of sources and sinks in memory that contracts see.
 use Rattle.std.specs.Prelude.{ℕ, List, Some}
 use Rattle.hsms_frame.specs.Io.{SourceState, SinkState}
 
--- octets to be read: those that are left, how many a call gives at most, and after how many calls each fails
+-- The state of a source: the bytes that are left, how many a call returns at most, and the number of calls after which
+-- each call fails.
 pub record FeedState : Type 0 where
   pub left : List ℕ
   pub piece : ℕ
@@ -12,12 +13,12 @@ pub record FeedState : Type 0 where
   pub ends : ℕ
   pub failures : ℕ
 
--- the same before the first call
+-- The state of a source before the first call.
 abbrev pub feed_of : List ℕ → ℕ → ℕ → FeedState
 feed_of octets piece fuse =
     record { left = octets; piece = piece; fuse = fuse; pulls = 0; empty_pulls = 0; ends = 0; failures = 0 }
 
--- the same as any source
+-- The state as that of any source.
 abbrev pub source_of : FeedState → SourceState
 source_of f = record {
   left = Some f.left;
@@ -27,7 +28,7 @@ source_of f = record {
   failures = f.failures;
 }
 
--- room that is written over: what was written, the octets behind it, and the rest as above
+-- The state of a sink: what was written, the memory after it, and the limits as above.
 pub record StoreState : Type 0 where
   pub written : List ℕ
   pub room : List ℕ
@@ -36,6 +37,6 @@ pub record StoreState : Type 0 where
   pub gives : ℕ
   pub failures : ℕ
 
--- the same as any sink
+-- The state as that of any sink.
 abbrev pub sink_of : StoreState → SinkState
 sink_of s = record { written = Some s.written; gives = s.gives; failures = s.failures }

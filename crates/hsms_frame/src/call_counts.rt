@@ -1,4 +1,4 @@
-//! Counts of a device's calls, each of which stays at its greatest value.
+//! Counts of the calls of a reader or writer. A count stays at its maximum.
 
 ghost use Rattle.std.specs.Prelude.{◌≡◌, Ok, if◌then◌else◌};
 ghost use Rattle.hsms_frame.specs.CallCounts.{next_count};
@@ -6,7 +6,7 @@ ghost use Rattle.hsms_frame.specs.Io.{ends_after};
 
 use crate::io::Failed;
 
-/// How often a device was called, was called with an empty slice, found its end, and failed.
+/// The numbers of calls, of calls with an empty slice, of times the end was found, and of failures.
 #[derive(Clone, Copy, Default)]
 pub struct Tally {
     pub calls: u64,
@@ -29,7 +29,7 @@ impl Tally {
         }
     }
 
-    /// Counts that the end was found, where a read into so much room gave so many octets: none, though there was room.
+    /// Counts an end of the input if `count`, the result of a read into `room` bytes, is 0 and `room` is not 0.
     pub fn end(&mut self, room: usize, count: usize)
         ensures { self.new ≡ record self.old { ends = ends_after room (Ok count) self.old.ends } }
     {
@@ -38,7 +38,7 @@ impl Tally {
         }
     }
 
-    /// Counts a failure, and gives it.
+    /// Counts a failure, and returns it.
     pub fn fail(&mut self) -> Failed
         ensures { self.new ≡ record self.old { failures = next_count self.old.failures } }
     {

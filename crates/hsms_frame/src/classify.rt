@@ -1,4 +1,4 @@
-//! The session types of messages, and what a message is for, by its header (SEMI E37, section 8.2.6).
+//! The session types of messages, and the kind of a message by its header (SEMI E37, section 8.2.6).
 
 ghost use Rattle.std.specs.Prelude.{◌≡◌};
 ghost use Rattle.hsms_frame.specs.Header.{kind_of};
@@ -20,7 +20,7 @@ pub const REJECT_REQ: u8 = 7;
 
 pub const SEPARATE_REQ: u8 = 9;
 
-/// The kind of the message with this header: by its PType, then by its SType, and of data by its function.
+/// Returns the kind of the message with this header: by its PType, then its SType, and for data by its function.
 pub fn kind(header: Header) -> Kind
     ensures { result ≡ kind_of header }
 {

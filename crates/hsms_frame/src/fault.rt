@@ -1,4 +1,4 @@
-//! What is wrong with the octets of a message, and with reading them.
+//! Errors in the bytes of a message, and errors of reads and writes.
 
 ghost use Rattle.std.specs.Prelude.{◌≡◌, Some};
 ghost use Rattle.hsms_frame.specs.Fault.{ahead_fault_text, frame_fault_text, read_fault_text, write_fault_text};
@@ -13,14 +13,14 @@ use std::alloc::AllocError;
 use std::error::Error;
 use std::fmt;
 
-/// Why octets are no frame. Each is shown as its name, and its length where it has one, as in `TooShort length=9`.
+/// Why bytes are not a frame. Each error is shown as its name and its length, if it has one, as in `TooShort length=9`.
 #[derive(Clone, Copy, Debug, PartialEq, Eq)]
 pub enum FrameFault {
-    /// The length field, in octets, leaves no room for a header.
+    /// The length field, in bytes, is too small for a header.
     TooShort { length: u64 },
-    /// The length field, in octets of header and text, is past the limit.
+    /// The length field, in bytes of header and text, exceeds the limit.
     TooLong { length: u64, header: Header },
-    /// There is no memory for the text, or for octets that are pushed or written.
+    /// An allocation failed, for the text or for bytes that are pushed or written.
     Memory,
 }
 
@@ -46,18 +46,18 @@ impl From<AllocError> for FrameFault {
     }
 }
 
-/// Why no frame was read. Each is shown as its name, and its length where it has one, as in `TooLong length=257`.
+/// Why no frame was read. Each error is shown as its name and its length, if it has one, as in `TooLong length=257`.
 #[derive(Clone, Copy, Debug, PartialEq, Eq)]
 pub enum ReadFault {
-    /// The length field, in octets, leaves no room for a header.
+    /// The length field, in bytes, is too small for a header.
     TooShort { length: u64 },
-    /// The length field, in octets of header and text, is past the limit.
+    /// The length field, in bytes of header and text, exceeds the limit.
     TooLong { length: u64, header: Header },
-    /// There is no memory for the text.
+    /// The allocation for the text failed.
     Memory,
     /// The input ends within a message.
     CutOff,
-    /// The device failed.
+    /// A read failed.
     Read,
 }
 
@@ -77,13 +77,13 @@ impl fmt::Display for ReadFault {
 
 impl Error for ReadFault {}
 
-/// Why no frame was written. Each is shown as its name, and its length where it has one, as in
-/// `TooLong length=4294967296`.
+/// Why no frame was written. Each error is shown as its name and its length, if it has one, as in `TooLong
+/// length=4294967296`.
 #[derive(Clone, Copy, Debug, PartialEq, Eq)]
 pub enum WriteFault {
-    /// Header and text have more octets than a length field counts. Nothing was written.
+    /// Header and text have more bytes than a length field can hold. Nothing was written.
     TooLong { length: u64, header: Header },
-    /// The device failed. Some octets from the front may be written.
+    /// A write failed. A prefix of the bytes may have been written.
     Write,
 }
 
@@ -124,12 +124,12 @@ impl From<AllocError> for ReadFault {
     }
 }
 
-/// Why no more octets were read ahead. Each is shown as its name.
+/// Why no more bytes were read ahead. Each error is shown as its name.
 #[derive(Clone, Copy, Debug, PartialEq, Eq)]
 pub enum AheadFault {
-    /// The device failed.
+    /// A read failed.
     Read,
-    /// There is no memory for more.
+    /// An allocation failed.
     Memory,
 }
 

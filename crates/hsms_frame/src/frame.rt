@@ -5,9 +5,9 @@ ghost use Rattle.std.specs.Prelude.{◌≡◌};
 use crate::header::{HEADER_LENGTH, Header};
 use std::marker::Model;
 
-/// A message: its header and its text. The four octets that count both aren't a part of it.
+/// A message: its header and its text, without the four bytes of the length field.
 ///
-/// Contracts see the text as its list of octets.
+/// Contracts see the text as its list of bytes.
 #[derive(Debug, Drop)]
 pub struct Frame {
     pub header: Header,
@@ -25,7 +25,7 @@ impl Model for Frame {
 impl Frame {
     ghost use Rattle.std.specs.Prelude.{◌+◌, length};
 
-    /// How many octets header and text have, as the length field counts them.
+    /// Returns the number of bytes of header and text, which is the value of the length field.
     pub fn length(&self) -> u64
         ensures { result ≡ 10 + length self.now.text }
     {

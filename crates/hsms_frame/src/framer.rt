@@ -1,4 +1,4 @@
-//! Messages from octets that come in pieces.
+//! Messages from bytes that come in chunks.
 
 ghost use Rattle.std.specs.Prelude.{◌≡◌, ◌≤◌, ◌<◌, ◌+◌, [], ◌⊎◌, drop, length, vec_len, OnOk, OnErr, IsOkUnless, Err};
 ghost use Rattle.hsms_frame.specs.Framing.{FramesAs, FrontAs, IsPushed, size_of};
@@ -10,11 +10,11 @@ use crate::prefix::drop_front;
 use std::alloc::Global;
 use std::marker::Model;
 
-/// Takes octets in pieces, and gives the messages that they make up (SEMI E37, section 8.1). However the octets are cut
-/// into pieces, the messages are the same.
+/// A buffer that takes bytes in chunks and returns their messages (SEMI E37, section 8.1). The messages do not depend
+/// on how the bytes are divided into chunks.
 ///
-/// Giving a message moves no octets: the framer keeps the place of the first one that belongs to no message given so
-/// far. Only a push that finds no room behind the octets moves those that are left to the front.
+/// Returning a message moves no bytes: the framer keeps the index of the first pending byte. Only a push without
+/// capacity after the pending bytes moves them to the front.
 #[derive(Drop)]
 pub struct Framer {
     max: u32,
@@ -34,7 +34,7 @@ impl Model for Framer {
 }
 
 impl Framer {
-    /// A framer that has no octets yet. `max` is the greatest count of octets of header and text of a message.
+    /// Creates a framer without bytes. `max` is the maximum number of bytes of header and text of a message.
     pub fn new(alloc: Global, max: u32) -> Framer
         ensures { result ≡ record { max = max; pending = [] } }
     {
@@ -45,18 +45,18 @@ impl Framer {
         }
     }
 
-    /// The octets that came and belong to no message that was given.
+    /// Returns the received bytes that belong to no returned message.
     pub fn pending(&self) -> &[u8]
         ensures { result.now ≡ self.now.pending }
     {
         &self.octets[self.place..]
     }
 
-    /// Takes in the next octets.
+    /// Appends bytes to the pending bytes.
     ///
     /// # Errors
     ///
-    /// Only `Memory`, and never where there are no octets. None were taken in then.
+    /// Returns `Memory` if an allocation fails, and then appends nothing. Never fails if there are no bytes.
     pub fn push(&mut self, octets: &[u8]) -> Result<(), FrameFault>
         ensures ok { OnOk result (IsPushed self.old octets.now self.new) }
         ensures memory { IsOkUnless result FrameFault.Memory }
@@ -71,19 +71,19 @@ impl Framer {
         Ok(())
     }
 
-    /// Gives the message at the front of the pending octets, and takes its octets away. There is none where they end
+    /// Returns the message at the start of the pending bytes, and removes its bytes. Returns `None` if the bytes end
     /// within a message.
     ///
     /// # Errors
     ///
-    /// Each leaves the pending octets as they are: `TooShort`, once four octets are there, where they count fewer than
-    /// ten; `TooLong`, once fourteen are there, where the first four count more than the limit; `Memory`, only where a
-    /// whole message is there that has a text.
+    /// An error leaves the pending bytes unchanged. Returns `TooShort` if four bytes are pending and their value is
+    /// below ten. Returns `TooLong` if fourteen are pending and the value of the first four exceeds the limit. Returns
+    /// `Memory` only if a complete message with a text is pending.
     #[tactic(auto, using(crate::proofs::Determined::one_of_framer))]
     pub fn next(&mut self) -> Result<Option<Frame>, FrameFault>
-        // The answer is one to the pending octets.
+        // The result is allowed for the pending bytes.
         ensures answer { FramesAs self.old.max self.old.pending result self.new.pending }
-        // No other answer is.
+        // No other result is allowed.
         ensures only { (answer : _) (rest : _) → FramesAs self.old.max self.old.pending answer rest
             → (answer ≡ Err FrameFault.Memory) ⊎ (result ≡ Err FrameFault.Memory) ⊎ (result ≡ answer) }
         ensures max { self.new.max ≡ self.old.max }
@@ -95,7 +95,7 @@ impl Framer {
     }
 }
 
-// How many octets an answer takes away from the front.
+// Returns how many bytes a result removes from the front.
 #[inline(always)]
 fn taken_by(answer: &Result<Option<Frame>, FrameFault>) -> usize
     ensures { result ≡ size_of answer.now }
@@ -106,7 +106,7 @@ fn taken_by(answer: &Result<Option<Frame>, FrameFault>) -> usize
     }
 }
 
-// The message at the front of octets, if it is there whole.
+// Returns the message at the start of bytes, if it is complete.
 fn front_frame(alloc: Global, octets: &[u8], max: u32) -> Result<Option<Frame>, FrameFault>
     ensures answer { FramesAs max octets.now result (drop (size_of result) octets.now) }
     ensures bound { size_of result ≤ length octets.now }
@@ -119,14 +119,14 @@ fn front_frame(alloc: Global, octets: &[u8], max: u32) -> Result<Option<Frame>, 
     Ok(Some(Frame { header, text }))
 }
 
-/// The header of the message at the front of octets, and how many octets its text has, which lies behind the first
-/// fourteen. There is none where the octets end within a message. `max` is the greatest count of octets of header and
-/// text. Takes no memory.
+/// Returns the header of the message at the start of bytes, and the size of its text, which follows the first fourteen
+/// bytes. Returns `None` if the bytes end within a message. `max` is the maximum number of bytes of header and text.
+/// Allocates no memory.
 ///
 /// # Errors
 ///
-/// `TooShort`, once four octets are there, where they count fewer than ten; `TooLong`, once fourteen are there, where the
-/// first four count more than the limit.
+/// Returns `TooShort` if there are four bytes and their value is below ten. Returns `TooLong` if there are fourteen and
+/// the value of the first four exceeds the limit.
 #[inline(always)]
 pub fn front(octets: &[u8], max: u32) -> Result<Option<(Header, usize)>, FrameFault>
     ensures { FrontAs max octets.now result }

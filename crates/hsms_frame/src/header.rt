@@ -3,31 +3,31 @@
 ghost use Rattle.std.specs.Prelude.{◌≡◌};
 ghost use Rattle.hsms_frame.specs.Header.{header_octets, IsHeader, stream_of, function_of, wait_of};
 
-/// How many octets a header has (SEMI E37, section 8.2).
+/// The number of bytes of a header (SEMI E37, section 8.2).
 pub const HEADER_LENGTH: usize = 10;
 
 /// The session ID of control messages (SEMI E37.1).
 pub const CONTROL_SESSION: u16 = 0xffff;
 
-/// The ten octets before a message's text (SEMI E37, section 8.2).
+/// The ten bytes before a message's text (SEMI E37, section 8.2).
 #[derive(Clone, Copy, Debug, PartialEq, Eq)]
 pub struct Header {
-    /// The session ID: the device of a data message, ffff of a control message.
+    /// The session ID: the device ID of a data message, ffff of a control message.
     pub session: u16,
-    /// Of a data message the W bit (bit 8) and the stream; of Reject.req the type that was rejected.
+    /// In a data message the W bit (bit 8) and the stream; in Reject.req the type of the rejected message.
     pub byte2: u8,
-    /// Of a data message the function; of Select.rsp the status; of Reject.req the reason.
+    /// In a data message the function; in Select.rsp the status; in Reject.req the reason.
     pub byte3: u8,
     /// The presentation type: 0 is SECS-II.
     pub ptype: u8,
     /// The session type: 0 is data, the others are control messages.
     pub stype: u8,
-    /// The system bytes, which tell the open transactions of one sender apart.
+    /// The system bytes, which distinguish the open transactions of one sender.
     pub system: u32,
 }
 
 impl Header {
-    /// The header that ten octets spell. Any ten octets spell one.
+    /// Returns the header that ten bytes encode. Any ten bytes encode a header.
     pub fn of(octets: [u8; HEADER_LENGTH]) -> Header
         ensures fits { IsHeader result }
         ensures encoded_bytes { header_octets result ≡ octets }
@@ -44,7 +44,7 @@ impl Header {
         }
     }
 
-    /// The ten octets that spell the header, the most significant octet of each number first.
+    /// Returns the ten bytes of the header, with the most significant byte of each number first.
     pub fn octets(self) -> [u8; HEADER_LENGTH]
         ensures { result ≡ header_octets self }
     {
@@ -55,21 +55,21 @@ impl Header {
         ]
     }
 
-    /// The stream of a data message, 0 to 127.
+    /// Returns the stream of a data message, 0 to 127.
     pub fn stream(self) -> u8
         ensures { result ≡ stream_of self }
     {
         self.byte2 % 128
     }
 
-    /// The function of a data message.
+    /// Returns the function of a data message.
     pub fn function(self) -> u8
         ensures { result ≡ function_of self }
     {
         self.byte3
     }
 
-    /// The W bit of a data message: whether it asks for a reply.
+    /// Returns the W bit of a data message: whether it requests a reply.
     pub fn wait(self) -> bool
         ensures { result ≡ wait_of self }
     {

@@ -1,22 +1,23 @@
-//! What octets are read from and written to.
+//! The traits of readers and writers of bytes.
 
 ghost use Rattle.std.specs.Prelude.{◌≡◌, ◌<◌, ◌≤◌, IfOk, OnErr, length, take};
 ghost use Rattle.hsms_frame.specs.Io.{SourceState, SinkState, Takes, IsAtEnd, Stays, Grows, CountsPull, CountsGive};
 
 use thiserror::Error;
 
-/// A device failed. What was wrong isn't told.
+/// A read or write failed. The cause is not available.
 #[derive(Clone, Copy, Debug, PartialEq, Eq, Error)]
 #[error("Failed")]
 pub struct Failed;
 
-/// What octets are read from. A call that fails takes none.
+/// A reader of bytes. A call that fails takes no bytes.
 pub trait Source {
-    /// What contracts see: the octets that are left, where it tells them, and how often it was called, was called with
-    /// an empty slice, found its end, and failed. A count that comes to its greatest value stays there.
+    /// The state that contracts see: the bytes that are left, if the source records them, and four counts. These are
+    /// the numbers of calls, of calls with an empty slice, of times the end was found, and of failures. A count stays
+    /// at its maximum.
     ghost state: { Self → SourceState };
 
-    /// Reads some octets to the front of a slice, and says how many: 0 only where the slice is empty, or at the end of
+    /// Reads bytes to the start of a slice. Returns how many it read: 0 only if the slice is empty, or at the end of
     /// the input.
     fn pull(&mut self, into: &mut [u8]) -> Result<usize, Failed>
         ensures bound { IfOk result (λ n. n ≤ length into.new) }
@@ -26,13 +27,13 @@ pub trait Source {
         ensures counts { CountsPull (length into.old) result (state self.old) (state self.new) };
 }
 
-/// What octets are written to. A call writes at least one octet of a slice that isn't empty, or fails and writes none.
+/// A writer of bytes. A call with a nonempty slice writes at least one byte, or fails and writes none.
 pub trait Sink {
-    /// What contracts see: the octets that were written, where it tells them, and how often it was called and failed. A
-    /// count that comes to its greatest value stays there.
+    /// The state that contracts see: the bytes that were written, if the sink records them, and the numbers of calls
+    /// and of failures. A count stays at its maximum.
     ghost state: { Self → SinkState };
 
-    /// Writes some octets from the front of a slice, and says how many.
+    /// Writes bytes from the start of a slice. Returns how many it wrote.
     fn give(&mut self, from: &[u8]) -> Result<usize, Failed>
         ensures bound { IfOk result (λ n. n ≤ length from.now) }
         ensures some { IfOk result (λ n. 0 < length from.now → 0 < n) }

@@ -1,4 +1,4 @@
-//! Whole buffers to and from devices.
+//! Loops that read or write a complete buffer.
 
 ghost use Rattle.std.specs.Prelude.{◌≡◌, ◌<◌, ◌≤◌, ◌+◌, length, IfOk, OnOk, OnErr};
 ghost use Rattle.hsms_frame.specs.CallCounts.{count_failure};
@@ -7,8 +7,8 @@ ghost use Rattle.hsms_frame.specs.Frame.{IsOctets};
 
 use crate::io::{Failed, Sink, Source};
 
-/// Fills a slice, and says how many octets were read: fewer than its length only at the end of the input. Where it
-/// fails, fewer than its length were read.
+/// Fills a slice. Returns how many bytes were read: fewer than its length only at the end of the input. If it fails,
+/// fewer bytes than its length were read.
 pub fn fill<R: Source>(source: &mut R, into: &mut [u8]) -> Result<usize, Failed>
     ensures bound { IfOk result (λ n. n ≤ length into.new) }
     ensures len { length into.new ≡ length into.old }
@@ -31,7 +31,7 @@ pub fn fill<R: Source>(source: &mut R, into: &mut [u8]) -> Result<usize, Failed>
     Ok(filled)
 }
 
-/// Writes all octets. Where it fails, a part from their front was written.
+/// Writes all bytes. If it fails, a prefix of the bytes was written.
 pub fn give_all<W: Sink>(sink: &mut W, octets: &[u8]) -> Result<(), Failed>
     ensures ok { OnOk result (Grows (W.state sink.old).written (W.state sink.new).written octets.now) }
     ensures err { OnErr result (GrowsByFront (W.state sink.old).written (W.state sink.new).written octets.now) }

@@ -1,13 +1,13 @@
-//! HSMS messages (SEMI E37): the devices that octets are read from and written to, headers, and messages read whole.
+//! HSMS messages (SEMI E37): headers, complete messages, and the readers and writers of their bytes.
 //!
-//! A message is four octets that count what follows, a header of ten octets, and a text. [`read_frame`] reads one from
-//! a [`Source`] and nothing of what stands behind it. [`Source`] and [`Sink`] tell contracts how often they were called
-//! and how often they failed and, where they know it, which octets are left or were written; so a contract can say what
-//! a program did to them. [`laws`] has what holds of messages, whatever a program does.
+//! A message is four bytes with the length of what follows, a header of ten bytes, and a text. [`read_frame`] reads
+//! one message from a [`Source`] and no byte after it. Contracts see how often a [`Source`] or [`Sink`] was called and
+//! how often it failed. If it records bytes, contracts also see which bytes are left or were written. So a contract
+//! can state what a program did to them. [`laws`] contains facts about messages that hold for every program.
 //!
-//! A message is built, and written whole. Whoever gets octets in pieces pushes each piece, and takes messages until
-//! there is none; whoever may wait reads one at a time. [`Ahead`] reads a source in blocks, for who looks for messages
-//! where they lie ([`front`]), or for something else:
+//! A program builds a message and writes it with one call. A program that receives bytes in chunks pushes each chunk,
+//! and takes messages until there are no more. A program that may wait reads one message at a time. [`Ahead`] reads a
+//! source in blocks, for a program that looks for messages in a buffer ([`front`]), or for other data:
 //!
 //! ```
 //! let frame = Frame { header: data_header(0, 1, 13, true, 1), text };

@@ -1,8 +1,8 @@
-//! Octets at the front of a slice or a vector.
+//! Bytes at the start of a slice or a vector.
 
 ghost use Rattle.std.specs.Prelude.{◌≡◌, ◌≤◌, ◌++◌, drop, take, length, vec_len, min};
 
-/// Copies what fits of the front of a slice, at most `piece` octets, and says how many.
+/// Copies as much of a slice's start as fits, at most `piece` bytes. Returns how many bytes it copied.
 pub fn copy_front(from: &[u8], into: &mut [u8], piece: usize) -> usize
     ensures count { result ≡ min (min (length from.now) (length into.old)) piece }
     ensures front { take result into.new ≡ take result from.now }
@@ -13,7 +13,7 @@ pub fn copy_front(from: &[u8], into: &mut [u8], piece: usize) -> usize
     count
 }
 
-/// Takes octets away from the front.
+/// Removes bytes from the front.
 pub fn drop_front(octets: &mut Vec<u8>, count: usize)
     requires { count ≤ vec_len octets.old }
     ensures { octets.new.items ≡ drop count octets.old.items }

@@ -1,4 +1,4 @@
-//! One message from a source.
+//! Reads of one message from a source.
 
 ghost use Rattle.std.specs.Prelude.{◌≡◌, ◌⊎◌, Option, Result, Err, length};
 ghost use Rattle.hsms_frame.specs.Io.{IfRecorded};
@@ -11,28 +11,28 @@ use crate::io::Source;
 use crate::io_loops::fill;
 use std::alloc::Global;
 
-/// Reads one message, and none of the octets behind it: four octets, then ten, then the text (SEMI E37, section 8.1).
-/// There is none where the input is at its end.
+/// Reads one message, and none of the bytes after it: four bytes, then ten, then the text (SEMI E37, section 8.1).
+/// Returns `None` at the end of the input.
 ///
-/// `max` is the greatest count of octets of header and text.
+/// `max` is the maximum number of bytes of header and text.
 ///
 /// # Errors
 ///
-/// In the order in which they are found:
+/// In the order in which they are checked:
 ///
-/// - `TooShort`, once four octets are there, where they count fewer than ten: four octets were read.
-/// - `TooLong`, once fourteen are there, where the first four count more than `max`: fourteen were read.
-/// - `Memory`, where there is no room for the text, which isn't empty: fourteen were read.
-/// - `CutOff`, where the input ends within the message.
-/// - `Read`, where the source failed: less than the message was read.
+/// - `TooShort` if four bytes could be read and their value is below ten. Four bytes were read.
+/// - `TooLong` if fourteen bytes could be read and the value of the first four exceeds `max`. Fourteen bytes were read.
+/// - `Memory` if the allocation for a nonempty text fails. Fourteen bytes were read.
+/// - `CutOff` if the input ends within the message.
+/// - `Read` if the source failed. Less than the message was read.
 pub fn read_frame<R: Source>(
     alloc: Global,
     source: &mut R,
     max: u32,
 ) -> Result<Option<Frame>, ReadFault>
-    // The answer is one to the octets that the source had left.
+    // The result is allowed for the bytes that the source had left.
     ensures answer { IfRecorded (R.state source.old).left (λ input. ReadsAs max input result (R.state source.new).left) }
-    // No other answer is.
+    // No other result is allowed.
     ensures only { IfRecorded (R.state source.old).left (λ input. (answer : _) (left : _) → ReadsAs max input answer left
         → IsRefusal answer ⊎ IsRefusal result ⊎ (result ≡ answer)) }
     ensures counts { CountsWhole result (R.state source.old) (R.state source.new) }
@@ -71,7 +71,7 @@ fn read_message<R: Source>(
     Ok(Some(Frame { header, text }))
 }
 
-// The length field of the next message, if there is one.
+// Reads the length field of the next message. Returns `None` at the end of the input.
 fn read_length<R: Source>(source: &mut R) -> Result<Option<u32>, ReadFault>
     ensures answer { IfRecorded (R.state source.old).left (λ input. TakesLength input result (R.state source.new).left) }
     ensures counts { CountsWhole result (R.state source.old) (R.state source.new) }
@@ -102,7 +102,7 @@ fn read_all<R: Source>(source: &mut R, into: &mut [u8]) -> Result<(), ReadFault>
     Ok(())
 }
 
-// The text of a message.
+// Reads the text of a message.
 fn read_text<R: Source>(alloc: Global, source: &mut R, size: usize) -> Result<Vec<u8>, ReadFault>
     ensures answer { IfRecorded (R.state source.old).left
         (λ input. TakesFront (λ text. text.items) size input result (R.state source.new).left) }

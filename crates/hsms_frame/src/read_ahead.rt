@@ -1,4 +1,4 @@
-//! Octets of a source that are read ahead of what was passed.
+//! A buffer of bytes that were read ahead from a source.
 
 ghost use Rattle.std.specs.Prelude.{◌≡◌, ◌≤◌, ◌<◌, ◌+◌, ◌-◌, Ok, true, false, drop, take, length, vec_len, nat_lt, if◌then◌else◌, IfOk, OnOk, OnErr};
 ghost use Rattle.std.specs.List.{slice_range};
@@ -11,14 +11,14 @@ use crate::io::{Failed, Source};
 use std::alloc::{AllocError, Global};
 use std::marker::Model;
 
-// How many octets there is room for behind the others, at least, before a read.
+// The minimum number of bytes of capacity after the buffered bytes, before a read.
 const BLOCK: usize = 65536;
 
-/// Octets of a source that were read and not passed. Contracts see them as a list.
+/// Bytes of a source that were read and not yet passed. Contracts see them as a list.
 ///
-/// Whoever has use for the octets at the front looks at them where they are, and passes them; only a read moves those
-/// that are left to the front. The room that is held is for 131,072 octets, or for 65,536 more than were there at most
-/// before a read.
+/// A user of the bytes at the front reads them in the buffer, and passes them. Only a read moves the remaining bytes to
+/// the front. The capacity is 131,072 bytes, or 65,536 more than the largest number of bytes that were buffered before
+/// a read.
 #[derive(Drop)]
 pub struct Ahead {
     octets: Vec<u8>,
@@ -40,7 +40,7 @@ impl Model for Ahead {
 impl Ahead {
     ghost use Rattle.std.specs.Prelude.{[]};
 
-    /// No octets. Takes the memory for 131,072 of them.
+    /// Creates an empty buffer. Allocates memory for 131,072 bytes.
     pub fn new(alloc: Global) -> Result<Ahead, AllocError>
         ensures { IfOk result (λ ahead. ahead ≡ []) }
     {
@@ -52,7 +52,7 @@ impl Ahead {
         })
     }
 
-    /// The octets.
+    /// Returns the buffered bytes.
     #[inline(always)]
     pub fn as_slice(&self) -> &[u8]
         ensures { result.now ≡ self.now }
@@ -60,7 +60,7 @@ impl Ahead {
         &self.octets[self.place..self.end]
     }
 
-    /// Takes octets away from the front.
+    /// Removes bytes from the front.
     #[inline(always)]
     pub fn pass(&mut self, count: usize)
         requires { count ≤ length self.old }
@@ -69,12 +69,13 @@ impl Ahead {
         self.place += count;
     }
 
-    /// Reads more octets behind the others, and says whether there were any: none only at the end of the input. The read
-    /// may wait.
+    /// Reads more bytes after the buffered ones. Returns whether there were any: none only at the end of the input. The
+    /// read may wait.
     ///
     /// # Errors
     ///
-    /// `Memory`, before anything is read, and `Read`. No octet is lost, and those that are there stay.
+    /// Returns `Memory` if an allocation fails, before anything is read. Returns `Read` if the read fails. No byte is
+    /// lost, and the buffered bytes stay.
     pub fn read_more<R: Source>(&mut self, source: &mut R) -> Result<bool, AheadFault>
         ensures ok { IfOk result (λ is_more. IfRecorded (R.state source.old).left
             (λ input. ReadsMore self.old input self.new (R.state source.new).left)) }
@@ -96,7 +97,7 @@ impl Ahead {
     }
 }
 
-// Moves a part to the front, and says where it ends there.
+// Moves a part to the front. Returns the index at which it ends there.
 fn move_to_front(octets: &mut [u8], place: usize, end: usize) -> usize
     requires { (place ≤ end) × (end ≤ length octets.old) }
     ensures length { length octets.new ≡ length octets.old }
@@ -109,7 +110,7 @@ fn move_to_front(octets: &mut [u8], place: usize, end: usize) -> usize
     end - place
 }
 
-// Makes room behind octets.
+// Makes capacity after the bytes.
 fn make_room(octets: &mut Vec<u8>, end: usize) -> Result<(), AllocError>
     requires { end ≤ vec_len octets.old }
     ensures front { take end octets.new.items ≡ take end octets.old.items }
@@ -122,7 +123,7 @@ fn make_room(octets: &mut Vec<u8>, end: usize) -> Result<(), AllocError>
     Ok(())
 }
 
-// Reads octets to behind the others, up to a place, and says how many: none only at the end of the input.
+// Reads bytes after the buffered ones, up to an index. Returns how many it read: none only at the end of the input.
 fn read_after<R: Source>(
     octets: &mut Vec<u8>,
     end: usize,

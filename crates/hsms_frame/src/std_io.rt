@@ -1,5 +1,5 @@
-//! The readers and writers of std as devices: each counts the calls, and every error of std is a failure at once, with
-//! no second try.
+//! Readers and writers of std as sources and sinks. Each counts its calls. Every error of std is a failure at once,
+//! without a retry.
 
 ghost use Rattle.std.specs.Prelude.{◌≡◌};
 
@@ -15,7 +15,7 @@ pub struct Reader<R> {
 }
 
 impl<R: Read> Reader<R> {
-    /// A source of what the reader has left.
+    /// Creates a source of the bytes that the reader has left.
     pub fn new(inner: R) -> Reader<R>
         ensures { ⟦<Reader<R> as Source>⟧.state result
             ≡ record { left = R.remaining inner; pulls = 0; empty_pulls = 0; ends = 0; failures = 0 } }
@@ -46,7 +46,7 @@ impl<R: Read> Source for Reader<R> {
     }
 }
 
-/// A writer of std as a [`Sink`]. A write that takes nothing of a slice that isn't empty is a failure.
+/// A writer of std as a [`Sink`]. A write that takes nothing from a nonempty slice is a failure.
 #[derive(Drop)]
 pub struct Writer<W> {
     inner: W,
@@ -57,7 +57,7 @@ impl<W: Write> Writer<W> {
     ghost use Rattle.hsms_frame.specs.CallCounts.{count_failure};
     ghost use Rattle.hsms_frame.specs.Io.{Stays};
 
-    /// A sink that adds to what the writer holds.
+    /// Creates a sink that appends to the writer's output.
     pub fn new(inner: W) -> Writer<W>
         ensures { ⟦<Writer<W> as Sink>⟧.state result ≡ record { written = W.contents inner; gives = 0; failures = 0 } }
     {
@@ -67,7 +67,7 @@ impl<W: Write> Writer<W> {
         }
     }
 
-    /// Has the writer put out what it holds back, as a buffered one does. To contracts that writes nothing more.
+    /// Flushes the writer, if it buffers output. To contracts, this writes nothing more.
     pub fn flush(&mut self) -> Result<(), Failed>
         ensures octets { Stays (⟦<Writer<W> as Sink>⟧.state self.old).written
             (⟦<Writer<W> as Sink>⟧.state self.new).written }

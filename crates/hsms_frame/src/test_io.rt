@@ -1,4 +1,4 @@
-//! Devices in memory that fail on purpose, for tests.
+//! Sources and sinks in memory that fail on purpose, for tests.
 
 ghost use Rattle.std.specs.Prelude.{◌≡◌, ◌<◌, ◌≤◌, ◌⊎◌, ◌↔◌, [], Some, drop, take, length, min, IsErr, IfOk, OnErr};
 ghost use Rattle.hsms_frame.specs.Io.{Takes, IsAtEnd, Stays, Grows, CountsPull, CountsGive};
@@ -9,8 +9,8 @@ use crate::io::{Failed, Sink, Source};
 use crate::prefix::copy_front;
 use std::marker::Model;
 
-/// Octets to be read from memory, at most `piece` of them a call. Each call past the first `fuse` fails, so a test can
-/// have a read fail wherever it likes.
+/// A source in memory that returns at most `piece` bytes a call. Each call after the first `fuse` fails, so a test can
+/// choose which read fails.
 #[derive(Drop)]
 pub struct Feed {
     octets: Vec<u8>,
@@ -40,7 +40,7 @@ impl Model for Feed {
 }
 
 impl Feed {
-    /// A source of these octets. `piece` is at least 1.
+    /// Creates a source of these bytes. `piece` is at least 1.
     pub fn new(octets: Vec<u8>, piece: usize, fuse: u64) -> Feed
         requires { 0 < piece }
         ensures { result ≡ feed_of octets.items piece fuse }
@@ -54,7 +54,7 @@ impl Feed {
         }
     }
 
-    /// The octets that are left to be read.
+    /// Returns the bytes that are left to read.
     pub fn left(&self) -> &[u8]
         ensures { result.now ≡ self.now.left }
     {
@@ -72,7 +72,7 @@ impl Source for Feed {
         ensures none_lost { OnErr result (Stays (Some self.old.left) (Some self.new.left)) }
         ensures counts { CountsPull (length into.old) result (source_of self.old) (source_of self.new) }
 
-        // Beyond what each source ensures: when it fails, and that it moves as much as it may.
+        // In addition to the contract of each source: when it fails, and that it moves as many bytes as it may.
         ensures fails { IsErr result ↔ (self.old.fuse ≤ self.old.pulls) }
         ensures count { IfOk result (λ n. n ≡ min (min (length self.old.left) (length into.old)) self.old.piece) }
         ensures same { (self.new.piece ≡ self.old.piece) × (self.new.fuse ≡ self.old.fuse) }
@@ -89,8 +89,8 @@ impl Source for Feed {
     }
 }
 
-/// Room in memory that is written over, at most `piece` octets a call. Each call past the first `fuse` fails, and each
-/// into a full room, so a test can have a write fail wherever it likes.
+/// A sink that overwrites memory, at most `piece` bytes a call. Each call after the first `fuse` fails, and each call
+/// after the memory is full. So a test can choose which write fails.
 #[derive(Drop)]
 pub struct Store {
     room: Vec<u8>,
@@ -119,7 +119,7 @@ impl Model for Store {
 }
 
 impl Store {
-    /// A sink that writes over this room, from its front up to its length. `piece` is at least 1.
+    /// Creates a sink that overwrites this memory, from its start up to its length. `piece` is at least 1.
     pub fn new(room: Vec<u8>, piece: usize, fuse: u64) -> Store
         requires { 0 < piece }
         ensures { result
@@ -134,7 +134,7 @@ impl Store {
         }
     }
 
-    /// The octets that were written so far.
+    /// Returns the bytes that were written so far.
     pub fn written(&self) -> &[u8]
         ensures { result.now ≡ self.now.written }
     {
@@ -152,7 +152,8 @@ impl Sink for Store {
         ensures none_written { OnErr result (Stays (Some self.old.written) (Some self.new.written)) }
         ensures counts { CountsGive result (sink_of self.old) (sink_of self.new) }
 
-        // Beyond what each sink ensures: when it fails, that it moves as much as it may, and which room is left.
+        // In addition to the contract of each sink: when it fails, that it moves as many bytes as it may, and which
+        // memory is left.
         ensures fails { IsErr result ↔ ((self.old.fuse ≤ self.old.gives) ⊎ (length self.old.room ≡ 0)) }
         ensures count { IfOk result (λ n. n ≡ min (min (length from.now) (length self.old.room)) self.old.piece) }
         ensures room { IfOk result (λ n. self.new.room ≡ drop n self.old.room) }

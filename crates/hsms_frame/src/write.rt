@@ -1,4 +1,4 @@
-//! Messages as octets (SEMI E37, section 8.1): four that count header and text, the header, the text.
+//! Messages as bytes (SEMI E37, section 8.1): four bytes with the length of header and text, the header, the text.
 
 ghost use Rattle.std.specs.Prelude.{◌≡◌, ◌<◌, ◌+◌, ◌^◌, ◌++◌, length, IfOk, IfErr};
 ghost use Rattle.std.specs.Int.{w32, to_be_bytes};
@@ -13,11 +13,12 @@ use crate::io::Sink;
 use crate::io_loops::give_all;
 use std::alloc::Global;
 
-/// The octets of a message.
+/// Returns the bytes of a message.
 ///
 /// # Errors
 ///
-/// `TooLong` where header and text have more than 4,294,967,295 octets, before any memory is taken; `Memory`.
+/// Returns `TooLong` if header and text have more than 4,294,967,295 bytes, before it allocates. Returns `Memory` if an
+/// allocation fails.
 pub fn encode_frame(alloc: Global, frame: &Frame) -> Result<Vec<u8>, FrameFault>
     ensures ok { IfOk result
         (λ octets. (octets.items ≡ frame_octets frame.now) × (10 + length frame.now.text < 2 ^ 32)) }
@@ -33,12 +34,12 @@ pub fn encode_frame(alloc: Global, frame: &Frame) -> Result<Vec<u8>, FrameFault>
     Ok(octets)
 }
 
-/// Writes the octets of a message, and takes no memory.
+/// Writes the bytes of a message. Allocates no memory.
 ///
 /// # Errors
 ///
-/// `TooLong` where header and text have more than 4,294,967,295 octets, and nothing was written; `Write` where the sink
-/// failed, and some of the octets from their front were written.
+/// Returns `TooLong` if header and text have more than 4,294,967,295 bytes. Nothing was written. Returns `Write` if the
+/// sink failed. A prefix of the bytes was written.
 pub fn write_frame<W: Sink>(sink: &mut W, frame: &Frame) -> Result<(), WriteFault>
     ensures octets { WritesAs frame.now result (W.state sink.old).written (W.state sink.new).written }
     ensures failures { (W.state sink.new).failures ≡ failures_after_write result (W.state sink.old).failures }
@@ -53,7 +54,7 @@ pub fn write_frame<W: Sink>(sink: &mut W, frame: &Frame) -> Result<(), WriteFaul
     Ok(())
 }
 
-/// The fourteen octets before a message's text: four that hold `length`, which counts header and text, and the header.
+/// Returns the fourteen bytes before a message's text: four with `length`, the size of header and text, and the header.
 pub fn front_octets(length: u32, header: Header) -> [u8; 14]
     ensures { result ≡ to_be_bytes w32 length ++ header_octets header }
 {

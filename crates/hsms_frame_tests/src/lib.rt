@@ -1,5 +1,5 @@
-//! Messages in octets, read, written and framed: tests of `hsms_frame`, in a crate of their own, since a crate is proved
-//! once more with its tests.
+//! Tests of `hsms_frame`: messages in bytes, read, written and framed. They are a separate crate, because a crate is
+//! proved again with its tests.
 #![tactic(auto)]
 
 #[cfg(test)]

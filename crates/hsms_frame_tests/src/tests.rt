@@ -21,9 +21,9 @@ const LONGEST: [u8; 15] = *b"\xff\xff\xff\xff\xff\xff\x00\x00\x00\x01\x00\x00\x0
 
 const REPORT: [u8; 24] = *b"\0\0\0\x14\0\0\x86\x0b\0\0\0\0\0\x01\x01\x02A\x02AB\xa5\x02\x01\xff";
 
-// An assertion stands in a function of its own, since it is proved in a tenth of the time there. What a value is written
-// as tells all of it, and one text is compared in less time than its parts. A constant is followed through the function
-// that names it, and so a table is gone through by another one.
+// An assertion is in a function of its own, because its proof there takes a tenth of the time. Values are compared as
+// their Debug text: it contains all of a value, and comparing one text takes less time than comparing its parts. A
+// constant is followed through the function that names it, so another function iterates over a table.
 
 fn assert_so(rt: &impl Abort, is_so: bool, what: &str) {
     assert!(rt; is_so, "{what}");
@@ -37,7 +37,7 @@ fn assert_kind(rt: &impl Abort, header: Header, want: Kind) {
     assert_so(rt, kind(header) == want, "a kind");
 }
 
-// A value is written so by Debug.
+// Asserts that Debug writes a value like this.
 fn assert_named<T: Debug>(
     rt: &impl Abort,
     alloc: Global,
@@ -49,7 +49,7 @@ fn assert_named<T: Debug>(
     Ok(())
 }
 
-// What a message is read as, and how many octets are left. Want of memory is handed up.
+// Checks what a message is read as, and how many bytes are left. Propagates a failed allocation.
 fn check_source(
     rt: &impl Abort,
     alloc: Global,
@@ -67,7 +67,7 @@ fn check_read(rt: &impl Abort, alloc: Global, octets: &[u8], want: &str) -> Resu
     check_source(rt, alloc, &mut source, want)
 }
 
-// What is read of octets, and how many of them are left: one message of two, no message, a text, and each fault.
+// What is read from bytes, and how many of them are left: one message of two, no message, a text, and each error.
 const READ: &[(&[u8], &str)] = &[
     (
         b"\x00\x00\x00\x0a\xff\xff\x00\x00\x00\x01\x00\x00\x00\x01\x00\x00\x00\x0c\x00\x00\x81\x0d\x00\x00\x00\x00\x00\x01\x01\x00",
@@ -124,7 +124,7 @@ fn finds_each_cut(rt: HostRuntime) -> Result<(), AllocError> {
     check_cuts(&rt, rt.alloc(), &SELECT)
 }
 
-// What stands at the front of so many octets of DATA, with this limit. Its text has two octets.
+// The message at the start of this many bytes of DATA, with this limit. Its text has two bytes.
 const FRONTS: &[(usize, u32, &str)] = &[
     (
         16,
@@ -162,7 +162,7 @@ fn finds_a_message_at_the_front(rt: HostRuntime) -> Result<(), AllocError> {
     check_prefixes(&rt, rt.alloc(), &DATA, FRONTS)
 }
 
-// The header of DATA is that of S1F13 W, and has its octets.
+// Checks that the header of DATA is that of S1F13 W, and has its bytes.
 #[test]
 fn has_a_header(rt: HostRuntime) {
     let octets = *b"\x00\x00\x81\x0d\x00\x00\x00\x00\x00\x01";
@@ -230,11 +230,11 @@ fn check_refused(rt: &impl Abort, alloc: Global, source: &mut Feed) {
     match read_frame(alloc, source, 256) {
         Ok(Some(frame)) => assert_octets(rt, &frame.text, &DATA[14..]),
         Err(ReadFault::Memory) => assert_octets(rt, source.left(), &DATA[14..]),
-        _ => assert_so(rt, false, "the message, or want of memory"),
+        _ => assert_so(rt, false, "the message, or out of memory"),
     }
 }
 
-// Where its own input is refused, this test has nothing to say.
+// If the allocation of its own input fails, this test checks nothing.
 #[test]
 fn refused_text(rt: HostRuntime) {
     if let Ok(octets) = Vec::from_slice(rt.alloc(), &DATA) {

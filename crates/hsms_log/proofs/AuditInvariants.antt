@@ -1,4 +1,4 @@
--- What the reader of a text in pieces knows.
+-- The invariant of the reader of a text in chunks.
 use Rattle.std.proofs.Common.{◌≡◌, ◌+◌, ◌++◌, ◌==◌, Bool, inl, inr, ℕ, List, [], ◌∷◌, length, eqb, false, Some, None, Ok, Err, refl, sym, ap, ◌∙◌, subst, arith, append_assoc}
 use Rattle.std.specs.Prelude.{Option, Result, MatchOption, IfOk}
 use Rattle.std.specs.Str.Lines.{strip_carriage_return}
@@ -25,7 +25,7 @@ nothing_continues : (limit : ℕ) → IsOverlong limit [] → ⊥
 nothing_continues limit (inl long) = omega (arith, long)
 nothing_continues limit (inr long) = let size = long.0 in omega (arith, size)
 
--- before anything was read
+-- Before anything was read.
 pub begins : (line_checker : LineChecker) (held : List ℕ) → held ≡ [] → Follows line_checker [] → StateInvariant (record { line_checker = line_checker; held = held }) []
 begins line_checker held none follows =
     let P : List (List ℕ) → Type 0 = λ l. Follows line_checker l in
@@ -36,11 +36,11 @@ begins line_checker held none follows =
       can_continue = subst Q (sym none) (nothing_continues (limit_after line_checker.session));
     }
 
--- the held line has no line feed, nor with a part that has none
+-- The buffered line has no line feed, also not with a part that has none.
 held_none : (text held part : List ℕ) → held ≡ open_line text → HasNone 10 part → HasNone 10 (open_line text ++ part)
 held_none text held part held_is none = All-append (λ x. eqb x 10 ≡ false) (open_line text) part (HasNone-open_line text) none
 
--- the lines of a text whose held line goes on by a part
+-- The lines of a text whose buffered line continues with a part.
 part_lines : (text held part : List ℕ) → held ≡ open_line text → HasNone 10 part
     → (ended_lines (text ++ part) ≡ ended_lines text) × (open_line (text ++ part) ≡ held ++ part)
 part_lines text held part held_is none =
@@ -49,7 +49,7 @@ part_lines text held part held_is none =
       open_line-append text part ∙ open_line-none (open_line text ++ part) both ∙ ap (λ l. l ++ part) (sym held_is),
     )
 
--- the lines of a text whose held line ends behind a part
+-- The lines of a text whose buffered line ends after a part.
 end_lines : (text held part : List ℕ) → held ≡ open_line text → HasNone 10 part
     → (ended_lines (text ++ (part ++ 10 ∷ [])) ≡ ended_lines text ++ strip_carriage_return (held ++ part) ∷ []) × (open_line (text ++ (part ++ 10 ∷ [])) ≡ [])
 end_lines text held part held_is none =
@@ -62,7 +62,7 @@ end_lines text held part held_is none =
       open_line-append text (part ++ 10 ∷ []) ∙ ap open_line joined ∙ open_line-first (open_line text ++ part) [] both ∙ open_line-none [] none_of,
     )
 
--- the held line goes on
+-- The buffered line continues.
 pub part_invariant : (old new : Reading) (text part : List ℕ) → HasNone 10 part → new.line_checker ≡ old.line_checker → new.held ≡ old.held ++ part
     → (IsOverlong (limit_after old.line_checker.session) new.held → ⊥) → StateInvariant old text → StateInvariant new (text ++ part)
 part_invariant old new text part none checker_is held_is short consistent =
@@ -76,7 +76,7 @@ part_invariant old new text part none checker_is held_is short consistent =
       can_continue = subst S (sym checker_is) short;
     }
 
--- the held line has ended, and was judged
+-- The buffered line has ended, and was checked.
 pub line_invariant : (old new : Reading) (start : LineChecker) (text part line : List ℕ) → HasNone 10 part → new.held ≡ [] → start ≡ old.line_checker
     → line ≡ strip_carriage_return (old.held ++ part)
     → ((before : List (List ℕ)) → Follows start before → Follows new.line_checker (before ++ line ∷ []))
@@ -94,12 +94,12 @@ line_invariant old new start text part line none held_is start_is line_is follow
       can_continue = subst Q (sym held_is) (nothing_continues (limit_after new.line_checker.session));
     }
 
--- a failure stays one where the text goes on
+-- A failure remains if the text continues.
 pub onward_more : (text more : List ℕ) (n : ℕ) (why : Why) → FailsOnward text n why → FailsOnward (text ++ more) n why
 onward_more text more n why fails rest =
     let P : List ℕ → Type 0 = λ l. Fails l n why in subst P (sym (append_assoc text more rest)) (fails (more ++ rest))
 
--- the line that has ended fails
+-- The line that has ended fails.
 pub line_fails : (old : Reading) (start : LineChecker) (text part line : List ℕ) (why : Why) → HasNone 10 part → start ≡ old.line_checker
     → line ≡ strip_carriage_return (old.held ++ part)
     → ((before : List (List ℕ)) → Follows start before → FailsAfter before line why)
@@ -112,7 +112,7 @@ line_fails old start text part line why none start_is line_is fails consistent =
     FailsSoFar-onward (text ++ (part ++ 10 ∷ [])) (old.line_checker.tally.lines + 1) why
     (inl (ended_lines text, line, [], all, ap (λ k. k + 1) consistent.lines.number, fails (ended_lines text) (subst S (sym start_is) consistent.lines)))
 
--- the line that ends was judged
+-- The line that ends was checked.
 pub line_ended : {E : Type 0} (r : Result (Option Why) E) (old new : Reading) (start : LineChecker) (part line : List ℕ) → HasNone 10 part → new.held ≡ []
     → start ≡ old.line_checker → line ≡ strip_carriage_return (old.held ++ part)
     → IfOk r (IsChecked start.tally.lines new.line_checker.tally.lines (Follows start) (Follows new.line_checker) line)
@@ -135,7 +135,7 @@ overlong_after (Some session) tally [] part (log, encoded_bytes, has, counts) lo
 overlong_after (Some session) tally (first ∷ others) part (log, encoded_bytes, has, counts) long =
     (session.settings, log, record { encoded_bytes = encoded_bytes; run = has.run }, long)
 
--- the held line is too long, however it goes on
+-- The buffered line is too long, however it continues.
 pub overlong_onward : (reader : Reading) (text part : List ℕ) (why : Why) → HasNone 10 part → why ≡ Unreadable
     → IsOverlong (limit_after reader.line_checker.session) (reader.held ++ part) → StateInvariant reader text
     → FailsOnward (text ++ part) (reader.line_checker.tally.lines + 1) why
@@ -148,7 +148,7 @@ overlong_onward reader text part why none why_is long consistent =
     FailsSoFar-onward (text ++ part) (reader.line_checker.tally.lines + 1) why
     (inr (subst Q (sym lines.0) (number, why_is, subst P (sym lines.1) after)))
 
--- the held line is too long, and has ended
+-- The buffered line is too long, and has ended.
 pub overlong_line : (reader : Reading) (text part : List ℕ) (why : Why) → HasNone 10 part → why ≡ Unreadable
     → IsOverlong (limit_after reader.line_checker.session) (reader.held ++ part) → StateInvariant reader text
     → FailsOnward (text ++ (part ++ 10 ∷ [])) (reader.line_checker.tally.lines + 1) why
@@ -157,7 +157,7 @@ overlong_line reader text part why none why_is long consistent =
     subst P (append_assoc text part (10 ∷ []))
     (onward_more (text ++ part) (10 ∷ []) (reader.line_checker.tally.lines + 1) why (overlong_onward reader text part why none why_is long consistent))
 
--- the text ends
+-- The text ends.
 pub last_audited : (reader : Reading) (text : List ℕ) (verdict : Verdict)
     → ((before : List (List ℕ)) → Follows reader.line_checker before → LinesAudited (before ++ last_lines reader.held) verdict)
     → StateInvariant reader text → HasAuditVerdict text verdict
@@ -165,7 +165,7 @@ last_audited reader text verdict check_result consistent =
     let P : List ℕ → Type 0 = λ o. LinesAudited (ended_lines text ++ last_lines o) verdict in
     subst P consistent.held (check_result (ended_lines text) consistent.lines)
 
--- nothing follows the last line feed
+-- Nothing follows the last line feed.
 pub last_none : (reader : Reading) (start : LineChecker) (verdict : Verdict) → start ≡ reader.line_checker → reader.held ≡ []
     → ((lines : List (List ℕ)) → Follows start lines → LinesAudited lines verdict)
     → (text : List ℕ) → StateInvariant reader text → HasAuditVerdict text verdict
@@ -176,7 +176,7 @@ last_none reader start verdict start_is none check_result text =
     let S : LineChecker → Type 0 = λ j. Follows j before in
     subst P (sym none) (subst Q (sym (append-nil before)) (check_result before (subst S (sym start_is) follows))))
 
--- a vector that isn't empty has octets
+-- A vector that is not empty has bytes.
 pub some_held : (xs : List ℕ) (n : ℕ) (b : Bool) → n ≡ length xs → b ≡ (n == 0) → b ≡ false → xs ≡ [] → ⊥
 some_held xs n b is test none empty =
     let zero_is : n ≡ 0 = is ∙ ap length empty in
@@ -186,7 +186,7 @@ last_some : (held : List ℕ) → (held ≡ [] → ⊥) → strip_carriage_retur
 last_some [] some = absurd (some refl)
 last_some (octet ∷ octets) some = refl
 
--- what follows it is a line, which doesn't fail
+-- A line that does not fail follows the last line feed.
 pub last_follows : (reader : Reading) (start later : LineChecker) (line : List ℕ) (verdict : Verdict) → start ≡ reader.line_checker → (reader.held ≡ [] → ⊥)
     → line ≡ strip_carriage_return reader.held → ((before : List (List ℕ)) → Follows start before → Follows later (before ++ line ∷ []))
     → ((lines : List (List ℕ)) → Follows later lines → LinesAudited lines verdict)
@@ -198,25 +198,25 @@ last_follows reader start later line verdict start_is some line_is follows check
     let last : line ∷ [] ≡ last_lines reader.held = ap (λ l. l ∷ []) line_is ∙ last_some reader.held some in
     subst P last (check_result (before ++ line ∷ []) (follows before (subst S (sym start_is) consistent))))
 
--- a failure of each text that begins with this one is one of this text
+-- A failure of each text that begins with this one is a failure of this text.
 pub audited_onward : (text : List ℕ) (verdict : Verdict) → FailsAs text verdict → HasAuditVerdict text verdict
 audited_onward text (Pass summary) fails = absurd fails
 audited_onward text (Fail n why) fails =
     let P : List ℕ → Type 0 = λ l. HasAuditVerdict l (Fail n why) in subst P (append-nil text) (fails [])
 
--- ---- the octets of one call
+-- ---- the bytes of one call
 
 pub fails_at : (text : List ℕ) (verdict : Verdict) (m n : ℕ) (why : Why) → verdict ≡ Fail m why → m ≡ n → FailsOnward text n why → FailsAs text verdict
 fails_at text verdict m n why verdict_is same fails =
     let P : Verdict → Type 0 = λ v. FailsAs text v in
     let Q : ℕ → Type 0 = λ k. FailsOnward text k why in subst P (sym verdict_is) (subst Q (sym same) fails)
 
--- a line more of them has ended
+-- One more line of them has ended.
 pub parts_on : (octets done rest part more : List ℕ) → octets ≡ done ++ rest → rest ≡ part ++ 10 ∷ more → octets ≡ (done ++ (part ++ 10 ∷ [])) ++ more
 parts_on octets done rest part more split found =
     split ∙ ap (λ l. done ++ l) (found ∙ sym (append_assoc part (10 ∷ []) more)) ∙ sym (append_assoc done (part ++ 10 ∷ []) more)
 
--- that line fails
+-- That line fails.
 pub line_failed : (octets done rest part more text : List ℕ) (m n : ℕ) (why : Why) (verdict : Verdict) → octets ≡ done ++ rest → rest ≡ part ++ 10 ∷ more
     → verdict ≡ Fail m why → m ≡ n → FailsOnward ((text ++ done) ++ (part ++ 10 ∷ [])) n why → FailsAs (text ++ octets) verdict
 line_failed octets done rest part more text m n why verdict split found verdict_is same fails =
@@ -227,7 +227,7 @@ line_failed octets done rest part more text m n why verdict split found verdict_
     let P : List ℕ → Type 0 = λ l. FailsOnward l n why in
     fails_at (text ++ octets) verdict m n why verdict_is same (subst P whole (onward_more ((text ++ done) ++ line) more n why fails))
 
--- what follows the last line of them that has ended
+-- What follows the last line of them that has ended.
 pub rest_whole : (octets done rest text : List ℕ) → octets ≡ done ++ rest → (text ++ done) ++ rest ≡ text ++ octets
 rest_whole octets done rest text split = append_assoc text done rest ∙ ap (λ l. text ++ l) (sym split)
 

@@ -1,4 +1,4 @@
--- What an audit answers to what it read.
+-- The result of an audit, by what it read.
 use Rattle.std.proofs.Common.{◌≡◌, ◌≢◌, ◌<◌, ◌≤◌, ◌++◌, inl, inr, ℕ, List, [], ◌∷◌, length, take, drop, eqb, true, false, Some, None, Ok, refl, sym, ap, ◌∙◌, subst, arith, append_assoc, length-append, take-append-drop, rules}
 use Rattle.std.specs.Prelude.{Option, MatchOption, nat_lt}
 use Rattle.std.proofs.lemmas.List.{append-nil}
@@ -21,7 +21,7 @@ use Rattle.hsms_log.specs.LineReader.{Reading, StateInvariant, FailsAs, IsFailur
 use Rattle.hsms_log.specs.Auditing.{AuditsAs, HoldsNoFailure, FrontHolds, UsesReads, HasRead}
 use Rattle.hsms_log.proofs.Uniqueness.{RunLaws, run_invariant, EncodesLog-unique}
 
--- ---- a text after which a reader stands holds no failure
+-- ---- a text in whose state a reader is holds no failure
 
 no_session : (lines : List (List ℕ)) (part : List ℕ) → lines ≡ [] → (IsOverlong 256 part → ⊥) → OverlongAfter lines part → ⊥
 no_session [] part none short long = short long
@@ -54,7 +54,7 @@ invariant_holds laws reader text consistent n why fails =
 pub nothing_read : (old : Option (List ℕ)) (reader : Reading) → StateInvariant reader [] → HasRead old reader old
 nothing_read old reader consistent input found_fact = ([], input, refl, found_fact, consistent)
 
--- one read more
+-- One more read.
 pub reads_more : (old mid new : Option (List ℕ)) (n : ℕ) (buffer : List ℕ) (reader next : Reading) → HasRead old reader mid
     → Takes mid new n buffer → ((text : List ℕ) → StateInvariant reader text → StateInvariant next (text ++ take n buffer)) → HasRead old next new
 reads_more old mid new n buffer reader next so_far takes on input found_fact =
@@ -70,7 +70,7 @@ reads_more old mid new n buffer reader next so_far takes on input found_fact =
       on text before.4,
     )
 
--- a read that failed, or one that isn't made any more
+-- A read that failed, or that is no longer made.
 pub stops : (laws : RunLaws) (old mid new : Option (List ℕ)) (reader : Reading) → HasRead old reader mid → Stays mid new
     → IfRecorded old (λ input. FrontHolds input new)
 stops laws old mid new reader so_far same input found_fact =
@@ -82,7 +82,7 @@ ended_go : (input : List ℕ) (verdict : Verdict) (left : Option (List ℕ)) (en
 ended_go input (Pass summary) left ended left_is found both = (both.0, left_is)
 ended_go input (Fail n why) left ended left_is found both = (both.0, inl (left_is, found, both.1))
 
--- the read that found the end
+-- The read that found the end.
 pub ends : (laws : RunLaws) (old mid new : Option (List ℕ)) (n : ℕ) (buffer : List ℕ) (reader : Reading) (verdict : Verdict) (ended : Type 0)
     → HasRead old reader mid → Takes mid new n buffer → n ≡ 0 → IsAtEnd mid
     → ((text : List ℕ) → StateInvariant reader text → HasAuditVerdict text verdict) → ended → IfRecorded old (λ input. AuditsAs input (Ok verdict) new ended)
@@ -97,7 +97,7 @@ ends laws old mid new n buffer reader verdict ended so_far takes none at_end che
     let P : List ℕ → Type 0 = λ l. HasAuditVerdict l verdict × HoldsNoFailure l in
     ended_go input verdict new ended left_is found (subst P whole (check_result text before.4, invariant_holds laws reader text before.4))
 
--- the read whose octets have a failing line
+-- The read whose bytes have a failing line.
 pub fails : (laws : RunLaws) (old mid new : Option (List ℕ)) (n : ℕ) (buffer : List ℕ) (reader : Reading) (verdict : Verdict) (ended : Type 0)
     → HasRead old reader mid → Takes mid new n buffer → length (take n buffer) ≤ 4096
     → ((text : List ℕ) → StateInvariant reader text → FailsAs (text ++ take n buffer) verdict) → IfRecorded old (λ input. AuditsAs input (Ok verdict) new ended)
@@ -117,11 +117,11 @@ fails laws old mid new n buffer reader (Fail line why) ended so_far takes small 
       inr (text, block, drop n rest, split, step.2, small, invariant_holds laws reader text before.4, onward),
     )
 
--- a read that gave something did not find the end
+-- A read that returned bytes did not find the end.
 pub ends_same : (room n ends : ℕ) → n ≢ 0 → ends_after room (Ok n) ends ≡ ends
 ends_same room n ends some = let is : eqb n 0 ≡ false = ne_eqb n 0 some in search rules
 
--- a read into a block that gave nothing found it
+-- A read into a block that returned nothing found the end.
 pub ends_found : (new room ends n : ℕ) → 0 < room → n ≡ 0 → new ≡ ends_after room (Ok n) ends → new ≡ next_count ends
 ends_found new room ends n some none is =
     let P : ℕ → Type 0 = λ k. new ≡ ends_after room (Ok k) ends in
@@ -129,7 +129,7 @@ ends_found new room ends n some none is =
     let big : nat_lt 0 room ≡ true = lt-ltb 0 room some in
     rw big at here
 
--- a failure needs no reads
+-- A failure needs no reads.
 pub uses_failing : (reads : ℕ) (verdict : Verdict) (old new : SourceState) → IsFailure verdict → UsesReads reads (Ok verdict) old new
 uses_failing reads (Pass summary) old new failing = absurd failing
 uses_failing reads (Fail n why) old new failing = tt

@@ -12,18 +12,18 @@ use Rattle.hex.proofs.HexLemmas.{decode_of-ok, decode_of-even}
 use Rattle.hsms_log.specs.LineFormat.{IsHexOf}
 use Rattle.hsms_log.specs.Digits.{value_or_none, IsPair, IsValueOf, AreSmall, AreRead}
 
--- ---- from octets to the definition
+-- ---- from bytes to the definition
 
 value_some : (o : Option ℕ) → unwrap_or o 255 < 16 → o ≡ Some (unwrap_or o 255)
 value_some (Some v) small = refl
 value_some None small = absurd (omega arith)
 
--- two digits are the octet of their values
+-- Two digits are the byte of their values.
 pair_is : (a b v i : ℕ) → IsPair a b v → pair_value a b i ≡ Ok v
 pair_is a b v i h =
     rw (value_some (hex_digit_value a) h.0, value_some (hex_digit_value b) h.1) (ap (λ n. Ok n) (sym h.2))
 
--- the digits spell the first octets, and then what the rest of them spells
+-- The digits encode the first bytes, followed by what the rest of the digits encodes.
 pairs_read : (digits octets : List ℕ) (i : ℕ) → length digits ≡ 2 * length octets → i ≤ length octets → AreRead digits octets i
     → decode_pairs 0 digits ≡ prepend (take i octets) (decode_pairs (2 * i) (drop (2 * i) digits))
 pairs_read digits octets zero size room read = decode_start digits octets
@@ -35,13 +35,13 @@ pairs_read digits octets (suc i) size room read =
     subst (λ n. decode_pairs 0 digits ≡ prepend (take n octets) (decode_pairs (2 * n) (drop (2 * n) digits))) more
     (subst (λ xs. decode_pairs 0 digits ≡ prepend (take (i + 1) xs) (decode_pairs (2 * (i + 1)) (drop (2 * (i + 1)) digits))) (set-get_or octets i 0) next)
 
--- all are digits
+-- All are digits.
 pub decoded : (digits octets : List ℕ) → length digits ≡ 2 * length octets → AreRead digits octets (length octets) → IsHexOf digits octets
 decoded digits octets size read =
     decode_of-even digits (omega (arith, size))
     ∙ decode_done digits octets (length octets) (omega arith) (omega (arith, size)) (pairs_read digits octets (length octets) size (omega arith) read)
 
--- one is none
+-- One is not a digit.
 pub undecoded : (digits : List ℕ) (k : ℕ) → k < length digits → is_hex_digit (get_or digits k 0) ≡ false
     → (encoded_bytes : List ℕ) → IsHexOf digits encoded_bytes → ⊥
 undecoded digits k fits other encoded_bytes hex =
@@ -49,7 +49,7 @@ undecoded digits k fits other encoded_bytes hex =
     let digit = All-get_or (λ c. is_hex_digit c ≡ true) digits k 0 fits parts.1 in
     let no = sym digit ∙ other in cc no
 
--- eight octets more are read
+-- Eight more bytes are read.
 pub read_on : (digits values old new : List ℕ) (place passed : ℕ) → place ≤ passed → AreRead digits old passed
     → ((k : ℕ) → k < 16 → IsValueOf (get_or digits (2 * place + k) 0) (get_or values k 0)) → AreSmall values
     → ((k : ℕ) → k < place → get_or new k 0 ≡ get_or old k 0)
@@ -76,7 +76,7 @@ read_on digits values old new place passed within read found_fact small before j
           )
     ]
 
--- ---- lanes, as what is computed of each octet
+-- ---- lanes, as a function of each byte
 
 zip2-map : (h : ℕ → ℕ → ℕ) (f g : ℕ → ℕ) (xs : List ℕ) → zip2 h (map f xs) (map g xs) ≡ map (λ x. h (f x) (g x)) xs
 zip2-map h f g [] = refl
@@ -110,7 +110,7 @@ lanes_chosen h f g v m_is p q = chosen h f g v _ _ _ m_is p q
 pub lanes_as_many : (f : ℕ → ℕ) (v : List ℕ) {values : List ℕ} {n : ℕ} → values ≡ map f v → length v ≡ n → length values ≡ n
 lanes_as_many f v is long = ap length is ∙ length-map v f ∙ long
 
--- whether a number stands for an octet
+-- True if a number represents a byte.
 abbrev pub is_value_for : ℕ → ℕ → Bool
 is_value_for c v = cond (leb 16 v) (not (is_hex_digit c)) (eqb v (value_or_none c))
 
@@ -121,7 +121,7 @@ consistent c v e = go (leb 16 v) refl e
     go true p q = (let large = leb-true 16 v p in λ small. absurd (omega (arith, large, small)), λ _. not-true _ q)
     go false p q = (λ _. eqb-true v (value_or_none c) q, let small = leb-false 16 v p in λ large. absurd (omega (arith, large, small)))
 
--- what is computed of sixteen octets stands for them, where it does for each octet that there is
+-- The values of sixteen bytes represent them, if the value of each possible byte does.
 pub values_decoded : (f : ℕ → ℕ) (digits values : List ℕ) (place : ℕ) → place + 16 ≤ length digits → ((k : ℕ) → Fits w8 (get_or digits k 0))
     → values ≡ map f (chunk place 16 digits) → agree_below (λ c. is_value_for c (f c)) (λ _. true) 256 ≡ true
     → (k : ℕ) → k < 16 → IsValueOf (get_or digits (place + k) 0) (get_or values k 0)
@@ -132,7 +132,7 @@ values_decoded f digits values place room fits is all k less =
     let same = ap (λ l. get_or l k 0) is ∙ get_or-map f v k 0 0 (omega (arith, long)) ∙ ap f (get_or-chunk place 16 digits k 0 less) in
     subst (λ n. IsValueOf c n) (sym same) (consistent c (f c) (agree_below_at (λ c. is_value_for c (f c)) (λ _. true) 256 c all (fits (place + k)).fits))
 
--- ---- the greater of lanes
+-- ---- the maximum of lanes
 
 abbrev pub greater : List ℕ → List ℕ → List ℕ
 greater a b = sel_l (map (top 7) (zip2 (λ x y. cond (ltb x y) 255 0) a b)) b a
@@ -150,14 +150,14 @@ greater_at (x ∷ xs) [] k same less = absurd (omega arith)
 greater_at (x ∷ xs) (y ∷ ys) zero same less = greater_of x y
 greater_at (x ∷ xs) (y ∷ ys) (suc k) same less = greater_at xs ys k (omega arith) (omega arith)
 
--- where the greater is small, so are both
+-- If the maximum is small, so are both.
 pub greater_small : (a b : List ℕ) → length a ≡ 16 → length b ≡ 16 → AreSmall (greater a b) → AreSmall a × AreSmall b
 greater_small a b left right small = (λ k less. omega (arith, both k less, small k less), λ k less. omega (arith, both k less, small k less))
   where
     both : (k : ℕ) → k < 16 → get_or (greater a b) k 0 ≡ max (get_or a k 0) (get_or b k 0)
     both k less = greater_at a b k (left ∙ sym right) (omega (arith, left))
 
--- where the greater isn't, one of them isn't
+-- If the maximum is not small, one of them is not.
 pub greater_large : (a b : List ℕ) (k : ℕ) → length a ≡ 16 → length b ≡ 16 → k < 16 → 16 ≤ get_or (greater a b) k 0 → (16 ≤ get_or a k 0) ⊎ (16 ≤ get_or b k 0)
 greater_large a b k left right less large =
     let both : get_or (greater a b) k 0 ≡ max (get_or a k 0) (get_or b k 0) = greater_at a b k (left ∙ sym right) (omega (arith, left)) in
@@ -168,7 +168,7 @@ greater_large a b k left right less large =
 
 -- ---- the mask of a comparison
 
--- where no bit is set, no lane passes
+-- If no bit is set, no lane passes.
 mask_none : (p : ℕ → Bool) (v : List ℕ) → mask_l (map p v) ≡ 0 → (k : ℕ) → k < length v → p (get_or v k 0) ≡ false
 mask_none p [] empty k less = absurd (omega arith)
 mask_none p (x ∷ xs) empty zero less = go (p x) refl empty
@@ -178,7 +178,7 @@ mask_none p (x ∷ xs) empty zero less = go (p x) refl empty
     go false e sum = e
 mask_none p (x ∷ xs) empty (suc k) less = mask_none p xs (omega arith) k (omega arith)
 
--- else one does
+-- Otherwise one does.
 mask_some : (p : ℕ → Bool) (v : List ℕ) → 0 < mask_l (map p v) → (k : ℕ) × (k < length v) × (p (get_or v k 0) ≡ true)
 mask_some p [] some = absurd (omega arith)
 mask_some p (x ∷ xs) some =
@@ -230,7 +230,7 @@ one_large values long some =
 
 -- ---- two halves are joined
 
--- two that stand together
+-- Two adjacent elements.
 two_at : (n : ℕ) (xs : List ℕ) → suc n < length xs → chunk n 2 xs ≡ get_or xs n 0 ∷ get_or xs (suc n) 0 ∷ []
 two_at n [] less = absurd (omega arith)
 two_at zero (x ∷ []) less = absurd (omega arith)
@@ -241,14 +241,14 @@ octets_each : (xs : List ℕ) → ((k : ℕ) → k < length xs → get_or xs k 0
 octets_each [] small = tt
 octets_each (x ∷ xs) small = (omega (arith, small 0 (omega arith)), octets_each xs (λ k less. small (suc k) (omega arith)))
 
--- of a number that has the first half below and the second one above, as an octet
+-- The byte of a number with the first half below and the second above.
 abbrev pub join : ℕ → ℕ
 join n = n * 4097 % 65536 / 256
 
 join_is : (x y : ℕ) → x < 16 → y < 16 → join (x + 256 * (y + 256 * 0)) ≡ x * 16 + y
 join_is x y first second = omega (arith, first, second)
 
--- the numbers that two octets each are, the first below
+-- The numbers of two bytes each, the first below.
 abbrev pub numbers : List ℕ → List ℕ
 numbers values = digits_l 65536 8 (number_l 256 values)
 

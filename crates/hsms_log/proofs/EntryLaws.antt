@@ -8,7 +8,7 @@ use Rattle.hsms_log.specs.LineContent.{HasFrame, CarriesFrame}
 use Rattle.hsms_log.specs.Reading.{number_at}
 use Rattle.hsms_log.proofs.Numbers.{number_at-encoded_bytes, number_at-some, pair_inj}
 
--- the number at the front of a line that spells an entry
+-- The number at the front of a line that encodes an entry.
 front_of : (line : List ℕ) (entry : Entry) (h : EncodesEntry line entry) → number_at line ≡ Some (entry.time, h.encoded_bytes.0)
 front_of line entry h =
     ap number_at h.encoded_bytes.2 ∙ number_at-encoded_bytes entry.time h.encoded_bytes.0 h.fits.time
@@ -16,7 +16,7 @@ front_of line entry h =
 pub entry_unread : (line : List ℕ) → number_at line ≡ None → (entry : Entry) → EncodesEntry line entry → ⊥
 entry_unread line h entry encoded_bytes = let no = sym h ∙ front_of line entry encoded_bytes in cc no
 
--- what follows the number spells the entry's event
+-- What follows the number encodes the entry's event.
 pub event_after : (line text : List ℕ) (time : ℕ) → number_at line ≡ Some (time, text)
     → (entry : Entry) → EncodesEntry line entry → IsEvent entry.event × EncodesEvent text entry.event
 event_after line text time h entry encoded_bytes =
@@ -40,11 +40,11 @@ pub line_unread : (max : ℕ) (line : List ℕ) → (IsBlank line → ⊥) → (
 line_unread max line other none None h = other h.1
 line_unread max line other none (Some entry) h = none entry h.1
 
--- a line has one time, and one text after it
+-- A line has one time, and one text after it.
 pub entry_parts : (line : List ℕ) (a b : Entry) (h : EncodesEntry line a) (k : EncodesEntry line b) → (a.time ≡ b.time) × (h.encoded_bytes.0 ≡ k.encoded_bytes.0)
 entry_parts line a b h k = pair_inj a.time b.time h.encoded_bytes.0 k.encoded_bytes.0 (sym (front_of line a h) ∙ front_of line b k)
 
--- ---- lines that carry a frame
+-- ---- lines with a frame
 
 pub line_marked : (max : ℕ) (line : List ℕ) → (IsBlank line → ⊥) → ((entry : Entry) → EncodesEntry line entry → HasFrame entry.event)
     → (carried : Option Entry) → Carries max line carried → CarriesFrame carried

@@ -142,7 +142,7 @@ system_go digits (Ok octets) is =
 system_decided : (digits : List ℕ) → Decided ((n : ℕ) × (n < 2 ^ 32) × IsHexOf digits (system_octets n))
 system_decided digits = system_go digits (decode_of digits) refl
 
--- a mark, a space and a message
+-- A mark, a space and a message.
 abbrev Marked : List ℕ → List ℕ → Type 0
 Marked mark text = (f : Frame) × IsMessage f × EncodesOctets text mark (message_octets f)
 
@@ -291,7 +291,7 @@ has_octets (T3 system) fits = tt
 has_octets (Cut cause) fits = tt
 has_octets Down fits = tt
 
--- the verdict on the lines, whatever the lines before the last ones are
+-- The verdict on the lines, for all lines before the last ones.
 abbrev HasVerdict : List ℕ → List (List ℕ) → Type 0
 HasVerdict first others = (v : Verdict) × LinesAudited (first ∷ others) v
 

@@ -1,4 +1,4 @@
--- Lines that carry a frame, read.
+-- Lines with a frame, read.
 use Rattle.std.proofs.Common.{◌≡◌, ◌<◌, ◌≤◌, ◌+◌, ◌%◌, ◌++◌, ◌∷◌, ℕ, List, length, take, drop, Some, refl, sym, ap, ◌∙◌, subst, arith, length-append}
 use Rattle.std.specs.Prelude.{decimal}
 use Rattle.std.proofs.lemmas.Fmt.{decimal_nonempty}
@@ -28,7 +28,7 @@ frame_found line text digits time Taken header octets at text_is encoded_bytes =
 frame_found line text digits time Discarded header octets at text_is encoded_bytes =
     entry_found line text time (event.Discarded (record { header = header; text = octets })) at encoded_bytes.0 (digits, encoded_bytes.1, text_is)
 
--- digits of a message are even in number, and at least twenty
+-- The number of digits of a message is even, and at least twenty.
 pub message_size : (digits : List ℕ) (frame : Frame) → IsHexOf digits (message_octets frame) → (length digits % 2 ≡ 0) × (20 ≤ length digits)
 unfolding message_octets
 message_size digits frame encoded_bytes =
@@ -39,15 +39,15 @@ message_size digits frame encoded_bytes =
     let twice = parts.2 in
     (parts.0, omega (arith, size, ten, twice))
 
--- a vector whose octets were all written over
+-- A vector whose bytes were all overwritten.
 pub written_all : (octets items : List ℕ) (n : ℕ) → length octets ≡ n → length items ≡ n → take n (octets ++ drop (length octets) items) ≡ octets
 written_all octets items n one two =
     ap (λ l. take n (octets ++ l)) (drop_all (length octets) items (omega (arith, one, two)))
     ∙ ap (take n) (append-nil octets) ∙ take_all n octets (omega (arith, one))
 
--- ---- which events a line spells
+-- ---- which events a line encodes
 
--- a frame has a mark, and digits behind it
+-- A frame has a mark, and digits after it.
 event_frame : (text : List ℕ) (e : Event) → EncodesEvent text e → HasFrame e
     → (mark : Mark) × (digits : List ℕ) × (frame : Frame) × IsHexOf digits (message_octets frame) × (text ≡ mark_word mark ++ 32 ∷ digits)
 event_frame text (event.Sent frame) encoded_bytes framed = (Sent, encoded_bytes.0, frame, encoded_bytes.1, encoded_bytes.2)
@@ -65,7 +65,7 @@ after_mark Sent digits = refl
 after_mark Taken digits = refl
 after_mark Discarded digits = refl
 
--- a line of so few octets spells no frame
+-- A line with this few bytes encodes no frame.
 pub frame_short : (line : List ℕ) → length line < 24 → EncodesNoFrame line
 frame_short line short entry encoded_bytes framed =
     let text = encoded_bytes.encoded_bytes.0 in
@@ -79,14 +79,14 @@ frame_short line short entry encoded_bytes framed =
     ap length parts.4 ∙ length-append (mark_word parts.0) (32 ∷ digits) in
     omega (arith, short, size, some, long, marked, mark_size parts.0)
 
--- nor does one whose event begins with no mark
+-- A line whose event begins with no mark encodes no frame.
 pub frame_unmarked : (line text : List ℕ) (time : ℕ) → number_at line ≡ Some (time, text)
     → ((mark : Mark) (digits : List ℕ) → text ≡ mark_word mark ++ 32 ∷ digits → ⊥) → EncodesNoFrame line
 frame_unmarked line text time at none entry encoded_bytes framed =
     let parts = event_frame text entry.event (event_after line text time at entry encoded_bytes).1 framed in
     none parts.0 parts.1 parts.4
 
--- nor does one whose digits spell no message
+-- A line whose digits encode no message encodes no frame.
 pub frame_unread : (line text digits : List ℕ) (time : ℕ) (mark : Mark) → number_at line ≡ Some (time, text) → text ≡ mark_word mark ++ 32 ∷ digits
     → ((frame : Frame) → IsHexOf digits (message_octets frame) → ⊥) → EncodesNoFrame line
 frame_unread line text digits time mark at text_is none entry encoded_bytes framed =
@@ -96,7 +96,7 @@ frame_unread line text digits time mark at text_is none entry encoded_bytes fram
     let P : List ℕ → Type 0 = λ l. IsHexOf l (message_octets parts.2) in
     none parts.2 (subst P same parts.3)
 
--- behind a mark stands no event but a frame
+-- After a mark, the only possible event is a frame.
 frame_after : (text digits : List ℕ) (mark : Mark) (e : Event) → text ≡ mark_word mark ++ 32 ∷ digits → EncodesEvent text e → HasFrame e
 frame_after text digits Sent e is h = marked_after text digits 62 e is (omega arith) h
 frame_after text digits Taken e is h = marked_after text digits 60 e is (omega arith) h

@@ -1,4 +1,4 @@
--- What was read of a text that goes on.
+-- What was read of a text that continues.
 use Rattle.std.proofs.Common.{◌≡◌, ◌<◌, ◌≤◌, ◌≢◌, ◌+◌, ◌-◌, ◌*◌, ◌++◌, ◌⊎◌, inl, inr, ℕ, zero, suc, List, [], ◌∷◌, length, take, Bool, true, false, cond, eqb, Some, None, refl, sym, ap, ◌∙◌, subst, arith, append_assoc, length-append}
 use Rattle.std.specs.Prelude.{Option, slice_index, ◌==◌}
 use Rattle.std.specs.Str.Lines.{strip_carriage_return}
@@ -13,9 +13,9 @@ use Rattle.hsms_log.specs.LineFormat.{Carries, settings_limit, line_limit}
 use Rattle.hsms_log.specs.Verdict.{FailsAfter, LineFails, OverlongAfter, FailsSoFar, FailsOnward}
 use Rattle.hsms_log.proofs.LineLemmas.{ended_lines-first, ended_lines-none, open_line-first, open_line-none}
 
--- ---- lines of a text that goes on
+-- ---- lines of a text that continues
 
--- a text has no line feed, or a first one
+-- A text has no line feed, or a first one.
 first_feed : (text : List ℕ) → HasNone 10 text ⊎ ((part : List ℕ) × (rest : List ℕ) × (text ≡ part ++ 10 ∷ rest) × HasNone 10 part)
 first_feed [] = inl (All-nil (λ x. eqb x 10 ≡ false))
 first_feed (octet ∷ text) =
@@ -55,14 +55,14 @@ append_go (suc fuel) a b h =
           )
     ]
 
--- the lines that have ended in what was read stay the first ones
+-- The lines that have ended in what was read remain the first ones.
 pub ended_lines-append : (a b : List ℕ) → ended_lines (a ++ b) ≡ ended_lines a ++ ended_lines (open_line a ++ b)
 ended_lines-append a b = let both = append_go (length a) a b (omega arith) in both.0
 
 pub open_line-append : (a b : List ℕ) → open_line (a ++ b) ≡ open_line (open_line a ++ b)
 open_line-append a b = let both = append_go (length a) a b (omega arith) in both.1
 
--- the lines of what was read stay the first lines
+-- The lines of what was read remain the first lines.
 pub lines_of-append : (a b : List ℕ) → lines_of (a ++ b) ≡ ended_lines a ++ lines_of (open_line a ++ b)
 lines_of-append a b =
     let rest = open_line a ++ b in
@@ -70,7 +70,7 @@ lines_of-append a b =
     ∙ ap (λ o. (ended_lines a ++ ended_lines rest) ++ last_lines o) (open_line-append a b)
     ∙ append_assoc (ended_lines a) (ended_lines rest) (last_lines (open_line rest))
 
--- what follows the last line feed has none
+-- What follows the last line feed has none.
 open_go : (fuel : ℕ) (a : List ℕ) → length a ≤ fuel → HasNone 10 (open_line a)
 open_go zero [] h =
     let none = All-nil (λ x. eqb x 10 ≡ false) in
@@ -88,7 +88,7 @@ open_go (suc fuel) a h =
 pub HasNone-open_line : (a : List ℕ) → HasNone 10 (open_line a)
 HasNone-open_line a = open_go (length a) a (omega arith)
 
--- the lines of a text that has a line feed
+-- The lines of a text with a line feed.
 pub lines_of-first : (part rest : List ℕ) → HasNone 10 part → lines_of (part ++ 10 ∷ rest) ≡ strip_carriage_return part ∷ lines_of rest
 lines_of-first part rest none =
     ap (λ l. l ++ last_lines (open_line (part ++ 10 ∷ rest))) (ended_lines-first part rest none)
@@ -106,7 +106,7 @@ strip-length line = strip_go (slice_index line (length line - 1) == 13) line
 pub strip_kept : (line : List ℕ) → slice_index line (length line - 1) ≢ 13 → strip_carriage_return line ≡ line
 strip_kept line other = rw (ne_eqb (slice_index line (length line - 1)) 13 other) refl
 
--- a line that begins with an overlong part is longer than the limit
+-- A line that begins with an overlong part exceeds the limit.
 overlong_line : (limit : ℕ) (part more : List ℕ) → IsOverlong limit part → limit < length (strip_carriage_return (part ++ more))
 overlong_line limit part more (inl long) =
     omega (arith, strip-length (part ++ more), length-append part more, long)
@@ -121,7 +121,7 @@ last_lines-some : (text : List ℕ) → 0 < length text → last_lines text ≡ 
 last_lines-some [] h = absurd (omega arith)
 last_lines-some (octet ∷ octets) h = refl
 
--- the first line of a text that begins with a part of it
+-- The first line of a text that begins with a part of the line.
 first_line : (part more : List ℕ) → HasNone 10 part → 0 < length part
     → (line : List ℕ) × (after : List (List ℕ)) × (lines_of (part ++ more) ≡ line ∷ after) × ((limit : ℕ) → IsOverlong limit part → limit < length line)
 first_line part more none some =
@@ -152,7 +152,7 @@ after_some : (before : List (List ℕ)) (part : List ℕ) → OverlongAfter befo
 after_some [] part long = overlong_some settings_limit part long
 after_some (first ∷ others) part (s, log, encoded_bytes, long) = overlong_some (line_limit s.max) part long
 
--- ---- failures of a text that goes on
+-- ---- failures of a text that continues
 
 fails_onward : (a b : List (List ℕ)) (n : ℕ) (why : Why) → LineFails a n why → LineFails (a ++ b) n why
 fails_onward a b n why (before, line, after, split, number, fails) =
@@ -162,7 +162,7 @@ long_carries : (max : ℕ) (line : List ℕ) (carried : Option Entry) → 2 * ma
 long_carries max line None over h = let fits = h.0 in omega (arith, fits, over)
 long_carries max line (Some entry) over h = let fits = h.0 in omega (arith, fits, over)
 
--- a line that is too long fails after a run
+-- A line that is too long fails after a run.
 long_fails : (before : List (List ℕ)) (part line : List ℕ) → OverlongAfter before part
     → ((limit : ℕ) → IsOverlong limit part → limit < length line) → FailsAfter before line Unreadable
 long_fails [] part line long is = (λ s encoded_bytes. let fits = encoded_bytes.fits in let over = is 256 long in omega (arith, fits, over), refl)

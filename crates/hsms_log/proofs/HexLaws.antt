@@ -1,4 +1,4 @@
--- What hexadecimal digits spell.
+-- What hexadecimal digits encode.
 use Rattle.std.proofs.Common.{◌≡◌, ◌<◌, ◌+◌, ◌*◌, ◌++◌, ℕ, List, length, take, drop, get_or, Ok, Err, refl, sym, ap, ◌∙◌, subst, arith, length-append, take-append-drop}
 use Rattle.std.specs.Prelude.{Result, MatchResult}
 use Rattle.std.specs.Int.{w32, to_be_bytes, from_be_bytes}
@@ -13,7 +13,7 @@ use Rattle.hsms_frame.specs.Header.{header_octets, IsHeader}
 use Rattle.hsms_log.specs.LineFormat.{IsHexOf, IsMessage, message_octets, system_octets}
 use Rattle.hsms_log.proofs.LineBindings.{ok_inj}
 
--- the answer of a decoder that was given room for four octets
+-- The result of a decoder with room for four bytes.
 abbrev pub Sized : List ℕ → Result (Unit {0}) FromHexError → List ℕ → Type 0
 Sized digits r octets = MatchResult (decode_sized digits 4) (λ bytes. (r ≡ Ok (tt {0})) × (octets ≡ bytes)) (λ e. r ≡ Err e)
 
@@ -63,7 +63,7 @@ message_found digits octets front text h decoded front_is text_is fits encoded_b
     ap (λ x. x ++ text) (encoded_bytes ∙ front_is) ∙ ap (λ x. take 10 octets ++ x) text_is ∙ take-append-drop 10 octets in
     (record { header = fits; text = subst P (sym text_is) (octets_drop 10 octets parts.3) }, decoded ∙ ap (λ x. Ok x) (sym whole))
 
--- digits of fewer than ten octets spell no message
+-- Digits of fewer than ten bytes encode no message.
 pub message_short : (digits octets : List ℕ) → decode_of digits ≡ Ok octets → length octets < 10 → (frame : Frame) → IsHexOf digits (message_octets frame) → ⊥
 unfolding message_octets
 message_short digits octets decoded short frame encoded_bytes =
@@ -73,6 +73,6 @@ message_short digits octets decoded short frame encoded_bytes =
     let ten : length (header_octets frame.header) ≡ 10 = refl in
     omega (arith, size, ten, short)
 
--- digits that don't decode spell no message
+-- Digits that do not decode encode no message.
 pub message_none : (digits : List ℕ) (e : FromHexError) → decode_of digits ≡ Err e → (frame : Frame) → IsHexOf digits (message_octets frame) → ⊥
 message_none digits e h frame encoded_bytes = let no = sym h ∙ encoded_bytes in cc no

@@ -1,4 +1,4 @@
--- What a chain of steps that may give nothing shows.
+-- Consequences of a chain of steps that may return nothing.
 use Rattle.std.proofs.Common.{◌≡◌, ◌<◌, ℕ, Ok, Some, None, refl, arith}
 use Rattle.std.specs.Prelude.{Option, Result, nat_lt}
 use Rattle.std.proofs.lemmas.Option.{cond_some}
@@ -22,7 +22,7 @@ below_fits bound n lt = rw (lt-ltb n bound lt) refl
 pub some_inj : {A : Type 0} (x y : A) → Some x ≡ Some y → x ≡ y
 some_inj x y h = cc
 
--- a step of a chain that gave something, and then the others
+-- A step of a chain that returned a value, followed by the others.
 pub bind_step : {A B C : Type 0} (o : Option A) (f : A → Option B) (y : B) → (o >>= f) ≡ Some y
     → ((x : A) → o ≡ Some x → f x ≡ Some y → C) → C
 bind_step o f y h next = let parts = bind_some o f y h in next parts.0 parts.1 parts.2

@@ -10,7 +10,7 @@ parts_go : (b : Bool) (octet : ℕ) (parts : List (List ℕ)) → (part : List �
 parts_go true octet parts x = ([], parts, refl)
 parts_go false octet parts x = (octet ∷ x.0, x.1, rw x.2 refl)
 
--- the parts are never none
+-- There is at least one part.
 parts_some : (text : List ℕ) → (part : List ℕ) × (parts : List (List ℕ)) × (slice_split (λ octet. eqb octet 10) text ≡ part ∷ parts)
 parts_some [] = ([], [], refl)
 parts_some (octet ∷ text) = parts_go (eqb octet 10) octet _ (parts_some text)
@@ -44,7 +44,7 @@ parts_last_go : (b : Bool) (octet : ℕ) (parts : List (List ℕ)) (rest : List 
 parts_last_go true octet parts rest x = ([], x.0, x.1 ∷ x.2, rw x.3 refl, x.4)
 parts_last_go false octet parts rest x = (octet ∷ x.0, x.1, x.2, rw x.3 refl, x.4)
 
--- the parts of a text with a line feed: two at least, and what follows the last line feed is the last
+-- A text with a line feed has at least two parts, and the last one is what follows the last line feed.
 parts_last : (front rest : List ℕ) → HasNone 10 rest
     → (part next : List ℕ) × (more : List (List ℕ)) × (slice_split (λ octet. eqb octet 10) (front ++ 10 ∷ rest) ≡ part ∷ next ∷ more)
     × (last_among (next ∷ more) ≡ rest)

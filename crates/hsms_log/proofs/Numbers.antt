@@ -22,7 +22,7 @@ use Rattle.hsms_log.specs.Lines.{HasNone}
 use Rattle.hsms_log.specs.Reading.{number_of, is_decimal, has_leading_zero, word_at, number_at, ◌>>=◌}
 use Rattle.hsms_log.proofs.LineBindings.{bind_some, some_inj}
 
--- the words of std for digits and their value
+-- The definitions of std for digits and their value.
 pub own : IsNumeralModel (λ ds. all_ascii_digits ds ≡ true) (digits_value 10)
 own = numerals_by_value _ tells_all_ascii_digits
 
@@ -34,7 +34,7 @@ pub all_of_digits : (ds : List ℕ) → all_ascii_digits ds ≡ true → list_al
 all_of_digits [] h = refl
 all_of_digits (d ∷ ds) h = let parts = and_parts _ _ h in and_from _ _ parts.0 (all_of_digits ds parts.1)
 
--- what the test of a decimal word shows
+-- Consequences of the test of a decimal word.
 pub decimal_parts : (word : List ℕ) → is_decimal word ≡ true
     → (all_ascii_digits word ≡ true) × (0 < length word) × (get_or word 0 0 ≡ 48 → length word ≡ 1)
 decimal_parts word h =
@@ -59,7 +59,7 @@ no_leading_zero n lt =
           and_left (eqb (get_or (decimal n) 0 0) 48) (ltb 1 (length (decimal n))) (ne_eqb (get_or (decimal n) 0 0) 48 (λ e. omega (arith, e, first)))
     ]
 
--- a decimal word passes the test
+-- A decimal word passes the test.
 is_decimal-decimal : (n : ℕ) → n < 2 ^ 64 → is_decimal (decimal n) ≡ true
 is_decimal-decimal n lt =
     let digits : list_all is_ascii_digit (decimal n) ≡ true = all_of_digits (decimal n) (digits_decimal own n lt) in
@@ -85,7 +85,7 @@ number_of-some word n h =
     let back : decimal (digits_value 10 word) ≡ word = decimal-digits_value own word d.0 d.1 d.2 small in
     (omega arith, sym back ∙ ap decimal same)
 
--- what std's parse of a decimal word gives
+-- The result of the parse of a decimal word by std.
 pub parsed : {E : Type 0} (word : List ℕ) (r : Result ℕ E) → ParsesUnsigned 64 10 word r → is_decimal word ≡ true → result_ok r ≡ number_of word
 unfolding number_of
 parsed {E} word (Ok x) h d =
@@ -105,14 +105,14 @@ number_of-none word h = rw h refl
 
 -- ---- words
 
--- no digit is a space
+-- No digit is a space.
 spaceless : (word : List ℕ) → list_all is_ascii_digit word ≡ true → HasNone 32 word
 spaceless word digits k d within =
     let here : get_or word k d ≡ get_or word k 0 = get_or_default_zero word k d within in
     let other : get_or word k 0 ≢ 32 = not_in_digits own word 32 (digits_of_all word digits) (λ r. omega (arith, r)) k within in
     ne_eqb _ _ (λ e. other (sym here ∙ e))
 
--- no zero stands before other digits
+-- No zero precedes other digits.
 plain : (word : List ℕ) → (get_or word 0 0 ≡ 48 → length word ≤ 1) → has_leading_zero word ≡ false
 plain word short =
     elim (cases_eq (get_or word 0 0) 48) [
@@ -120,7 +120,7 @@ plain word short =
       | inr other ↦ and_left (eqb (get_or word 0 0) 48) (ltb 1 (length word)) (ne_eqb (get_or word 0 0) 48 other)
     ]
 
--- no digit of a number is a space
+-- No digit of a number is a space.
 pub HasNone-decimal : (n : ℕ) → n < 2 ^ 64 → HasNone 32 (decimal n)
 HasNone-decimal n lt k d within =
     let here : get_or (decimal n) k d ≡ get_or (decimal n) k 0 = get_or_default_zero (decimal n) k d within in
@@ -191,14 +191,14 @@ number_at-some text n rest h =
     let b = bind_some (number_of a.0.0) _ (n, rest) a.2 in
     numbered text a.0.0 a.0.1 b.0 n rest a.1 b.1 b.2
 
--- a split at the first space, by its clauses
+-- A split at the first space, by its clauses.
 pub split_word : (text : List ℕ) (r : Option (Bor (List ℕ) × Bor (List ℕ)))
     → IfSome r (λ x. (text ≡ x.0.now ++ 32 ∷ x.1.now) × HasNone 32 x.0.now) → IfNone r (HasNone 32 text)
     → option_map (λ x. (x.0.now, x.1.now)) r ≡ word_at text
 split_word text (Some x) found none = sym (ap word_at found.0 ∙ word_at-found x.0.now x.1.now found.1)
 split_word text None found none = sym (word_at-none text none)
 
--- ---- std's text and numbers
+-- ---- text and numbers of std
 
 utf8_of_decimal : (word : List ℕ) → is_decimal word ≡ true → IsUtf8 word
 utf8_of_decimal word d = IsUtf8-from_ascii word (IsAscii-from_digits word (own.to word (decimal_parts word d).0))
@@ -215,7 +215,7 @@ text_found P Q word (Err f) h is d e = is f h (utf8_of_decimal word d)
 
 -- ---- a number, digit by digit
 
--- a number of so few digits has room for one more
+-- A number with this few digits has room for one more.
 pub front_fits : (text : List ℕ) (i : ℕ) → i < 19 → list_all is_ascii_digit (take i text) ≡ true → digits_value 10 (take i text) < 10 ^ 18
 front_fits text i few digits =
     digits_value_short own (take i text) 18 (digits_of_all (take i text) digits) (omega (arith, length-take i text))
@@ -228,14 +228,14 @@ digit_is c h =
     let same = digit_value_digit c (low, high) in
     omega (arith, same, low)
 
--- an octet is a digit where what it is above the digit 0, modulo 2 ^ 64, is at most 9
+-- A byte is a digit if its difference from the digit 0, modulo 2 ^ 64, is at most 9.
 pub digit_below : (c d : ℕ) → c < 256 → d ≡ (c + (2 ^ 64 - 48)) % 2 ^ 64 → d ≤ 9 → (is_ascii_digit c ≡ true) × (d ≡ c - 48)
 digit_below c d octet is small =
     let low : 48 ≤ c = omega (arith, octet, is, small) in
     let high : c ≤ 57 = omega (arith, octet, is, small) in
     (and_from _ _ (le-leb 48 c low) (le-leb c 57 high), omega (arith, octet, is, small))
 
--- one digit more
+-- One more digit.
 pub front_more : (text : List ℕ) (i n : ℕ) → i < length text → is_ascii_digit (get_or text i 0) ≡ true → list_all is_ascii_digit (take i text) ≡ true
     → n ≡ digits_value 10 (take i text)
     → (list_all is_ascii_digit (take (i + 1) text) ≡ true) × (10 * n + (get_or text i 0 - 48) ≡ digits_value 10 (take (i + 1) text))
@@ -246,7 +246,7 @@ front_more text i n within digit digits n_is =
       omega (arith, more, value, n_is),
     )
 
--- a number of digits alone, with no zero before others, and a space behind it
+-- A number that consists of digits, without a zero before others, followed by a space.
 pub number_here : (text : List ℕ) (count n : ℕ) → count < length text → count ≤ 19 → 0 < count → get_or text count 0 ≡ 32
     → (get_or text 0 0 ≡ 48 → count ≡ 1) → list_all is_ascii_digit (take count text) ≡ true → n ≡ digits_value 10 (take count text)
     → Some (n, drop (count + 1) text) ≡ number_at text

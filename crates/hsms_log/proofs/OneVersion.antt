@@ -1,4 +1,4 @@
--- A text that spells no settings of version 2 is judged as one of version 1.
+-- A text that encodes no settings of version 2 is audited as a text of version 1.
 use Rattle.std.proofs.Common.{◌≡◌, ◌≢◌, ◌++◌, inl, inr, ℕ, List, [], ◌∷◌, length, Some, sym, ap, ◌∙◌, subst, arith}
 use Rattle.std.specs.Prelude.{◌↔◌, codes, decimal}
 use Rattle.std.specs.List.{filter_map, join_with_byte}
@@ -19,7 +19,7 @@ use Rattle.hsms_log.specs.Log.{EncodesLog}
 use Rattle.hsms_log.specs.Verdict.{EncodesRun, FailsRun, FailsAfter, LinesAudited, summary_of}
 use Rattle.hsms_log.specs.VersionOne.{settings_line_of_one, EncodesSettingsOfOne, EncodesLogOfOne, EncodesRunOfOne, FailsRunOfOne, FailsAfterOfOne, LinesAuditedOfOne, EncodesNoVersionTwo, summary_of_one}
 
--- what the laws of the session machine say of version 1
+-- What the laws of the session machine state about version 1.
 pub record OneLaws : Type 0 where
   pub runs : VersionOneKeepsRuns
   pub answers : VersionOneKeepsAnswers
@@ -124,6 +124,6 @@ audited_from_one laws lines (Fail n why) never (inl (before, line, after, split,
     inl (before, line, after, split, number, after_from_one laws before line after why (subst P split never) fails)
 audited_from_one laws lines (Fail n why) never (inr none) = inr none
 
--- the verdict is the same
+-- The verdict is the same.
 pub same_verdicts : (laws : OneLaws) (lines : List (List ℕ)) (verdict : Verdict) → EncodesNoVersionTwo lines → LinesAudited lines verdict ↔ LinesAuditedOfOne lines verdict
 same_verdicts laws lines verdict never = (audited_of_one laws lines verdict never, audited_from_one laws lines verdict never)

@@ -1,4 +1,4 @@
--- Octets that are written in parts.
+-- Bytes that are written in parts.
 use Rattle.std.proofs.Common.{◌≡◌, ◌<◌, ◌+◌, ◌/◌, ◌%◌, ◌++◌, ℕ, suc, List, [], ◌∷◌, length, take, drop, get_or, take-append-drop, Some, Ok, Err, refl, sym, ap, ◌∙◌, subst, arith, append_assoc, length-append}
 use Rattle.std.specs.Prelude.{Option, Result, codes, decimal}
 use Rattle.std.proofs.lemmas.List.{take-append-le, append-nil}
@@ -50,18 +50,18 @@ failed_first old mid a b h = (front_of_first old.written mid.written a b h.0, h.
 pub failed_second : (old mid new : SinkState) (a b : List ℕ) → HasWritten old mid a → HasFailed mid new b → HasFailed old new (a ++ b)
 failed_second old mid new a b h k = (front_of_second old.written mid.written new.written a b h.0 k.0, k.1 ∙ ap next_count h.1)
 
--- a last part, whose answer is the answer
+-- A last part, whose result is the result.
 pub writes_then : {F : Type 0} (r : Result (Unit {0}) F) (old mid new : SinkState) (a b : List ℕ) → HasWritten old mid a → Writes r mid new b → Writes r old new (a ++ b)
 writes_then (Ok _) old mid new a b h k = written_then old mid new a b h k
 writes_then (Err _) old mid new a b h k = failed_second old mid new a b h k
 
--- digits of octets that are joined
+-- The digits of joined bytes.
 pub encode-append : (a b : List ℕ) → encode_lower (a ++ b) ≡ encode_lower a ++ encode_lower b
 unfolding encode_with
 encode-append [] b = refl
 encode-append (x ∷ a) b = ap (λ l. slice_index lower_digits (x / 16) ∷ slice_index lower_digits (x % 16) ∷ l) (encode-append a b)
 
--- the same octets under another name
+-- The same bytes under another name.
 pub failed_along : (old new : SinkState) (a b : List ℕ) → a ≡ b → HasFailed old new a → HasFailed old new b
 failed_along old new a b e h = let P : List ℕ → Type 0 = λ l. HasFailed old new l in subst P e h
 
@@ -82,11 +82,11 @@ pub empty_is : (l : List ℕ) → length l ≡ 0 → l ≡ []
 empty_is [] h = refl
 empty_is (x ∷ l) h = absurd (omega arith)
 
--- the exit of a part that failed
+-- The exit of a part that failed.
 pub writes_err : {F : Type 0} (r : Result (Unit {0}) F) (e : F) (old new : SinkState) (octets : List ℕ) → r ≡ Err e → HasFailed old new octets → Writes r old new octets
 writes_err {F} r e old new octets is h = let P : Result (Unit {0}) F → Type 0 = λ x. Writes x old new octets in subst P (sym is) h
 
--- what was written, and the failures, each by itself
+-- What was written, and the failures, each separately.
 pub writes_puts : {F : Type 0} (r : Result (Unit {0}) F) (old new : SinkState) (octets : List ℕ) → Writes r old new octets → Puts r old.written new.written octets
 writes_puts (Ok _) old new octets h = h.0
 writes_puts (Err _) old new octets h = h.0
@@ -95,7 +95,7 @@ pub writes_failures : {F : Type 0} (r : Result (Unit {0}) F) (old new : SinkStat
 writes_failures (Ok _) old new octets h = h.1
 writes_failures (Err _) old new octets h = h.1
 
--- the digits of a message are those of its header and of its text
+-- The digits of a message are those of its header and of its text.
 pub message_digits : (frame : Frame) (front text : List ℕ) → front ≡ header_octets frame.header → text ≡ frame.text
     → encode_lower (message_octets frame) ≡ encode_lower front ++ encode_lower text
 unfolding message_octets
@@ -103,7 +103,7 @@ message_digits frame front text p q =
     encode-append (header_octets frame.header) frame.text
     ∙ ap (λ l. encode_lower l ++ encode_lower frame.text) (sym p) ∙ ap (λ l. encode_lower front ++ encode_lower l) (sym q)
 
--- what is written of numbers, one number more
+-- The written text of numbers, with one more number.
 pub numbers_next : (xs : List ℕ) (i : ℕ) → i < length xs → flat_map spaced (take (i + 1) xs) ≡ flat_map spaced (take i xs) ++ spaced (get_or xs i 0)
 numbers_next xs i below =
     let next : suc i ≡ i + 1 = omega arith in
@@ -111,7 +111,7 @@ numbers_next xs i below =
     ap (flat_map spaced) (subst P next (take-suc xs i 0 below)) ∙ flat_map-append spaced (take i xs) (get_or xs i 0 ∷ [])
     ∙ ap (λ l. flat_map spaced (take i xs) ++ l) (append-nil (spaced (get_or xs i 0)))
 
--- what is written of numbers, parted at one of them
+-- The written text of numbers, split at one of them.
 pub numbers_parted : (xs : List ℕ) (i : ℕ) (end : List ℕ) → i < length xs
     → flat_map spaced (take i xs) ++ (spaced (get_or xs i 0) ++ (flat_map spaced (drop (i + 1) xs) ++ end)) ≡ flat_map spaced xs ++ end
 numbers_parted xs i end below =
@@ -128,7 +128,7 @@ numbers_text : (front : List ℕ) (a b c d e f g : ℕ)
 numbers_text front a b c d e f g =
     ap (λ l. front ++ 32 ∷ (decimal a ++ 32 ∷ (decimal b ++ 32 ∷ (decimal c ++ 32 ∷ (decimal d ++ 32 ∷ (decimal e ++ 32 ∷ (decimal f ++ 32 ∷ l))))))) (sym (append-nil (decimal g)))
 
--- the same behind the version
+-- The written text of numbers after the version.
 version_front : (version : ℕ) (words : List ℕ) (a b c d e f g : ℕ)
     → codes "hsms-log" ++ 32 ∷ (decimal version ++ (words ++ 32 ∷ (decimal a ++ 32 ∷ (decimal b ++ 32 ∷ (decimal c ++ 32 ∷ (decimal d ++ 32 ∷ (decimal e ++ 32 ∷ (decimal f ++ 32 ∷ decimal g))))))))
     ≡ (version_text version ++ words) ++ flat_map spaced (a ∷ b ∷ c ∷ d ∷ e ∷ f ∷ g ∷ [])
@@ -145,7 +145,7 @@ line_text version Host Passive a b c d e f g = version_front version (codes " ho
 line_text version Equipment Active a b c d e f g = version_front version (codes " equipment active") a b c d e f g
 line_text version Equipment Passive a b c d e f g = version_front version (codes " equipment passive") a b c d e f g
 
--- the first line in its two parts
+-- The first line in its two parts.
 pub line_parts : (s : Parameters) → opening_of s ++ (flat_map spaced (numbers_of s) ++ 10 ∷ []) ≡ settings_line s ++ 10 ∷ []
 line_parts s =
     sym (append_assoc (opening_of s) (flat_map spaced (numbers_of s)) (10 ∷ []))
@@ -155,6 +155,6 @@ pub words_are : (s : Parameters) (role : Role) (link : Side) → s.role ≡ role
 words_are s role link p q =
     ap (λ r. 32 ∷ (role_word r ++ 32 ∷ link_word link)) (sym p) ∙ ap (λ l. 32 ∷ (role_word s.role ++ 32 ∷ link_word l)) (sym q)
 
--- a text that was added to twice
+-- A text that was appended to twice.
 pub added_twice : (old mid new a b : List ℕ) → mid ≡ old ++ a → new ≡ mid ++ b → new ≡ old ++ (a ++ b)
 added_twice old mid new a b h k = k ∙ ap (λ l. l ++ b) h ∙ append_assoc old a b

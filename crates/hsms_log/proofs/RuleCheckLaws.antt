@@ -1,4 +1,4 @@
--- How what the judge knows grows with a line.
+-- How the state of an audit changes with a line.
 use Rattle.std.proofs.Common.{◌≡◌, ◌+◌, ◌++◌, ℕ, List, [], ◌∷◌, length, Bool, Some, None, Ok, Err, refl, sym, ap, ◌∙◌, subst, arith, append_assoc, length-append, zero-add}
 use Rattle.std.proofs.lemmas.List.{append-nil}
 use Rattle.std.proofs.lemmas.List.Sums.{sum_by-append}
@@ -37,7 +37,7 @@ pub encode_more : (lines : List (List ℕ)) (s : Parameters) (log : List Entry) 
 encode_more [] s log line carried h k = absurd h
 encode_more (first ∷ others) s log line carried h k = (h.0, carry_more s.max others log line carried h.1 k)
 
--- what holds of every run that the tracker may have seen holds of the one that is known
+-- What holds for every run that the tracker may have seen holds for the known run.
 known : (s : Parameters) (view : View) (log : List Entry) (Holds : Parameters → List Entry → Type 0) → ForEachRun view (Holds view.settings) → HasView s log view → Holds s log
 known s view log Holds each has =
     let same : s ≡ view.settings = ap (λ (v : View). v.settings) has.seen in
@@ -45,7 +45,7 @@ known s view log Holds each has =
     let Q : Parameters → Type 0 = λ p. Holds p log in
     subst Q (sym same) (each log (subst P same has))
 
--- a line that carries nothing
+-- A line without an entry.
 pub tracks_nothing : (session : Session) (old new : Counters) (before : List (List ℕ)) (line : List ℕ) → Carries session.settings.max line None
     → new ≡ record old { lines = old.lines + 1 } → Tracks session old before → Tracks session new (before ++ line ∷ [])
 tracks_nothing session old new before line carries is (log, encoded_bytes, has, counts) =
@@ -70,7 +70,7 @@ counts_more old log entry counts = record {
   expired = ap (λ n. n + (if is_expired entry.event then 1 else 0)) counts.expired ∙ sym (count_more (λ e. is_expired e.event) log entry);
 }
 
--- a line that carries a lawful entry
+-- A line with a valid entry.
 pub tracks_entry : (session : Session) (next : View) (old new : Counters) (before : List (List ℕ)) (line : List ℕ) (entry : Entry) → Carries session.settings.max line (Some entry)
     → ForEachRun session.tracker (λ log. HasView session.tracker.settings (log ++ entry ∷ []) next)
     → new ≡ counted old entry → Tracks session old before → Tracks (record { settings = session.settings; tracker = next }) new (before ++ line ∷ [])
@@ -80,14 +80,14 @@ tracks_entry session next old new before line entry carries after is (log, encod
     let Q : Counters → Type 0 = λ t. Counts t (log ++ entry ∷ []) in
     (log ++ entry ∷ [], more, next_has, subst Q (sym is) (counts_more old log entry counts))
 
--- a line that is unreadable fails
+-- A line that is unreadable fails.
 pub unreadable_fails : (session : Session) (tally : Counters) (before : List (List ℕ)) (line : List ℕ)
     → ((carried : Option Entry) → Carries session.settings.max line carried → ⊥) → Tracks session tally before → FailsAfter before line Unreadable
 unreadable_fails session tally [] line none (log, encoded_bytes, has, counts) = absurd encoded_bytes
 unreadable_fails session tally (first ∷ others) line none (log, encoded_bytes, has, counts) =
     (session.settings, log, record { encoded_bytes = encoded_bytes; run = has.run }, none)
 
--- a line whose entry breaks a rule fails
+-- A line whose entry breaks a rule fails.
 pub broken_fails : (session : Session) (tally : Counters) (before : List (List ℕ)) (line : List ℕ) (entry : Entry) (rule : Rule)
     → Carries session.settings.max line (Some entry) → ForEachRun session.tracker (λ log. IsFirstBroken session.tracker.settings log entry (Some rule))
     → Tracks session tally before → FailsAfter before line (Broken rule)
@@ -99,7 +99,7 @@ broken_fails session tally (first ∷ others) line entry rule carries breaks (lo
   (entry, carries, known session.settings session.tracker log (λ s l. IsFirstBroken s l entry (Some rule)) breaks has),
 )
 
--- the first line, where it spells settings
+-- The first line, if it encodes settings.
 pub first_follows : (line_checker : LineChecker) (session : Session) (tally : Counters) (before : List (List ℕ)) (line : List ℕ) → line_checker.session ≡ None
     → EncodesSettings line session.settings → HasView session.settings [] session.tracker → tally ≡ record line_checker.tally { lines = line_checker.tally.lines + 1 } → Follows line_checker before
     → Follows (record line_checker { session = Some session; tally = tally }) (before ++ line ∷ [])
@@ -116,13 +116,13 @@ first_follows line_checker session tally before line none encoded_bytes has tall
     let S : List (List ℕ) → Type 0 = λ lines. Tracks session tally lines in
     record { number = counted.0; state = subst S (ap (λ l. l ++ line ∷ []) (sym state.0)) tracks }
 
--- a judge that has read the settings tracks the lines that it follows
+-- A checker that has read the settings tracks the lines that it follows.
 tracked : (line_checker : LineChecker) (session : Session) (before : List (List ℕ)) → line_checker.session ≡ Some session → Follows line_checker before → Tracks session line_checker.tally before
 tracked line_checker session before some follows =
     let P : Option Session → Type 0 = λ o. MatchOption o ((before ≡ []) × Counts line_checker.tally []) (λ s. Tracks s line_checker.tally before) in
     subst P some follows.state
 
--- so it has judged the line that they were told
+-- So a check of a line by the tracked session is a check after the lines that the checker follows.
 pub checked_follows : {E : Type 0} (r : Result (Option Why) E) (old new : LineChecker) (session later : Session) (line : List ℕ)
     → old.session ≡ Some session → new.session ≡ Some later
     → IfOk r (IsChecked old.tally.lines new.tally.lines (Tracks session old.tally) (Tracks later new.tally) line)
@@ -140,11 +140,11 @@ checked_follows (Ok None) old new session later line some some' check_result =
 checked_follows (Ok (Some why)) old new session later line some some' check_result = (check_result.0, λ before follows. check_result.1 before (tracked old session before some follows))
 checked_follows (Err e) old new session later line some some' check_result = tt
 
--- how many sent primaries are open, as the tracker tells it
+-- The number of open sent primaries, as the tracker returns it.
 pub waiting_is : (s : Parameters) (log : List Entry) (view : View) → HasView s log view → waiting_of view ≡ length (open_of SentData log)
 waiting_is s log view has = sym (ap (λ (v : View). length v.sent_data) has.seen)
 
--- a line more, and the number of lines
+-- One more line, and the number of lines.
 pub line_fails : (line_checker : LineChecker) (before done : List (List ℕ)) (line : List ℕ) (after : List (List ℕ)) (all : List (List ℕ)) (n : ℕ) (why : Why)
     → all ≡ done ++ line ∷ after → n ≡ line_checker.tally.lines → Follows line_checker (before ++ done) → FailsAfter (before ++ done) line why
     → LineFails (before ++ all) (n + 1) why

@@ -1,4 +1,4 @@
--- What is told to an audit in place of its line.
+-- Entries and comments that an audit processes without their lines.
 use Rattle.std.proofs.Common.{◌≡◌, ◌≤◌, ◌<◌, ◌+◌, ◌*◌, ◌^◌, ◌++◌, ℕ, List, [], ◌∷◌, length, refl, sym, ap, ◌∙◌, Some, None, subst, arith, length-append}
 use Rattle.std.specs.Prelude.{Option, MatchOption, codes, decimal}
 use Rattle.std.specs.Str.Lines.{strip_carriage_return}
@@ -67,15 +67,15 @@ entry_short max entry time sized =
     let event = event_short max entry.event sized in
     omega (arith, number, event, length-append (decimal entry.time) (32 ∷ event_text entry.event))
 
--- such a line carries the entry
+-- Such a line contains the entry.
 pub entry_carried : (max : ℕ) (entry : Entry) → IsEntry entry → message_size entry.event ≤ max → Carries max (entry_line entry) (Some entry)
 entry_carried max entry fits sized = (entry_short max entry fits.time sized, entry_written entry fits)
 
--- a comment carries nothing
+-- A comment contains no entry.
 pub comment_carried : (max : ℕ) (line : List ℕ) → 256 ≤ max → IsComment line → Carries max line None
 comment_carried max line large comment = let fits = comment.fits in (omega (arith, fits, large), comment.blank)
 
--- a comment behind the settings
+-- A comment after the settings.
 pub comment_follows : (old new : LineChecker) (session : Session) → old.session ≡ Some session → new.session ≡ old.session → 256 ≤ session.settings.max
     → new.tally ≡ record old.tally { lines = old.tally.lines + 1 } → (before : List (List ℕ)) (line : List ℕ) → IsComment line → Follows old before
     → Follows new (before ++ line ∷ [])
@@ -90,7 +90,7 @@ comment_follows old new session some same large tally before line comment follow
           (tracks_nothing session old.tally new.tally before line (comment_carried session.settings.max line large comment) tally (subst P some follows.state));
     }
 
--- ---- a line that is told stands where it would be read
+-- ---- a processed entry has the effect of its line
 
 pub entry_invariant : (old new : Reading) (start : LineChecker) (text line : List ℕ) → old.held ≡ [] → new.held ≡ [] → HasNone 10 line
     → strip_carriage_return line ≡ line → start ≡ old.line_checker → ((before : List (List ℕ)) → Follows start before → Follows new.line_checker (before ++ line ∷ []))

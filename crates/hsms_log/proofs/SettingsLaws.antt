@@ -37,7 +37,7 @@ unfolding link_of
 link_of-word Active = refl
 link_of-word Passive = refl
 
--- a choice between two words
+-- A choice between two words.
 two_words : {A : Type 0} (word one two : List ℕ) (x y z : A) (f : A → List ℕ) → f x ≡ one → f y ≡ two
     → (if bytes_eq word one then Some x else (if bytes_eq word two then Some y else None)) ≡ Some z → word ≡ f z
 two_words word one two x y z f p q h =
@@ -115,7 +115,7 @@ settings_at-line s w =
       limits_of-encoded_bytes s.max s.depth (omega arith) (omega arith),
     ) refl
 
--- ---- read, so spelled
+-- ---- read, so encoded
 
 numbers_front : (bound : ℕ) (text : List ℕ) (m n : ℕ) (rest : List ℕ) → number_at text ≡ Some (m, rest) → below bound m ≡ Some n
     → text ≡ decimal n ++ 32 ∷ rest
@@ -247,7 +247,7 @@ version_within p v least greatest w = record {
   greatest_depth = w.greatest_depth;
 }
 
--- settings within their limits are so with another version exactly where there is this version
+-- Settings within their limits stay so with another version exactly if there is such a version.
 of_version_within : (p : Parameters) (v : ℕ) (r : Option Parameters) → IsWithinLimits p → (IsSome r ↔ (1 ≤ v) × (v ≤ 2)) → IsSome r ↔ IsWithinLimits (record p { version = v })
 of_version_within p v r w some = (
   (λ h. let at = some.0 h in version_within p v at.0 at.1 w),
@@ -261,13 +261,13 @@ of_version_is p s v (Some t) same one h =
     h (ap (λ (q : Parameters). q.version) same ∙ one) ∙ ap F same
 of_version_is p s v None same one h = tt
 
--- where there are none of version 1, there are none of another
+-- If there are no settings of version 1, there are none of another version.
 none_within : (p : Parameters) (v : ℕ) → p.version ≡ 1 → (IsWithinLimits p → ⊥) → IsWithinLimits (record p { version = v }) → ⊥
 none_within p v one never h =
     let P : ℕ → Type 0 = λ n. IsWithinLimits (record p { version = n }) in
     never (subst P (sym one) (version_within (record p { version = v }) 1 (omega arith) (omega arith) h))
 
--- ---- what reading the line says
+-- ---- the results of reading the line
 
 pub encoded_is_read : (line : List ℕ) (s : Parameters) → EncodesSettings line s → settings_at line ≡ Some s
 encoded_is_read line s h = ap settings_at h.encoded_bytes ∙ settings_at-line s h.within
@@ -278,7 +278,7 @@ read_is_encoded line s h w =
     let P : List ℕ → Type 0 = λ x. length x ≤ 256 in
     record { within = w; fits = subst P (sym same) (settings_line-short s w); encoded_bytes = same }
 
--- a line spells one settings
+-- A line encodes one value of settings.
 pub EncodesSettings-unique : (line : List ℕ) (s t : Parameters) → EncodesSettings line s → EncodesSettings line t → s ≡ t
 EncodesSettings-unique line s t a b = some_inj s t (sym (encoded_is_read line s a) ∙ encoded_is_read line t b)
 

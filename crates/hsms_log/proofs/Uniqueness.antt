@@ -1,4 +1,4 @@
--- A text spells at most one log, and fails at most in one place.
+-- A text encodes at most one log, and fails at no more than one line.
 use Rattle.std.proofs.Common.{◌≡◌, ◌<◌, ◌≢◌, ◌+◌, ◌^◌, ◌++◌, ◌⊎◌, inl, inr, ℕ, List, [], ◌∷◌, length, take, drop, get_or, Some, None, refl, sym, ap, ◌∙◌, subst, arith, append_assoc, length-append}
 use Rattle.std.specs.Prelude.{Option, option_to_list, decimal, codes}
 use Rattle.std.specs.Int.{w16, w32, from_be_bytes}
@@ -62,13 +62,13 @@ unfolding system_octets
 system_octets-unique m n hm hn h =
     sym (from_be_bytes-to_be_bytes_4 m hm) ∙ ap (from_be_bytes w32) h ∙ from_be_bytes-to_be_bytes_4 n hn
 
--- the octets after a mark
+-- The bytes after a mark.
 octets_same : (mark text a b : List ℕ) → ((x y : List ℕ) → mark ++ 32 ∷ x ≡ mark ++ 32 ∷ y → x ≡ y) → EncodesOctets text mark a → EncodesOctets text mark b → a ≡ b
 octets_same mark text a b inj h k =
     let digits : h.0 ≡ k.0 = inj h.0 k.0 (sym h.2 ∙ k.2) in
     ok_inj a b (sym h.1 ∙ ap decode_of digits ∙ k.1)
 
--- the first octet of an event
+-- The first byte of an event.
 first_of : Event → ℕ
 first_of Up = 117
 first_of (Sent frame) = 62
@@ -88,7 +88,7 @@ first_is text (T3 system) h = ap (λ t. get_or t 0 0) h.2
 first_is text (Cut cause) h = ap (λ t. get_or t 0 0) h
 first_is text Down h = ap (λ t. get_or t 0 0) h
 
--- a text that begins with the mark of a frame spells no other event
+-- A text that begins with the mark of a frame encodes no other event.
 pub marked : (text : List ℕ) (event : Event) → get_or text 0 0 < 64 → EncodesEvent text event → HasFrame event
 unfolding first_of
 marked text Up mark h = omega (arith, mark, first_is text Up h)
@@ -103,7 +103,7 @@ pub marked_after : (text rest : List ℕ) (mark : ℕ) (event : Event) → text 
 marked_after text rest mark event is small h =
     let first : get_or text 0 0 ≡ mark = ap (λ t. get_or t 0 0) is in marked text event (omega (arith, first, small)) h
 
--- the place of a cause among the causes, by the octets of its word
+-- The index of a cause among the causes, by the bytes of its word.
 cause_number : Cause → ℕ
 cause_number T6 = 54
 cause_number T7 = 55
@@ -161,7 +161,7 @@ blank_first : (line : List ℕ) → IsBlank line → 0 < length line → get_or 
 blank_first [] h some = omega (arith, some)
 blank_first (octet ∷ octets) h some = h
 
--- a line that spells an entry begins with a digit
+-- A line that encodes an entry begins with a digit.
 not_blank : (line : List ℕ) (entry : Entry) → EncodesEntry line entry → IsBlank line → ⊥
 not_blank line entry h blank =
     let small : entry.time < 2 ^ 64 = h.fits.time in
@@ -194,7 +194,7 @@ EncodesLog-unique (first ∷ others) s t a b h k =
     let P : Parameters → Type 0 = λ p. CarryLog p.max others b in
     (same, CarryLog-unique s.max others a b h.1 (subst P (sym same) k.1))
 
--- the parts of a log before, at and after a line
+-- The parts of a log before, at and after a line.
 carry_parts : (max : ℕ) (before : List (List ℕ)) (line : List ℕ) (after : List (List ℕ)) (log : List Entry) → CarryLog max (before ++ line ∷ after) log
     → (front : List Entry) × (carried : Option Entry) × (later : List Entry) × CarryLog max before front × Carries max line carried
     × (log ≡ front ++ (option_to_list carried ++ later))
@@ -211,12 +211,12 @@ carry_parts max (first ∷ before) line after log h =
 
 -- ---- verdicts
 
--- what the laws of the session machine say of runs
+-- What the laws of the session machine state about runs.
 pub record RunLaws : Type 0 where
   pub next : NextOfRunIsValid
   pub one : NoEntryHasTwoAnswers
 
--- a line that carries what it does after a run does not fail
+-- A line does not fail if its content is valid after a run.
 carried_valid : (laws : RunLaws) (s : Parameters) (log : List Entry) (line : List ℕ) (carried : Option Entry) (later : List Entry) (why : Why) → Carries s.max line carried
     → IsRun s (log ++ (option_to_list carried ++ later)) → FailsRun s log line why → ⊥
 carried_valid laws s log line carried later Unreadable h run fails = fails carried h
@@ -230,7 +230,7 @@ carried_valid laws s log line (Some entry) later (Broken rule) h run fails =
     let no = laws.one s log fails.0 None (Some rule) (subst Q is is_valid) fails.2 in
     cc no
 
--- no line of a run fails
+-- No line of a run fails.
 pub run_holds : (laws : RunLaws) (before : List (List ℕ)) (line : List ℕ) (after : List (List ℕ)) (s : Parameters) (log : List Entry) (why : Why)
     → EncodesLog (before ++ line ∷ after) s log → IsRun s log → FailsAfter before line why → ⊥
 run_holds laws [] line after s log why h run fails = fails.0 s h.0
@@ -246,7 +246,7 @@ run_holds laws (first ∷ others) line after s log why h run (t, front, encoded_
 
 -- ---- one verdict
 
--- two ways to split one list
+-- Two ways to split one list.
 fronts : {X : Type 0} (b c : List X) (x y : X) (a d : List X) → b ++ x ∷ a ≡ c ++ y ∷ d
     → ((b ≡ c) × (x ≡ y)) ⊎ (((m : List X) × (c ≡ b ++ x ∷ m)) ⊎ ((m : List X) × (b ≡ c ++ y ∷ m)))
 fronts [] [] x y a d h = inl (refl, cc h)
@@ -263,7 +263,7 @@ fronts (z ∷ b) (w ∷ c) x y a d h =
       ])
     ]
 
--- why a line fails is one
+-- A line fails for one reason only.
 FailsRun-unique : (laws : RunLaws) (s : Parameters) (log : List Entry) (line : List ℕ) (a b : Why) → FailsRun s log line a → FailsRun s log line b → a ≡ b
 FailsRun-unique laws s log line Unreadable Unreadable h k = refl
 FailsRun-unique laws s log line Unreadable (Broken r) h k = absurd (h (Some k.0) k.1)
@@ -281,7 +281,7 @@ FailsAfter-unique laws (first ∷ others) line a b (s, log, encoded_bytes, fails
     let Q : List Entry → Type 0 = λ l. FailsRun t l line a in
     FailsRun-unique laws t front line a b (subst Q same.1 (subst P same.0 fails)) fails_too
 
--- no line before one that fails does
+-- No line before one that fails does.
 fails_first : (laws : RunLaws) (before : List (List ℕ)) (line : List ℕ) (m : List (List ℕ)) (a : Why) (c : List (List ℕ)) (other : List ℕ) (b : Why)
     → c ≡ before ++ line ∷ m → FailsAfter before line a → FailsAfter c other b → ⊥
 fails_first laws before line m a [] other b is h k = let size = ap length is ∙ length-append before (line ∷ m) in omega (arith, size)
@@ -308,7 +308,7 @@ no_line_fails : (lines : List (List ℕ)) (n : ℕ) (why : Why) → lines ≡ []
 no_line_fails lines n why none (before, line, after, split, number, fails) =
     let size = ap length (sym none ∙ split) ∙ length-append before (line ∷ after) in omega (arith, size)
 
--- no line of a run fails
+-- No line of a run fails.
 pub run_invariant : (laws : RunLaws) (lines : List (List ℕ)) (s : Parameters) (log : List Entry) → EncodesRun lines s log → (n : ℕ) (why : Why) → LineFails lines n why → ⊥
 run_invariant laws lines s log h n why (before, line, after, split, number, fails) =
     let P : List (List ℕ) → Type 0 = λ l. EncodesLog l s log in

@@ -1,4 +1,4 @@
--- A log as it is written: its lines, and what they spell.
+-- A log as it is written: its lines, and what they encode.
 use Rattle.std.proofs.Common.{◌≡◌, ◌≢◌, ◌<◌, ◌≤◌, ◌-◌, ◌/◌, ◌%◌, ◌^◌, ◌++◌, ℕ, suc, List, [], ◌∷◌, length, get_or, true, false, eqb, ltb, refl, sym, ap, ◌∙◌, subst, arith, inl, inr, append_assoc}
 use Rattle.std.specs.Prelude.{All, Bool, Some, codes, decimal, slice_index, nat_lt}
 use Rattle.std.specs.List.{flat_map, list_all}
@@ -28,7 +28,7 @@ use Rattle.hsms_log.proofs.GrowingTexts.{lines_of-first, strip_kept}
 use Rattle.hsms_log.proofs.Parts.{line_text}
 use Rattle.hsms_log.proofs.Written.{message_fits, system_fits, entry_written, settings_written}
 
--- ---- octets that stand on a line, past line feed and carriage return
+-- ---- bytes of a line, which are above line feed and carriage return
 
 abbrev pub on_line : List ℕ → Bool
 on_line octets = list_all (nat_lt 13) octets
@@ -53,7 +53,7 @@ last_of (x ∷ octets) h e =
 pub joined : (xs ys : List ℕ) → on_line xs ≡ true → on_line ys ≡ true → on_line (xs ++ ys) ≡ true
 joined xs ys h k = list_all-append (nat_lt 13) xs ys ∙ and_from _ _ h k
 
--- ---- what is written stands on a line
+-- ---- what is written consists of bytes of a line
 
 digits_on_line : (ds : List ℕ) → all_ascii_digits ds ≡ true → on_line ds ≡ true
 digits_on_line [] h = refl
@@ -96,14 +96,14 @@ unfolding entry_line
 entry_on_line entry fits =
     joined (decimal entry.time) (32 ∷ event_text entry.event) (decimal_on_line entry.time fits.time) (event_on_line entry.event fits.event)
 
--- the line of an entry is one line, and all of it counts
+-- The line of an entry is one line, and all of it counts.
 pub entry_one : (entry : Entry) → IsEntry entry → HasNone 10 (entry_line entry)
 entry_one entry fits = none_of 10 (entry_line entry) (omega arith) (entry_on_line entry fits)
 
 pub entry_whole : (entry : Entry) → IsEntry entry → strip_carriage_return (entry_line entry) ≡ entry_line entry
 entry_whole entry fits = strip_kept (entry_line entry) (last_of (entry_line entry) (entry_on_line entry fits))
 
--- what begins as a comment, stands on a line and is short is one
+-- A short line that begins as a comment and consists of bytes of a line is a comment.
 pub comment_from : (line : List ℕ) → IsBlank line → on_line line ≡ true → length line ≤ settings_limit → IsComment line
 comment_from line blank on fits =
     record { blank = blank; one = none_of 10 line (omega arith) on; whole = strip_kept line (last_of line on); fits = fits }

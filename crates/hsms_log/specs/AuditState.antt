@@ -1,4 +1,4 @@
--- What the judge of a log knows between two lines.
+-- The state of an audit between two lines.
 use Rattle.std.specs.Prelude.{◌≡◌, ◌+◌, ◌++◌, ◌≤◌, if◌then◌else◌, ℕ, List, [], ◌∷◌, length, count_by, Option, Some, None, MatchOption}
 use Rattle.hsms_machine.specs.declared.entry.Entry.{Entry}
 use Rattle.hsms_machine.specs.declared.entry.Event.{Event}
@@ -12,7 +12,7 @@ use Rattle.hsms_log.specs.Log.{EncodesLog}
 use Rattle.hsms_log.specs.Counters.{Counters}
 use Rattle.hsms_log.specs.Verdict.{FailsAfter, is_sent, is_taken, is_discarded, is_expired}
 
--- the numbers of entries by kind
+-- Holds if these are the numbers of entries by kind.
 pub record Counts (tally : Counters) (log : List Entry) : Type 0 where
   pub entries : tally.entries ≡ length log
   pub sent : tally.sent ≡ count_by (λ entry. is_sent entry.event) log
@@ -20,7 +20,7 @@ pub record Counts (tally : Counters) (log : List Entry) : Type 0 where
   pub discarded : tally.discarded ≡ count_by (λ entry. is_discarded entry.event) log
   pub expired : tally.expired ≡ count_by (λ entry. is_expired entry.event) log
 
--- the counts after one entry more
+-- The counts after one more entry.
 abbrev pub counted : Counters → Entry → Counters
 counted old entry = record {
   lines = old.lines + 1;
@@ -31,37 +31,38 @@ counted old entry = record {
   expired = old.expired + (if is_expired entry.event then 1 else 0);
 }
 
--- the session and the tally stand after these lines, which spell a run
+-- Holds if the session and the tally are those after these lines, which encode a run.
 abbrev pub Tracks : Session → Counters → List (List ℕ) → Type 0
 Tracks session tally lines =
     (log : List Entry) × EncodesLog lines session.settings log × HasView session.settings log session.tracker × Counts tally log
 
--- What judging a line left, by what it answered: that the line doesn't fail, and then what was known after the lines
--- before it is known after it, and it is counted; or why it fails after them, and it isn't.
+-- Holds for the effect of the check of a line, by its result. If the line does not fail, the state after the lines
+-- before it becomes the state after it, and it is counted. Otherwise it fails after them for this reason, and is not
+-- counted.
 abbrev pub IsChecked : (old new : ℕ) → (Before After : List (List ℕ) → Type 0) → List ℕ → Option Why → Type 0
 IsChecked old new Before After line None =
     (new ≡ old + 1) × ((before : List (List ℕ)) → Before before → After (before ++ line ∷ []))
 IsChecked old new Before After line (Some why) =
     (new ≡ old) × ((before : List (List ℕ)) → Before before → FailsAfter before line why)
 
--- the judge stands after these lines, which don't fail
+-- Holds if this is the state after these lines, which do not fail.
 pub record Follows (line_checker : LineChecker) (lines : List (List ℕ)) : Type 0 where
   pub number : line_checker.tally.lines ≡ length lines
   pub state : MatchOption line_checker.session ((lines ≡ []) × Counts line_checker.tally []) (λ session. Tracks session line_checker.tally lines)
 
--- the greatest length of the next line, without its end
+-- The maximum length of the next line, without its end.
 abbrev pub limit_after : Option Session → ℕ
 limit_after None = settings_limit
 limit_after (Some session) = line_limit session.settings.max
 
--- how many octets have header and text of the message of an event
+-- The number of bytes of header and text of an event's message.
 abbrev pub message_size : Event → ℕ
 message_size (Sent frame) = 10 + length frame.text
 message_size (Taken frame) = 10 + length frame.text
 message_size (Discarded frame) = 10 + length frame.text
 message_size _ = 0
 
--- the settings were read, and they allow the message of an entry
+-- Holds if the settings were read, and they allow the message of an entry.
 abbrev pub Allows : Option Session → Entry → Type 0
 Allows None entry = ⊥
 Allows (Some session) entry = message_size entry.event ≤ session.settings.max

@@ -1,4 +1,4 @@
--- A line that carries a frame, for private contracts.
+-- A line with a frame, for private contracts.
 use Rattle.std.specs.Prelude.{ℕ, List, codes}
 use Rattle.hsms_frame.specs.declared.header.Header.{Header}
 use Rattle.hsms_machine.specs.declared.entry.Mark.{Mark}
@@ -10,7 +10,7 @@ mark_word Sent = codes ">"
 mark_word Taken = codes "<"
 mark_word Discarded = codes "!"
 
--- the digits spell the message of this header and text
+-- Holds if the digits encode the message of this header and text.
 abbrev pub IsEncoded : List ℕ → Header → List ℕ → Type 0
 IsEncoded digits header text =
     IsMessage (record { header = header; text = text }) × IsHexOf digits (message_octets (record { header = header; text = text }))

@@ -1,5 +1,5 @@
--- Which octets spell settings and entries (this project's own log text; header and text of a message as in SEMI E37,
--- section 8). Numbers are decimal, words have one space between them.
+-- The bytes that encode settings and entries (project-specific log text; header and text of a message as in SEMI E37,
+-- section 8). Numbers are decimal, and words have one space between them.
 use Rattle.std.specs.Prelude.{◌≡◌, ◌≤◌, ◌<◌, ◌+◌, ◌*◌, ◌^◌, ◌++◌, ℕ, List, [], ◌∷◌, Option, Some, None, Ok, length, codes, decimal}
 use Rattle.std.specs.List.{join_with_byte}
 use Rattle.std.specs.Int.{w32, to_be_bytes}
@@ -19,11 +19,11 @@ use Rattle.hsms_machine.specs.declared.entry.Cause.TheVariants.{T6, T7, T8, Leng
 use Rattle.hsms_machine.specs.Settings.{Parameters, IsWithinLimits}
 use Rattle.hsms_log.specs.Lines.{HasNone}
 
--- the greatest length of the first line, without its end
+-- The maximum length of the first line, without its end.
 abbrev pub settings_limit : ℕ
 settings_limit = 256
 
--- the greatest length of a later line, without its end
+-- The maximum length of a later line, without its end.
 abbrev pub line_limit : ℕ → ℕ
 line_limit max = 2 * max + 64
 
@@ -40,25 +40,25 @@ settings_words s =
     codes "hsms-log" ∷ decimal s.version ∷ role_word s.role ∷ link_word s.link ∷ decimal s.device
     ∷ decimal s.t3 ∷ decimal s.t6 ∷ decimal s.t7 ∷ decimal s.t8 ∷ decimal s.max ∷ decimal s.depth ∷ []
 
--- the one line that spells the settings
+-- The only line that encodes the settings.
 unfoldable pub settings_line : Parameters → List ℕ
 settings_line s = join_with_byte 32 (settings_words s)
 
--- the line spells the settings
+-- Holds if the line encodes the settings.
 pub record EncodesSettings (line : List ℕ) (s : Parameters) : Type 0 where
   pub within : IsWithinLimits s
   pub fits : length line ≤ settings_limit
   pub encoded_bytes : line ≡ settings_line s
 
--- header and text, without the length field
+-- Header and text, without the length field.
 unfoldable pub message_octets : Frame → List ℕ
 message_octets frame = header_octets frame.header ++ frame.text
 
--- the four system bytes
+-- The four system bytes.
 unfoldable pub system_octets : ℕ → List ℕ
 system_octets system = to_be_bytes w32 system
 
--- hexadecimal digits of either case that spell these octets
+-- Holds if hexadecimal digits of either case encode these bytes.
 abbrev pub IsHexOf : List ℕ → List ℕ → Type 0
 IsHexOf digits octets = decode_of digits ≡ Ok octets
 
@@ -68,11 +68,11 @@ cause_word T7 = codes "t7"
 cause_word T8 = codes "t8"
 cause_word Length = codes "length"
 
--- a mark, a space and hexadecimal digits of these octets
+-- Holds for a mark, a space and hexadecimal digits of these bytes.
 abbrev pub EncodesOctets : List ℕ → List ℕ → List ℕ → Type 0
 EncodesOctets text mark octets = (digits : List ℕ) × IsHexOf digits octets × (text ≡ mark ++ 32 ∷ digits)
 
--- what follows the time spells the event
+-- Holds if what follows the time encodes the event.
 abbrev pub EncodesEvent : List ℕ → Event → Type 0
 EncodesEvent text Up = text ≡ codes "up"
 EncodesEvent text (Sent frame) = EncodesOctets text (codes ">") (message_octets frame)
@@ -82,7 +82,7 @@ EncodesEvent text (T3 system) = EncodesOctets text (codes "t3") (system_octets s
 EncodesEvent text (Cut cause) = text ≡ codes "cut " ++ cause_word cause
 EncodesEvent text Down = text ≡ codes "down"
 
--- each number of a message lies within its range
+-- Holds if each number of a message is within its range.
 pub record IsMessage (frame : Frame) : Type 0 where
   pub header : IsHeader frame.header
   pub text : IsOctets frame.text
@@ -96,34 +96,34 @@ IsEvent (T3 system) = system < 2 ^ 32
 IsEvent (Cut cause) = Unit {0}
 IsEvent Down = Unit {0}
 
--- each number of an entry lies within its range
+-- Holds if each number of an entry is within its range.
 pub record IsEntry (entry : Entry) : Type 0 where
   pub time : entry.time < 2 ^ 64
   pub event : IsEvent entry.event
 
--- the line spells the entry: its time, a space, its event
+-- Holds if the line encodes the entry: its time, a space, its event.
 pub record EncodesEntry (line : List ℕ) (entry : Entry) : Type 0 where
   pub fits : IsEntry entry
   pub encoded_bytes : (text : List ℕ) × EncodesEvent text entry.event × (line ≡ decimal entry.time ++ 32 ∷ text)
 
--- the line is empty, or a comment
+-- Holds if the line is empty, or a comment.
 abbrev pub IsBlank : List ℕ → Type 0
 IsBlank [] = Unit {0}
 IsBlank (octet ∷ octets) = octet ≡ 35
 
--- a comment that stands on one line, within the limit of each
+-- Holds for a comment on one line, within the limit of each line.
 pub record IsComment (line : List ℕ) : Type 0 where
   pub blank : IsBlank line
   pub one : HasNone 10 line
   pub whole : strip_carriage_return line ≡ line
   pub fits : length line ≤ settings_limit
 
--- the line carries an entry, or nothing
+-- Holds if the line contains this entry, or none.
 abbrev pub Carries : ℕ → List ℕ → Option Entry → Type 0
 Carries max line None = (length line ≤ line_limit max) × IsBlank line
 Carries max line (Some entry) = (length line ≤ line_limit max) × EncodesEntry line entry
 
--- the event as it is written
+-- The event as it is written.
 abbrev pub event_text : Event → List ℕ
 event_text Up = codes "up"
 event_text (Sent frame) = codes "> " ++ encode_lower (message_octets frame)
@@ -133,6 +133,6 @@ event_text (T3 system) = codes "t3 " ++ encode_lower (system_octets system)
 event_text (Cut cause) = codes "cut " ++ cause_word cause
 event_text Down = codes "down"
 
--- the entry as it is written: hexadecimal digits have lower case
+-- The entry as it is written: hexadecimal digits are in lower case.
 unfoldable pub entry_line : Entry → List ℕ
 entry_line entry = decimal entry.time ++ 32 ∷ event_text entry.event

@@ -1,4 +1,4 @@
--- A step, and the entry that it is.
+-- A step, and its entry.
 use Rattle.std.specs.Prelude.{ℕ, List}
 use Rattle.hsms_machine.specs.declared.entry.Entry.{Entry}
 use Rattle.hsms_machine.specs.declared.entry.Event.{Event}
@@ -8,7 +8,7 @@ use Rattle.hsms_log.specs.declared.step.Step.{Step}
 use Rattle.hsms_log.specs.declared.step.What.{What}
 use Rattle.hsms_log.specs.declared.step.What.TheVariants.{Up, Frame, T3, Cut, Down}
 
--- the event of what happened, with the text of a frame
+-- The event, with the text of its frame.
 abbrev pub event_of : What → List ℕ → Event
 event_of (Frame mark header) text = frame_event mark (record { header = header; text = text })
 event_of Up text = event.Up
@@ -16,10 +16,10 @@ event_of (T3 system) text = event.T3 system
 event_of (Cut cause) text = event.Cut cause
 event_of Down text = event.Down
 
--- the entry of what happened at a time, with the text of a frame
+-- The entry of an event at a time, with the text of its frame.
 abbrev pub entry_of_what : ℕ → What → List ℕ → Entry
 entry_of_what time what text = record { time = time; event = event_of what text }
 
--- the entry of a step, with the text of its frame
+-- The entry of a step, with the text of its frame.
 abbrev pub entry_by : Step → List ℕ → Entry
 entry_by step text = entry_of_what step.time step.what text

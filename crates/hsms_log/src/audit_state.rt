@@ -9,17 +9,17 @@ use crate::verdict::{Verdict, Why};
 use hsms_machine::{Entry, Event, Settings, Tracker};
 use std::alloc::{AllocError, Global};
 
-/// How many octets the line of the settings has at most, without its end.
+/// The maximum number of bytes of the settings line, without its end.
 pub const SETTINGS_LIMIT: usize = 256;
 
-/// The settings of a log, and the judge of its entries.
+/// The settings of a log, and the tracker that checks its entries.
 #[derive(Drop)]
 pub struct Session {
     pub settings: Settings,
     pub tracker: Tracker,
 }
 
-/// What is known of a log between two lines, and memory for the octets of a frame, used again from line to line.
+/// The state of an audit between two lines, and a buffer for the bytes of a frame, reused from line to line.
 #[derive(Drop)]
 pub struct LineChecker {
     pub session: Option<Session>,
@@ -43,7 +43,7 @@ impl LineChecker {
         }
     }
 
-    /// Judges the next line, and says why it fails.
+    /// Checks the next line. Returns why it fails, if it does.
     pub fn line(&mut self, alloc: Global, line: &[u8]) -> Result<Option<Why>, AllocError>
         requires { self.old.tally.lines < 2 ^ 64 - 1 }
         ensures { IfOk result (IsChecked self.old.tally.lines self.new.tally.lines (Follows self.old) (Follows self.new) line.now) }
@@ -56,7 +56,7 @@ impl LineChecker {
         }
     }
 
-    /// Judges an entry in place of its line, and says why it fails.
+    /// Checks an entry in place of its line. Returns why it fails, if it does.
     pub fn entry(&mut self, entry: &Entry) -> Result<Option<Why>, AllocError>
         requires room { self.old.tally.lines < 2 ^ 64 - 1 }
         requires allowed { Allows self.old.session entry.now }
@@ -71,7 +71,7 @@ impl LineChecker {
         }
     }
 
-    /// Whether an entry can be judged in place of its line.
+    /// Returns whether an entry can be checked in place of its line.
     pub fn allows(&self, entry: &Entry) -> bool
         ensures { IsTrue result ↔ Allows self.now.session entry.now }
     {
@@ -94,7 +94,7 @@ impl LineChecker {
         }
     }
 
-    /// Judges the first line, and says why it fails.
+    /// Checks the first line. Returns why it fails, if it does.
     #[inline(never)]
     fn first_line(&mut self, alloc: Global, line: &[u8]) -> Option<Why>
         requires first { self.old.session ≡ None }
@@ -110,7 +110,7 @@ impl LineChecker {
         None
     }
 
-    /// The verdict where the next line fails.
+    /// Returns the verdict if the next line fails.
     pub fn failure(&self, why: Why) -> Verdict
         requires { self.now.tally.lines < 2 ^ 64 - 1 }
         ensures { result ≡ Verdict.Fail (self.now.tally.lines + 1) why }
@@ -119,7 +119,7 @@ impl LineChecker {
         Verdict::Fail { line, why }
     }
 
-    /// The verdict where no line follows.
+    /// Returns the verdict if no line follows.
     pub fn verdict(&self) -> Verdict
         ensures { (lines : List (List ℕ)) → Follows self.now lines → LinesAudited lines result }
     {
@@ -132,7 +132,7 @@ impl LineChecker {
         }
     }
 
-    /// The greatest length of the next line, without its end.
+    /// Returns the maximum length of the next line, without its end.
     pub fn line_limit(&self) -> usize
         ensures value { result ≡ limit_after self.now.session }
         ensures small { result < 2 ^ 33 }
@@ -144,7 +144,7 @@ impl LineChecker {
     }
 }
 
-/// How many octets have header and text of the message of an event.
+/// Returns the number of bytes of header and text of an event's message.
 fn size_of(event: &Event) -> u64
     ensures { result ≡ message_size event.now }
 {

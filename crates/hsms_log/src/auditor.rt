@@ -1,4 +1,4 @@
-//! An audit that is told its text in pieces.
+//! An audit of a text that comes in chunks.
 
 ghost use Rattle.std.specs.Prelude.{◌≡◌, ◌↔◌, ◌+◌, ◌++◌, [], ◌∷◌, List, ℕ, IfOk, IsTrue, OnOk, length};
 ghost use Rattle.hsms_log.specs.Verdict.{HasAuditVerdict};
@@ -10,8 +10,8 @@ use crate::verdict::Verdict;
 use hsms_machine::Entry;
 use std::alloc::{AllocError, Global};
 
-/// Audits a text that comes in pieces, to its end: for whoever does something else with the pieces besides. It holds no
-/// more of them than [`audit`](crate::audit) does.
+/// Audits a text that comes in chunks, to its end. It is for programs that also use the chunks for something else. It
+/// holds no more of them than [`audit`](crate::audit) does.
 #[derive(Drop)]
 pub struct Auditor {
     reader: LineReader,
@@ -19,7 +19,7 @@ pub struct Auditor {
 }
 
 impl Auditor {
-    /// The audit of a text of which nothing is told.
+    /// Creates an audit that has received no text.
     pub fn new(alloc: Global) -> Auditor
         ensures reception { HasProcessed result [] }
         ensures lines { HasAtMost 0 result }
@@ -30,11 +30,11 @@ impl Auditor {
         }
     }
 
-    /// Takes the next octets in.
+    /// Processes the next bytes.
     ///
     /// # Errors
     ///
-    /// Where memory is refused. Of an audit that goes on then nothing is said.
+    /// Returns an error if an allocation fails. Nothing is specified about an audit that continues after it.
     pub fn take(&mut self, alloc: Global, octets: &[u8]) -> Result<(), AllocError>
         requires room { HasRoom self.old octets.now }
         ensures reception { OnOk result ((text : List ℕ) → HasProcessed self.old text → HasProcessed self.new (text ++ octets.now)) }
@@ -46,11 +46,11 @@ impl Auditor {
         Ok(())
     }
 
-    /// Takes an entry in, in place of the line by which [`write_entry`](crate::write_entry) writes it.
+    /// Processes an entry, in place of the line that [`write_entry`](crate::write_entry) writes for it.
     ///
     /// # Errors
     ///
-    /// Where memory is refused. Of an audit that goes on then nothing is said.
+    /// Returns an error if an allocation fails. Nothing is specified about an audit that continues after it.
     pub fn take_entry(&mut self, entry: &Entry) -> Result<(), AllocError>
         requires room { HasRoom self.old (10 ∷ []) }
         requires can { CanProcess self.old entry.now }
@@ -64,15 +64,15 @@ impl Auditor {
         Ok(())
     }
 
-    /// Whether it can take an entry in by itself: behind the line of the settings, where no other has begun, and where
-    /// these allow the entry's message. Once a line has failed, it can.
+    /// Returns whether it can process an entry without a line. It can after the settings line, if no line is unfinished
+    /// and the settings allow the entry's message. It also can once a line has failed.
     pub fn can_process(&self, entry: &Entry) -> bool
         ensures { IsTrue result ↔ CanProcess self.now entry.now }
     {
         self.found.is_some() || self.reader.allows(entry)
     }
 
-    /// Takes the line of a comment in, whichever it is.
+    /// Processes the line of any comment.
     pub fn take_comment(&mut self)
         requires room { HasRoom self.old (10 ∷ []) }
         requires between { IsBetween self.old }
@@ -85,26 +85,26 @@ impl Auditor {
         }
     }
 
-    /// Whether it can take a comment in by itself: behind the line of the settings, where no other has begun. Once a line
-    /// has failed, it can.
+    /// Returns whether it can process a comment without a line. It can after the settings line, if no line is
+    /// unfinished. It also can once a line has failed.
     pub fn is_between(&self) -> bool
         ensures { IsTrue result ↔ IsBetween self.now }
     {
         self.found.is_some() || self.reader.is_between()
     }
 
-    /// The verdict that each text has which begins with what was taken in, where a line of it fails.
+    /// Returns the verdict on each text that begins with the processed bytes, if a line of them fails.
     pub fn failure(&self) -> Option<Verdict>
         ensures { result ≡ self.now.found }
     {
         self.found
     }
 
-    /// The verdict on the text, which ends here: that of [`audit`](crate::audit).
+    /// Returns the verdict on the text, which ends here: the verdict of [`audit`](crate::audit).
     ///
     /// # Errors
     ///
-    /// Where memory is refused.
+    /// Returns an error if an allocation fails.
     pub fn finish(self, alloc: Global) -> Result<Verdict, AllocError>
         requires { HasRoom self [] }
         ensures { IfOk result (λ verdict. (text : List ℕ) → HasProcessed self text → HasAuditVerdict text verdict) }

@@ -1,4 +1,4 @@
-//! Why a line that was not read cannot be: its words are read once more, each by the reader of its kind.
+//! The reason why a line cannot be read: its words are read again, each by the reader of its kind.
 
 ghost use Rattle.std.specs.Prelude.{Option};
 ghost use Rattle.hsms_machine.specs.Settings.{Parameters};
@@ -16,10 +16,10 @@ use hsms_machine::{
     LEAST_TIME,
 };
 
-// How many digits a frame has at least: those of its header.
+// The minimum number of digits of a frame: those of its header.
 const FEWEST_DIGITS: usize = 20;
 
-/// Returns why a first line that spells no settings cannot be read. It is given without its end.
+/// Returns why a first line that encodes no settings cannot be read. The line is passed without its end.
 pub fn unreadable_settings(line: &[u8]) -> Unreadable
     requires { (settings : Parameters) → EncodesSettings line.now settings → ⊥ }
     ensures { IsWithin line.now result }
@@ -27,8 +27,8 @@ pub fn unreadable_settings(line: &[u8]) -> Unreadable
     unreadable(line, check_settings(line), Form::Settings)
 }
 
-/// Returns why a line that is not the first cannot be read, if it carries nothing within the limit of `max`. It is given
-/// without its end.
+/// Returns why a line that is not the first cannot be read, if it has no valid content within the limit of `max`. The
+/// line is passed without its end.
 pub fn unreadable_entry(line: &[u8], max: u32) -> Unreadable
     requires { (carried : Option LogEntry) → Carries max line.now carried → ⊥ }
     ensures { IsWithin line.now result }
@@ -37,7 +37,7 @@ pub fn unreadable_entry(line: &[u8], max: u32) -> Unreadable
     unreadable(line, check_entry(line, max, form), form)
 }
 
-// A fault of a text: how many octets the text has from there on, and what is wrong.
+// An error in a text: how many bytes the text has from there on, and the reason.
 #[derive(Clone, Copy)]
 struct Fault {
     left: usize,
@@ -45,7 +45,7 @@ struct Fault {
 }
 
 impl Fault {
-    // The fault at which the rest of a text begins.
+    // Returns the error at the start of the rest of a text.
     fn at(rest: &[u8], reason: Reason) -> Fault {
         Fault {
             left: rest.len(),
@@ -53,7 +53,7 @@ impl Fault {
         }
     }
 
-    // The fault of a word, in the text that begins with the word.
+    // Returns the error of a word as an error of the text that begins with the word.
     fn before(self, after: &[u8]) -> Fault {
         Fault {
             left: self.left.saturating_add(after.len()),
@@ -83,7 +83,7 @@ enum Field {
     Version,
     Role,
     Link,
-    // A number, and the least and the greatest that may be there.
+    // A number, with its minimum and its maximum.
     Number(u64, u64),
     Event,
     Frame,
@@ -143,7 +143,7 @@ fn check_entry(line: &[u8], max: u32, form: Form) -> Result<(), Fault> {
     }
 }
 
-// The form that a line should have by its second word.
+// Returns the form that a line should have, by its second word.
 fn form_of(line: &[u8]) -> Form {
     let (_, after) = split_word(line);
     let [_, text @ ..] = after else {
@@ -158,7 +158,7 @@ fn form_of(line: &[u8]) -> Form {
     }
 }
 
-// Which other kind of file begins so.
+// Returns which other kind of file begins like this line.
 fn other_file(line: &[u8]) -> Option<Reason> {
     match line {
         [0xef, 0xbb, 0xbf, ..] => Some(Reason::ByteOrderMark),
@@ -171,7 +171,7 @@ fn other_file(line: &[u8]) -> Option<Reason> {
     }
 }
 
-// Checks a line that should have these words, each behind one space.
+// Checks a line that should have these words, each after one space.
 fn check_words(line: &[u8], fields: &[Field]) -> Result<(), Fault> {
     let Some((last, others)) = fields.split_last() else {
         return Ok(());
@@ -185,7 +185,7 @@ fn check_words(line: &[u8], fields: &[Field]) -> Result<(), Fault> {
     check_end(after)
 }
 
-// Checks the word with which the text begins, of which the line ends. Returns what follows the word.
+// Checks the first word of the text, which is the rest of the line. Returns what follows the word.
 fn check_word<'a>(line: &[u8], text: &'a [u8], field: Field) -> Result<&'a [u8], Fault> {
     let (word, after) = split_word(text);
     if word.is_empty() {
@@ -202,7 +202,7 @@ fn check_word<'a>(line: &[u8], text: &'a [u8], field: Field) -> Result<&'a [u8],
     }
 }
 
-// The fault where a text that should begin with a word does not.
+// Returns the error for a text that should begin with a word and does not.
 fn missing_word(line: &[u8], text: &[u8]) -> Fault {
     let is_first = text.len() == line.len();
     match text {
@@ -215,7 +215,7 @@ fn missing_word(line: &[u8], text: &[u8]) -> Fault {
     }
 }
 
-// The text after the space that follows a word.
+// Returns the text after the space that follows a word.
 fn next_word(after: &[u8]) -> Result<&[u8], Fault> {
     match after {
         [_, text @ ..] => Ok(text),
@@ -237,7 +237,7 @@ fn is_blank(text: &[u8]) -> bool {
     text.iter().all(|octet| *octet == b' ')
 }
 
-// The word with which a text begins, up to a space, a tab or a carriage return, and the text from there on.
+// Returns the first word of a text, up to a space, a tab or a carriage return, and the rest of the text.
 fn split_word(text: &[u8]) -> (&[u8], &[u8]) {
     let end = text
         .iter()

@@ -6,8 +6,8 @@ ghost use Rattle.hsms_log.specs.Digits.{IsValueOf, AreSmall};
 
 use std::simd::prelude::*;
 
-/// Reads the octets that digits of either case spell, at least eight octets, and says whether all are digits. Octets
-/// are read eight at a time; where their number is no multiple of eight, some of the last eight are read twice.
+/// Reads the bytes that digits of either case encode, at least eight bytes. Returns whether all are digits. Bytes are
+/// read eight at a time. If their number is not a multiple of eight, some of the last eight are read twice.
 #[inline(always)]
 pub fn decode(digits: &[u8], octets: &mut [u8]) -> bool
     requires size { length digits.now ≡ 2 * length octets.old }
@@ -25,8 +25,8 @@ pub fn decode(digits: &[u8], octets: &mut [u8]) -> bool
     are_small(greatest)
 }
 
-/// Reads the eight octets from this place on, and gives the values of their sixteen digits: 16 or more where one is
-/// none.
+/// Reads the eight bytes from this index on. Returns the values of their sixteen digits: 16 or more for each that is
+/// not a digit.
 #[inline(always)]
 fn decode_at(digits: &[u8], octets: &mut [u8], place: usize) -> u8x16
     requires size { length digits.now ≡ 2 * length octets.old }
@@ -42,7 +42,7 @@ fn decode_at(digits: &[u8], octets: &mut [u8], place: usize) -> u8x16
     values
 }
 
-/// The values of the sixteen digits from this place on, and for each other octet a number from 16 on.
+/// Returns the values of the sixteen digits from this index on, and a number from 16 on for each other byte.
 #[inline(always)]
 fn values_at(digits: &[u8], place: usize) -> u8x16
     requires { place + 16 ≤ length digits.now }
@@ -56,7 +56,7 @@ fn values_at(digits: &[u8], place: usize) -> u8x16
     decimal.simd_min(letter)
 }
 
-/// Whether all of these are values of digits.
+/// Returns whether all of these are values of digits.
 #[inline(always)]
 fn are_small(values: u8x16) -> bool
     ensures all { result ≡ true → AreSmall values }
@@ -65,7 +65,7 @@ fn are_small(values: u8x16) -> bool
     values.simd_ge(u8x16::splat(16)).to_bitmask() == 0
 }
 
-/// Joins the values by twos to eight octets, and writes these from this place on.
+/// Joins pairs of values to eight bytes, and writes them from this index on.
 #[inline(always)]
 fn put_joined(values: u8x16, octets: &mut [u8], place: usize)
     requires { place + 8 ≤ length octets.old }

@@ -1,4 +1,4 @@
-//! Judging a line that is not the first.
+//! Checks of lines that are not the first.
 
 ghost use Rattle.std.specs.Prelude.{◌-◌, ◌<◌, ◌≤◌, ◌^◌, List, ℕ, Some, IfOk, length};
 ghost use Rattle.hsms_machine.specs.Entry.{frame_entry};
@@ -14,7 +14,7 @@ use hsms_frame::HEADER_LENGTH;
 use hsms_machine::{Entry, EntryRef};
 use std::alloc::{AllocError, Global};
 
-/// Judges a line that is not the first. `octets` is memory for the octets of its frame, used again from line to line.
+/// Checks a line that is not the first. `octets` is a buffer for the bytes of its frame, reused from line to line.
 pub fn check_entry_line(
     session: &mut Session,
     tally: &mut Tally,
@@ -42,7 +42,7 @@ pub fn check_entry_line(
     }
 }
 
-/// Judges the frame of a line.
+/// Checks the frame of a line.
 fn frame_line(
     session: &mut Session,
     tally: &mut Tally,
@@ -62,7 +62,7 @@ fn frame_line(
     Ok(None)
 }
 
-/// Judges a line that carries no frame, or is unreadable.
+/// Checks a line that has no frame, or is unreadable.
 #[inline(never)]
 fn other_line(
     session: &mut Session,
@@ -82,7 +82,7 @@ fn other_line(
     }
 }
 
-/// Judges the entry that a line carries.
+/// Checks the entry of a line.
 pub fn carried_entry(
     session: &mut Session,
     tally: &mut Tally,

@@ -1,4 +1,4 @@
-//! Why a line isn't read or written, and why a log has no verdict.
+//! Why a line is not read or written, and why a log has no verdict.
 
 use hsms_frame::Failed;
 use std::alloc::AllocError;
@@ -13,7 +13,7 @@ pub enum AuditFault {
     /// All reads were used, and neither the end nor a failing line was found.
     #[error("Endless")]
     Endless,
-    /// A growth was refused.
+    /// An allocation failed.
     #[error("Memory")]
     Memory,
 }
@@ -43,10 +43,10 @@ impl From<AllocError> for AuditFault {
 /// Why a line was not read.
 #[derive(Clone, Copy, Debug, PartialEq, Eq, Error)]
 pub enum LineFault {
-    /// The line is no entry, comment or empty line, or has more than `2 * max + 64` octets.
+    /// The line is not an entry, a comment or an empty line, or has more than `2 * max + 64` bytes.
     #[error("Unreadable")]
     Unreadable,
-    /// A growth was refused.
+    /// An allocation failed.
     #[error("Memory")]
     Memory,
 }
@@ -65,7 +65,7 @@ impl From<AllocError> for LineFault {
 /// Why a line was not written.
 #[derive(Clone, Copy, Debug, PartialEq, Eq, Error)]
 pub enum LogFault {
-    /// A write failed. A part of the line from its front was written, and not all of it.
+    /// A write failed. A prefix of the line was written, and not all of it.
     #[error("Write")]
     Write,
 }

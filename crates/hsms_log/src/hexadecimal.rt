@@ -1,4 +1,4 @@
-//! Hexadecimal digits, written sixteen octets at once.
+//! Hexadecimal digits, written for sixteen bytes at once.
 
 ghost use Rattle.std.specs.Prelude.{◌≡◌, ◌≤◌, ◌*◌, length, map, take};
 ghost use Rattle.hex.specs.Hex.{encode_lower};
@@ -6,7 +6,7 @@ ghost use Rattle.hsms_log.specs.Digits.{digit_of};
 
 use std::simd::prelude::*;
 
-/// The digits of sixteen octets.
+/// Returns the digits of sixteen bytes.
 #[inline(always)]
 pub fn digits_of_sixteen(octets: &[u8; 16]) -> [u8; 32]
     ensures { result ≡ encode_lower octets.now }
@@ -21,7 +21,7 @@ pub fn digits_of_sixteen(octets: &[u8; 16]) -> [u8; 32]
     digits
 }
 
-/// The digits of at most sixteen octets. What stands behind them doesn't count.
+/// Returns the digits of at most sixteen bytes. The rest of the array has no meaning.
 #[inline(always)]
 pub fn digits_of_few(octets: &[u8]) -> [u8; 32]
     requires { length octets.now ≤ 16 }
@@ -32,7 +32,7 @@ pub fn digits_of_few(octets: &[u8]) -> [u8; 32]
     digits_of_sixteen(&sixteen)
 }
 
-// The digit of each value, where that is below sixteen.
+// Returns the digit of each value that is below sixteen.
 #[inline(always)]
 fn digits_of_values(values: u8x16) -> u8x16
     ensures { result ≡ map digit_of values }

@@ -1,10 +1,10 @@
 //! The text of a session log, and its audit.
 //!
-//! A log is text: a first line with the version of the log, 1 of one connection or 2 of several, and the settings of the
-//! end that logged; then a line for each entry, comments and empty lines. [`write_settings`] and [`write_entry`] write
-//! such lines, [`read_settings`] and [`read_line`] read them, and [`audit`] judges a whole log: it passes, with a summary
-//! of its entries, or fails at its first line that is unreadable or whose entry breaks a rule of the session machine
-//! (SEMI E37, E37.1; `hsms_machine`). The format is this project's own.
+//! A log is text. Its first line contains the version of the log, 1 for one connection or 2 for several, and the
+//! settings of the logging endpoint. Then follow a line for each entry, comments and empty lines. [`write_settings`]
+//! and [`write_entry`] write such lines, and [`read_settings`] and [`read_line`] read them. [`audit`] audits a complete
+//! log. The log passes, with a summary of its entries, or fails at its first line that is unreadable or whose entry
+//! breaks a rule of the session machine (SEMI E37, E37.1; `hsms_machine`). The format is project-specific.
 //!
 //! A log is written line by line, the settings first, and audited from any source:
 //!
@@ -46,7 +46,7 @@ pub use diagnosis::{unreadable_entry, unreadable_settings};
 pub use fault::{AuditFault, LineFault, LogFault};
 pub use hexadecimal::{digits_of_few, digits_of_sixteen};
 pub use line::{split_at_first, without_carriage_return};
-pub use line_reader::line_checker;
+pub use line_reader::audit_text;
 pub use reading::{Line, is_blank, read_frame_line, read_line, read_plain_line};
 pub use reasons::{Form, Reason, Unreadable};
 pub use settings_line::read_settings;

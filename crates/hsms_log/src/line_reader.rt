@@ -1,4 +1,4 @@
-//! A text that is read in pieces, and judged line by line.
+//! A text that is read in chunks, and checked line by line.
 
 ghost use Rattle.std.specs.Prelude.{IfOk};
 ghost use Rattle.hsms_log.specs.Verdict.{HasAuditVerdict as IsVerdictOn};
@@ -11,14 +11,14 @@ use hsms_machine::Entry;
 use std::alloc::{AllocError, Global};
 use std::marker::Model;
 
-/// Judges a text that comes in pieces. The lines that have ended are judged; of the line that may go on the octets are
-/// held, at most one more than the line's limit.
+/// Checks a text that comes in chunks. The lines that have ended are checked. The bytes of an unfinished line are
+/// buffered, at most one more than the line's limit.
 pub struct LineReader {
     line_checker: LineChecker,
     held: Vec<u8>,
 }
 
-// Written out: a proof over one that is dropped has one step for it, not one for each of its parts.
+// Written out so that a proof has one step for a dropped value, not one for each of its parts.
 impl Drop for LineReader {
     fn drop(self) {
         let LineReader { line_checker, held } = self;
@@ -47,7 +47,7 @@ impl LineReader {
     ghost use Rattle.hsms_log.specs.LineReader.{StateInvariant, EndsLine, FailsAs, IsFailure};
     ghost use Rattle.hsms_log.specs.LineFormat.{IsComment, entry_line};
 
-    /// The reader of a text of which nothing was read.
+    /// Creates a reader that has read nothing.
     pub fn new(alloc: Global) -> LineReader
         ensures consistent { StateInvariant result [] }
         ensures none { result.line_checker.tally.lines ≡ 0 }
@@ -58,8 +58,8 @@ impl LineReader {
         }
     }
 
-    /// Takes the next octets in. Where a line of them fails, it stops there and gives the failure. A line fails as soon
-    /// as it has ended, or is too long however it goes on.
+    /// Processes the next bytes. If a line of them fails, it stops there and returns the failure. A line fails as soon
+    /// as it has ended, or is too long however it continues.
     pub fn take(&mut self, alloc: Global, octets: &[u8]) -> Result<Option<Verdict>, AllocError>
         requires { self.old.line_checker.tally.lines + length octets.now < 2 ^ 64 - 1 }
         ensures consistent { result ≡ Ok None → (text : List ℕ) → StateInvariant self.old text → StateInvariant self.new (text ++ octets.now) }
@@ -80,7 +80,7 @@ impl LineReader {
         Ok(None)
     }
 
-    /// Judges an entry in place of its line. Where it fails, it gives the failure.
+    /// Checks an entry in place of its line. Returns the failure, if it fails.
     pub fn entry(&mut self, entry: &Entry) -> Result<Option<Verdict>, AllocError>
         requires room { self.old.line_checker.tally.lines < 2 ^ 64 - 1 }
         requires between { self.old.held ≡ [] }
@@ -97,14 +97,14 @@ impl LineReader {
         Ok(None)
     }
 
-    /// Whether an entry can be judged in place of its line.
+    /// Returns whether an entry can be checked in place of its line.
     pub fn allows(&self, entry: &Entry) -> bool
         ensures { IsTrue result ↔ (self.now.held ≡ []) × Allows self.now.line_checker.session entry.now }
     {
         self.held.is_empty() && self.line_checker.allows(entry)
     }
 
-    /// Takes the line of a comment.
+    /// Processes the line of a comment.
     pub fn comment(&mut self)
         requires room { self.old.line_checker.tally.lines < 2 ^ 64 - 1 }
         requires between { self.old.held ≡ [] }
@@ -115,14 +115,14 @@ impl LineReader {
         self.line_checker.comment();
     }
 
-    /// Whether the settings were read, and no line has begun since the last one ended.
+    /// Returns whether the settings were read, and no line has begun since the last one ended.
     pub fn is_between(&self) -> bool
         ensures { IsTrue result ↔ (self.now.held ≡ []) × IsSome self.now.line_checker.session }
     {
         self.held.is_empty() && self.line_checker.session.is_some()
     }
 
-    /// Judges the line that ends with this part. Where nothing is held, it is judged where it lies.
+    /// Checks the line that ends with this part. If nothing is buffered, the line is checked in place.
     fn end_line(&mut self, alloc: Global, part: &[u8]) -> Result<Option<Why>, AllocError>
         requires room { self.old.line_checker.tally.lines < 2 ^ 64 - 1 }
         requires part { HasNone 10 part.now }
@@ -141,7 +141,7 @@ impl LineReader {
         answer
     }
 
-    /// Holds further octets of the line, unless it is then too long, however it goes on.
+    /// Buffers more bytes of the line, unless it is then too long, however it continues.
     fn hold(&mut self, part: &[u8]) -> Result<Option<Why>, AllocError>
         ensures line_checker { self.new.line_checker ≡ self.old.line_checker }
         ensures held { result ≡ Ok None → self.new.held ≡ self.old.held ++ part.now }
@@ -160,7 +160,7 @@ impl LineReader {
         Ok(None)
     }
 
-    /// The verdict where the text ends here.
+    /// Returns the verdict if the text ends here.
     pub fn finish(self, alloc: Global) -> Result<Verdict, AllocError>
         requires { self.line_checker.tally.lines < 2 ^ 64 - 1 }
         ensures { IfOk result (λ verdict. (text : List ℕ) → StateInvariant self text → HasAuditVerdict text verdict) }
@@ -179,8 +179,8 @@ impl LineReader {
     }
 }
 
-/// The verdict on the text of a log, which is held whole.
-pub fn line_checker(alloc: Global, text: &[u8]) -> Result<Verdict, AllocError>
+/// Returns the verdict on the text of a log, which is in memory completely.
+pub fn audit_text(alloc: Global, text: &[u8]) -> Result<Verdict, AllocError>
     ensures { IfOk result (IsVerdictOn text.now) }
 {
     let mut reader = LineReader::new(alloc);

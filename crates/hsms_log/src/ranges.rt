@@ -1,5 +1,5 @@
-//! The numbers of what a program holds lie within the ranges of their types. The functions do nothing: their contracts
-//! are the facts.
+//! The facts that the numbers of a program's values are within the ranges of their types. The functions do nothing:
+//! their contracts are the facts.
 
 ghost use Rattle.hsms_frame.specs.Frame.{IsOctets};
 ghost use Rattle.hsms_frame.specs.Header.{IsHeader};
@@ -9,7 +9,7 @@ ghost use Rattle.hsms_log.specs.LineFormat.{IsEntry, IsEvent, IsMessage};
 use hsms_frame::{Frame, Header};
 use hsms_machine::{Entry, Event, Settings};
 
-/// Each entry that a program holds has numbers within the ranges of their types, as one that a line spells has.
+/// Proves that each entry in a program has numbers within the ranges of their types, like an entry that a line encodes.
 pub fn entry_is_in_range(entry: &Entry)
     ensures { IsEntry entry.now }
 {
@@ -45,7 +45,7 @@ fn parts_are_in_range(header: Header, text: &[u8])
     let _count = text.len();
 }
 
-/// All settings that a program holds are within their limits.
+/// Proves that all settings in a program are within their limits.
 pub fn settings_are_in_range(settings: &Settings)
     ensures { IsWithinLimits settings.now }
 {

@@ -1,4 +1,4 @@
-//! What a line that is not the first carries.
+//! The content of a line that is not the first.
 
 ghost use Rattle.std.specs.Prelude.{◌≡◌, ◌≢◌, ◌↔◌, ◌<◌, ◌≤◌, ◌/◌, ◌%◌, ◌^◌, ◌++◌, ◌∷◌, [], true, false, ℕ, List, Option, None, Ok, IsTrue, IfOk, IfErr, IfNone, IfSome, OnErr, OnOk, length, vec_len, take, drop, codes};
 ghost use Rattle.hsms_frame.specs.Frame.{Frame as Message};
@@ -20,7 +20,7 @@ use hsms_frame::{Frame, HEADER_LENGTH, Header, drop_front};
 use hsms_machine::{Cause, Entry, Event, Mark};
 use std::alloc::{AllocError, Global};
 
-/// What a line carries.
+/// The content of a line.
 #[derive(Debug, Drop)]
 pub enum Line {
     /// A comment, or an empty line.
@@ -29,9 +29,9 @@ pub enum Line {
     Entry(Entry),
 }
 
-/// What a line that is not the first carries. It is given without its end, and has at most `2 * max + 64` octets,
-/// comments included. Digits of either case are read. `Memory` is answered only of a line that carries a frame, or is
-/// unreadable.
+/// Returns the content of a line that is not the first. The line is passed without its end, and has at most `2 * max +
+/// 64` bytes, including comments. Digits of either case are read. `Memory` is returned only for a line that has a
+/// frame, or is unreadable.
 pub fn read_line(alloc: Global, line: &[u8], max: u32) -> Result<Line, LineFault>
     ensures found { IfOk result (λ what. Carries max line.now (carried_by what)) }
     ensures unreadable { IfErr result (λ fault. fault ≡ LineFault.Unreadable
@@ -56,7 +56,7 @@ pub fn read_line(alloc: Global, line: &[u8], max: u32) -> Result<Line, LineFault
     }
 }
 
-/// Whether the line is empty, or a comment.
+/// Returns whether the line is empty, or a comment.
 pub fn is_blank(line: &[u8]) -> bool
     ensures { IsTrue result ↔ IsBlank line.now }
 {
@@ -66,7 +66,7 @@ pub fn is_blank(line: &[u8]) -> bool
     }
 }
 
-/// The entry of a step, with the text of its frame.
+/// Returns the entry of a step, with the text of its frame.
 pub fn entry_of(step: Step, text: Vec<u8>) -> Entry
     ensures { result ≡ entry_by step text.items }
 {
@@ -83,7 +83,7 @@ pub fn entry_of(step: Step, text: Vec<u8>) -> Entry
     Entry { time, event }
 }
 
-/// Reads a line that carries a frame. `octets` holds the octets of its header and text then, in place of what it held.
+/// Reads a line with a frame. Then `octets` contains the bytes of its header and text, in place of its old content.
 pub fn read_frame_line(line: &[u8], octets: &mut Vec<u8>) -> Result<Option<Step>, AllocError>
     ensures found { IfOk result (λ answer. IfSome answer (λ step.
         EncodesEntry line.now (entry_by step (drop 10 octets.new.items)))) }
@@ -100,7 +100,7 @@ pub fn read_frame_line(line: &[u8], octets: &mut Vec<u8>) -> Result<Option<Step>
     Ok(Some(Step { time, what }))
 }
 
-/// What a line that carries a frame says, but for the octets of its header and text.
+/// The content of a line with a frame, without the bytes of its header and text.
 #[derive(Clone, Copy)]
 pub struct FrameLine {
     pub time: u64,
@@ -108,11 +108,11 @@ pub struct FrameLine {
     pub header: Header,
 }
 
-/// How many octets a line that carries a frame has at least: a digit, a space, the mark, a space, and the header's digits.
+/// The minimum number of bytes of a line with a frame: a digit, a space, the mark, a space, and the header's digits.
 const SHORTEST: usize = 4 + 2 * HEADER_LENGTH;
 
-/// Reads a line that carries a frame, and says how many octets its header and text have. `octets` begins with these then,
-/// in place of what it held: it isn't made shorter.
+/// Reads a line with a frame. Returns how many bytes its header and text have. Then `octets` begins with these bytes,
+/// in place of its old content. It is not shortened.
 #[inline(always)]
 pub fn frame_at_front(
     line: &[u8],
@@ -139,7 +139,7 @@ pub fn frame_at_front(
     Ok(Some((FrameLine { time, mark, header }, length)))
 }
 
-/// The mark of a frame, and what follows it and a space.
+/// Returns the mark of a frame, and what follows it and a space.
 fn mark_at(text: &[u8]) -> Option<(Mark, &[u8])>
     ensures found { IfSome result (λ x. text.now ≡ mark_word x.0 ++ 32 ∷ x.1.now) }
     ensures none { IfNone result ((mark : FrameMark) (digits : List ℕ) → text.now ≡ mark_word mark ++ 32 ∷ digits → ⊥) }
@@ -152,8 +152,8 @@ fn mark_at(text: &[u8]) -> Option<(Mark, &[u8])>
     }
 }
 
-/// Reads a message from hexadecimal digits, and gives its header and how many octets header and text have, or None where
-/// they spell no message. `octets` begins with these octets then, in place of what it held.
+/// Reads a message from hexadecimal digits. Returns its header and how many bytes header and text have. Returns `None`
+/// if the digits encode no message. Then `octets` begins with these bytes, in place of its old content.
 #[inline(always)]
 fn read_octets(digits: &[u8], octets: &mut Vec<u8>) -> Result<Option<(Header, usize)>, AllocError>
     ensures found { IfOk result (λ answer. IfSome answer (λ x. IsEncoded digits.now x.0 (drop 10 (take x.1 octets.new.items)))) }
@@ -177,7 +177,7 @@ fn read_octets(digits: &[u8], octets: &mut Vec<u8>) -> Result<Option<(Header, us
     Ok(Some((Header::of(*header), length)))
 }
 
-/// Reads the octets that the digits spell to the front of others, and says whether all are digits.
+/// Writes the bytes that the digits encode to the start of a buffer. Returns whether all are digits.
 #[inline(always)]
 fn decode_front(digits: &[u8], octets: &mut [u8]) -> bool
     requires even { length digits.now % 2 ≡ 0 }
@@ -190,7 +190,7 @@ fn decode_front(digits: &[u8], octets: &mut [u8]) -> bool
     decode(digits, &mut octets[..digits.len() / 2])
 }
 
-/// Makes a vector longer, where it has fewer octets.
+/// Extends a vector, if it has fewer bytes.
 #[inline(always)]
 fn lengthen(octets: &mut Vec<u8>, length: usize) -> Result<(), AllocError>
     ensures { OnOk result (length ≤ vec_len octets.new) }
@@ -201,7 +201,7 @@ fn lengthen(octets: &mut Vec<u8>, length: usize) -> Result<(), AllocError>
     Ok(())
 }
 
-/// Reads a line that carries an entry without a frame.
+/// Reads a line with an entry without a frame.
 pub fn read_plain_line(line: &[u8]) -> Option<Step>
     ensures found { IfSome result (λ step. EncodesEntry line.now (entry_by step [])) }
     ensures none { IfNone result (EncodesFramesOnly line.now) }
@@ -211,7 +211,7 @@ pub fn read_plain_line(line: &[u8]) -> Option<Step>
     Some(Step { time, what })
 }
 
-/// Reads an event that is no frame.
+/// Reads an event without a frame.
 fn read_plain_event(text: &[u8]) -> Option<What>
     ensures found { IfSome result (λ what. IsEvent (event_of what []) × EncodesEvent text.now (event_of what [])) }
     ensures none { IfNone result ((event : Happening) → IsEvent event → EncodesEvent text.now event → HasFrame event) }
@@ -223,7 +223,7 @@ fn read_plain_event(text: &[u8]) -> Option<What>
     }
 }
 
-/// Reads the word of an event that has no other.
+/// Reads an event that is a single word.
 #[inline(always)]
 fn read_word(text: &[u8]) -> Option<What>
     ensures found { IfSome result (λ what. IsEvent (event_of what []) × EncodesEvent text.now (event_of what [])) }

@@ -2,10 +2,10 @@
 
 use std::fmt;
 
-/// Why a line of a log cannot be read: the first octet that cannot be there, why, and what was expected.
+/// Why a line of a log cannot be read: the first byte that cannot be there, why, and what was expected.
 #[derive(Clone, Copy, Debug, PartialEq, Eq)]
 pub struct Unreadable {
-    /// The column of that octet, from 1, in octets: one past the last octet if something is missing there.
+    /// The column of that byte, from 1, in bytes: one past the last byte if something is missing there.
     pub column: usize,
     /// Why it cannot be there.
     pub reason: Reason,
@@ -57,7 +57,7 @@ pub enum Reason {
     TooFewWords,
     /// A word after the last one of the form.
     TooManyWords,
-    /// An octet of a number that is no decimal digit.
+    /// A byte of a number that is not a decimal digit.
     NoNumber,
     /// A number with a zero before other digits.
     LeadingZero,
@@ -65,7 +65,7 @@ pub enum Reason {
     OutOfRange,
     /// A version that does not exist.
     Version,
-    /// An octet of hexadecimal digits that is none.
+    /// A byte of hexadecimal digits that is not a digit.
     NoDigit,
     /// Fewer than 20 hexadecimal digits.
     FewDigits,
@@ -73,12 +73,12 @@ pub enum Reason {
     OddDigits,
     /// System bytes of fewer or more than 8 digits.
     SystemDigits,
-    /// A word that is none of those that may be there.
+    /// A word that is not one of the allowed words.
     UnknownWord,
 }
 
 impl Reason {
-    /// Returns the reason in words.
+    /// Returns the text of the reason.
     pub fn words(self) -> &'static str {
         match self {
             Reason::Empty => "the log is empty",
@@ -125,7 +125,7 @@ pub enum Form {
 }
 
 impl Form {
-    /// Returns the form in words.
+    /// Returns the text of the form.
     pub fn words(self) -> &'static str {
         match self {
             Form::Settings => "hsms-log VERSION ROLE LINK DEVICE T3 T6 T7 T8 MAX DEPTH",

@@ -9,8 +9,8 @@ ghost use Rattle.hsms_log.specs.SettingsFields.{IsOf};
 use crate::number::{after_prefix, number, number_at, word_at};
 use hsms_machine::{Role, Settings, Side};
 
-/// The settings that the first line of a log spells, or None where it spells none: other words, a version other than 1
-/// and 2, a number out of its limits, or more than 256 octets. The line is given without its end.
+/// Returns the settings that the first line of a log encodes. Returns `None` if it encodes none: other words, a version
+/// other than 1 and 2, a number outside its limits, or more than 256 bytes. The line is passed without its end.
 pub fn read_settings(line: &[u8]) -> Option<Settings>
     ensures found { IfSome result (EncodesSettings line.now) }
     ensures none { IfNone result ((settings : Parameters) → EncodesSettings line.now settings → ⊥) }
@@ -19,7 +19,7 @@ pub fn read_settings(line: &[u8]) -> Option<Settings>
     of_version(version, settings?)
 }
 
-/// The same numbers for a log of this version, where there is one.
+/// Returns the same numbers for a log of this version, if there is such a version.
 fn of_version(version: u8, settings: Settings) -> Option<Settings>
     ensures within { IsSome result ↔ (1 ≤ version) × (version ≤ 2) }
     ensures value { IfSome result (λ s. settings.version ≡ 1 → s ≡ record settings { version = version }) }
@@ -31,8 +31,8 @@ fn of_version(version: u8, settings: Settings) -> Option<Settings>
     }
 }
 
-/// The version that a first line tells, and its numbers for a log of one connection, or None in their place where one is
-/// out of its limits.
+/// Returns the version in a first line, and its settings for a log of one connection. These are `None` if a number is
+/// outside its limits.
 #[tactic(auto, unfolding(crate::specs::Reading::settings_at))]
 fn version_and_settings(line: &[u8]) -> Option<(u8, Option<Settings>)>
     ensures found { (x : ℕ × Option Parameters) → result ≡ Some x → (p : Parameters) × (settings_at line.now ≡ Some p) × IsOf p x.0 x.1 }
@@ -46,7 +46,7 @@ fn version_and_settings(line: &[u8]) -> Option<(u8, Option<Settings>)>
     Some((version, settings))
 }
 
-/// The version, and what follows it.
+/// Returns the version, and what follows it.
 #[tactic(auto, unfolding(crate::specs::Reading::version_at))]
 fn version_at(line: &[u8]) -> Option<(u8, &[u8])>
     ensures { option_map (λ x. (x.0, x.1.now)) result ≡ version_and_rest line.now }
@@ -57,7 +57,7 @@ fn version_at(line: &[u8]) -> Option<(u8, &[u8])>
     Some((version, rest))
 }
 
-/// The role, the side and the device of an end, and what follows them.
+/// Returns the role, the side and the device ID of an endpoint, and what follows them.
 #[tactic(auto, unfolding(crate::specs::Reading::end_at))]
 fn end_at(text: &[u8]) -> Option<(Role, Side, u16, &[u8])>
     ensures { option_map (λ x. (x.0, x.1, x.2, x.3.now)) result ≡ end_and_rest text.now }
@@ -96,7 +96,7 @@ pub fn read_link(word: &[u8]) -> Option<Side>
     }
 }
 
-/// The four times, and what follows them.
+/// Returns the four times, and what follows them.
 #[tactic(auto, unfolding(crate::specs::Reading::times_at))]
 fn times_at(text: &[u8]) -> Option<(u32, u32, u32, u32, &[u8])>
     ensures { option_map (λ x. (x.0, x.1, x.2, x.3, x.4.now)) result ≡ times_and_rest text.now }
@@ -108,7 +108,7 @@ fn times_at(text: &[u8]) -> Option<(u32, u32, u32, u32, &[u8])>
     Some((t3, t6, t7, t8, text))
 }
 
-/// The greatest length of a message, and the greatest depth of items.
+/// Returns the maximum length of a message, and the maximum depth of items.
 #[tactic(auto, unfolding(crate::specs::Reading::limits_of))]
 fn limits_of(text: &[u8]) -> Option<(u32, u8)>
     ensures { result ≡ limits_in text.now }
@@ -117,7 +117,7 @@ fn limits_of(text: &[u8]) -> Option<(u32, u8)>
     Some((max, u8::try_from(number(text)?).ok()?))
 }
 
-/// A number of 32 bits, and what follows it.
+/// Returns a number of 32 bits, and what follows it.
 #[tactic(auto, unfolding(crate::specs::Reading::u32_at))]
 fn u32_at(text: &[u8]) -> Option<(u32, &[u8])>
     ensures { option_map (λ x. (x.0, x.1.now)) result ≡ u32_and_rest text.now }

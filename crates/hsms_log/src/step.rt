@@ -1,9 +1,9 @@
-//! An entry but for the text of its frame.
+//! An entry without the text of its frame.
 
 use hsms_frame::Header;
 use hsms_machine::{Cause, Mark};
 
-/// What an entry says that happened, but for the text of its frame.
+/// The event of an entry, without the text of its frame.
 #[derive(Clone, Copy)]
 pub enum What {
     Up,
@@ -13,7 +13,7 @@ pub enum What {
     Down,
 }
 
-/// An entry but for the text of its frame. Its time is in ms.
+/// An entry without the text of its frame. Its time is in ms.
 #[derive(Clone, Copy)]
 pub struct Step {
     pub time: u64,

@@ -1,10 +1,10 @@
-//! How many lines and entries a log has, as they are read.
+//! Counts of the lines and entries of a log, as they are read.
 
 use crate::verdict::Summary;
 use hsms_machine::{Entry, Event, Mark};
 use std::marker::Model;
 
-/// How many lines and entries there were.
+/// The number of lines and of entries.
 #[derive(Default, Drop)]
 pub struct Tally {
     lines: u64,
@@ -27,7 +27,7 @@ impl Tally {
     ghost use Rattle.hsms_machine.specs.Entry.{frame_entry};
     ghost use Rattle.hsms_log.specs.AuditState.{counted};
 
-    /// Counts a line that carries nothing that is counted.
+    /// Counts a line without an entry.
     pub fn count_line(&mut self)
         requires { self.old.lines < 2 ^ 64 - 1 }
         ensures { self.new ≡ record self.old { lines = self.old.lines + 1 } }
@@ -35,7 +35,7 @@ impl Tally {
         self.lines += 1;
     }
 
-    /// Counts a line that carries an entry.
+    /// Counts a line with an entry.
     pub fn count_entry(&mut self, entry: &Entry)
         requires { self.old.lines < 2 ^ 64 - 1 }
         ensures { self.new ≡ counted self.old entry.now }
@@ -51,7 +51,7 @@ impl Tally {
         }
     }
 
-    /// Counts a line that carries a frame with this mark.
+    /// Counts a line with a frame with this mark.
     pub fn count_frame(&mut self, mark: Mark)
         requires { self.old.lines < 2 ^ 64 - 1 }
         ensures { (time : ℕ) (header : Header) (text : List ℕ) → self.new ≡ counted self.old (frame_entry time mark header text) }
@@ -65,14 +65,14 @@ impl Tally {
         }
     }
 
-    /// How many lines there were.
+    /// Returns the number of lines.
     pub fn lines(&self) -> u64
         ensures { result ≡ self.now.lines }
     {
         self.lines
     }
 
-    /// The summary of the entries.
+    /// Returns the summary of the entries.
     pub fn summary(&self, waiting: u64) -> Summary
         ensures { result ≡ record { entries = self.now.entries; sent = self.now.sent; taken = self.now.taken; discarded = self.now.discarded; expired = self.now.expired; waiting = waiting } }
     {

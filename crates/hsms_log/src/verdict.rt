@@ -1,18 +1,18 @@
-//! What an audit answers.
+//! The result of an audit.
 
 use hsms_machine::Rule;
 use std::alloc::AllocError;
 
-/// What a log that passes holds: how many entries, and how many of them are of which kind.
+/// The content of a log that passes: the number of entries, and how many are of each kind.
 #[derive(Clone, Copy, Debug, Default, PartialEq, Eq)]
 pub struct Summary {
     /// All entries.
     pub entries: u64,
     /// Frames that were sent.
     pub sent: u64,
-    /// Frames that were received and taken.
+    /// Frames that were received and accepted.
     pub taken: u64,
-    /// Frames that were received and thrown away.
+    /// Frames that were received and discarded.
     pub discarded: u64,
     /// Expiries of T3.
     pub expired: u64,
@@ -24,7 +24,7 @@ impl Summary {
     ghost use Rattle.std.specs.Prelude.{◌≡◌, ◌++◌, OnOk, string_bytes};
     ghost use Rattle.hsms_log.specs.Verdict.{count_text, counts_text};
 
-    /// Adds each count to a text: what stands before its name, the name, what stands behind it, and the number.
+    /// Appends each count to a text: the text before its name, the name, the text after it, and the number.
     pub fn push_counts(
         &self,
         text: &mut String,
@@ -57,16 +57,16 @@ impl Summary {
 /// Why a line fails.
 #[derive(Clone, Copy, Debug, PartialEq, Eq)]
 pub enum Why {
-    /// The line is no entry, comment or empty line, or is past its limit.
+    /// The line is not an entry, a comment or an empty line, or exceeds its limit.
     Unreadable,
-    /// The line's entry breaks this rule, and none before it.
+    /// The line's entry breaks this rule, and no earlier rule.
     Broken(Rule),
 }
 
 /// The verdict on the text of a log.
 #[derive(Clone, Copy, Debug, PartialEq, Eq)]
 pub enum Verdict {
-    /// The text spells settings and a run.
+    /// The text encodes settings and a run.
     Pass(Summary),
     /// This line, counted from 1, is the first that fails.
     Fail { line: u64, why: Why },

@@ -1,4 +1,4 @@
-//! Log text, written.
+//! Output of log text.
 
 ghost use Rattle.std.specs.Prelude.{◌≡◌, ◌<◌, ◌++◌, [], ◌∷◌, length, decimal};
 ghost use Rattle.std.specs.List.{flat_map};
@@ -54,7 +54,7 @@ fn put_message<W: Sink>(sink: &mut W, mark: &[u8], frame: &Frame) -> Result<(), 
     put(sink, b"\n")
 }
 
-/// Writes a word behind another, and the end of the line.
+/// Writes a word after another, and the end of the line.
 fn put_word<W: Sink>(sink: &mut W, front: &[u8], word: &[u8]) -> Result<(), LogFault>
     ensures { Writes result (W.state sink.old) (W.state sink.new) (front.now ++ (word.now ++ 10 ∷ [])) }
 {
@@ -63,7 +63,7 @@ fn put_word<W: Sink>(sink: &mut W, front: &[u8], word: &[u8]) -> Result<(), LogF
     put(sink, b"\n")
 }
 
-/// The word of a cause, as in a log.
+/// Returns the word for a cause, as in a log.
 pub fn cause_word(cause: Cause) -> &'static str
     ensures { result.now ≡ cause_word_of cause }
 {
@@ -75,7 +75,7 @@ pub fn cause_word(cause: Cause) -> &'static str
     }
 }
 
-/// Writes octets as hexadecimal digits in lower case, sixteen octets at once.
+/// Writes bytes as hexadecimal digits in lower case, sixteen bytes at once.
 fn put_hex<W: Sink>(sink: &mut W, octets: &[u8]) -> Result<(), LogFault>
     ensures { Writes result (W.state sink.old) (W.state sink.new) (encode_lower octets.now) }
 {
@@ -123,7 +123,7 @@ fn put_opening<W: Sink>(sink: &mut W, settings: &Settings) -> Result<(), LogFaul
     put(sink, words(settings))
 }
 
-/// What the end is and how it is linked, each behind a space.
+/// Returns the role and the side of the endpoint, each after a space.
 fn words(settings: &Settings) -> &'static [u8]
     ensures { result.now ≡ words_of settings.now }
 {
@@ -149,7 +149,7 @@ fn numbers(settings: &Settings) -> [u64; 7]
     ]
 }
 
-/// Writes numbers, each behind a space, and the end of the line.
+/// Writes numbers, each after a space, and the end of the line.
 fn put_numbers<W: Sink>(sink: &mut W, numbers: &[u64]) -> Result<(), LogFault>
     ensures { Writes result (W.state sink.old) (W.state sink.new) (flat_map spaced numbers.now ++ 10 ∷ []) }
 {
@@ -159,7 +159,7 @@ fn put_numbers<W: Sink>(sink: &mut W, numbers: &[u64]) -> Result<(), LogFault>
     put(sink, b"\n")
 }
 
-/// Writes a number behind a space.
+/// Writes a number after a space.
 fn put_spaced<W: Sink>(sink: &mut W, number: u64) -> Result<(), LogFault>
     ensures { Writes result (W.state sink.old) (W.state sink.new) (spaced number) }
 {

@@ -1,4 +1,5 @@
-//! Logs and their verdicts: tests of `hsms_log`, in a crate of their own, since a crate is proved once more with its tests.
+//! Tests of `hsms_log`: logs and their verdicts. They are a separate crate, because a crate is proved again with its
+//! tests.
 #![tactic(auto)]
 
 #[cfg(test)]

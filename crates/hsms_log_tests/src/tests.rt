@@ -7,8 +7,8 @@ use cases::{CASES, Case, ENTRIES, FIRST_LINES, NO_LINES, REPLY, SELECTED, WRITTE
 use connections::{TEXTS, Text};
 use hsms_frame::{Feed, Store};
 use hsms_log::{
-    AuditFault, Line, LineFault, LogFault, Summary, Verdict, Why, audit, audit_within,
-    line_checker, read_line, read_settings, write_entry, write_settings,
+    AuditFault, Line, LineFault, LogFault, Summary, Verdict, Why, audit, audit_text, audit_within,
+    read_line, read_settings, write_entry, write_settings,
 };
 use hsms_machine::{Entry, Rule, Settings};
 use std::alloc::{AllocError, Global};
@@ -25,7 +25,7 @@ fn joined(alloc: Global, parts: &[&str]) -> Result<Vec<u8>, AllocError> {
     Ok(text)
 }
 
-/// What an audit answers. Want of memory is handed up.
+/// Returns the result of an audit. Propagates a failed allocation.
 fn found_fact(
     answer: Result<Verdict, AuditFault>,
 ) -> Result<Result<Verdict, AuditFault>, AuditFault> {
@@ -44,7 +44,7 @@ fn assert_answer(
     assert_eq!(rt; answer, want, "{name}");
 }
 
-/// What an audit answers of a log that comes in pieces of so many octets.
+/// Checks the result of an audit of a log that comes in chunks of this many bytes.
 fn check_chunks(rt: &impl Abort, alloc: Global, case: &Case, piece: usize) -> Result<(), Fail>
     requires { 0 < piece }
 {
@@ -71,7 +71,7 @@ fn audits_each_log(rt: HostRuntime) -> Result<(), Fail> {
 
 fn check_text(rt: &impl Abort, alloc: Global, text: &Text) -> Result<(), Fail> {
     let octets = joined(alloc, text.parts)?;
-    let verdict = line_checker(alloc, &octets)?;
+    let verdict = audit_text(alloc, &octets)?;
     assert_answer(rt, Ok(verdict), Ok(text.verdict), text.name);
     Ok(())
 }
@@ -84,7 +84,8 @@ fn audits_each_log_of_many_connections(rt: HostRuntime) -> Result<(), Fail> {
     Ok(())
 }
 
-/// A source that gives pieces of so many octets, and fails after so many calls, has this fault within so many reads.
+/// Checks that an audit returns this error within this many reads. The source returns chunks of this many bytes, and
+/// fails after this many calls.
 fn check_fault(
     rt: &impl Abort,
     alloc: Global,
@@ -164,7 +165,7 @@ const UNREADABLE: Verdict = Verdict::Fail {
     why: Why::Unreadable,
 };
 
-/// The front of a line, the octet that fills it, how often, its end, and the verdict.
+/// The start of a line, the byte that fills it, how often, its end, and the verdict.
 type Filled = (&'static str, u8, u32, &'static str, Verdict);
 
 const FILLED: &[Filled] = &[
@@ -220,7 +221,7 @@ fn check_filled(rt: &impl Abort, alloc: Global, row: Filled) -> Result<(), Fail>
     Ok(())
 }
 
-// The limit of a later line is 576 octets here.
+// The limit of a later line is 576 bytes here.
 #[test]
 fn keeps_to_the_limits_of_lines(rt: HostRuntime) -> Result<(), Fail> {
     for row in FILLED {
@@ -229,7 +230,7 @@ fn keeps_to_the_limits_of_lines(rt: HostRuntime) -> Result<(), Fail> {
     Ok(())
 }
 
-/// What stands before a line, how long it is so far and what ends it, and what is told of it before its end is read.
+/// What precedes a line, its length so far and what ends it, and the verdict before its end is read.
 type Open = (
     &'static [&'static str],
     u32,
@@ -264,7 +265,7 @@ fn begun(alloc: Global, row: Open) -> Result<Vec<u8>, AllocError> {
     Ok(text)
 }
 
-/// All reads are used, and none found the end.
+/// Checks that all reads are used, and none finds the end.
 fn check_open(rt: &impl Abort, alloc: Global, row: Open) -> Result<(), Fail> {
     let mut feed = Feed::new(begun(alloc, row)?, 4096, u64::MAX);
     let answer = found_fact(audit_within(alloc, &mut feed, 1))?;
@@ -360,7 +361,7 @@ fn assert_unreadable(rt: &impl Abort, fault: Option<LineFault>, line: &str) {
     assert!(rt; matches!(fault, Some(LineFault::Unreadable)), "{line}");
 }
 
-/// A line that is unreadable. Want of memory is handed up.
+/// Checks that a line is unreadable. Propagates a failed allocation.
 fn check_unreadable(rt: &impl Abort, alloc: Global, line: &str) -> Result<(), Fail> {
     match read_line(alloc, line.as_bytes(), 256) {
         Err(LineFault::Memory) => Err(LineFault::Memory.into()),

@@ -1,4 +1,4 @@
--- Which entries stand on a connection. The other proofs know of it what stands here, and nothing else.
+-- The entries of a connection. The other proofs use only the facts about it in this file.
 use Rattle.std.proofs.Common.{◌≡◌, ℕ, zero, suc, ◌+◌, ◌-◌, ◌<◌, ◌≤◌, Bool, true, false, cond, ◌||◌, List, [], ◌∷◌, ◌++◌, length, fold, IsTrue, ◌⊎◌, inl, inr, refl, sym, ap, subst, ◌∙◌, arith, zero-add}
 use Rattle.std.specs.List.{list_any}
 use Rattle.std.proofs.lemmas.Bool.{cases_lt}
@@ -9,7 +9,7 @@ use Rattle.hsms_machine.specs.Entry.{entry_at, is_up, IsOnConnection, SomeBefore
 use Rattle.hsms_machine.specs.Transaction.{opens, closes, IsOpen}
 use Rattle.hsms_machine.specs.View.{up_time_of}
 
--- two logs have the same entries before position i
+-- Holds if two logs have the same entries before position i.
 abbrev pub SameBefore : List Entry → List Entry → ℕ → Type 0
 SameBefore log other i = (k : ℕ) → k < i → entry_at log k ≡ entry_at other k
 
@@ -23,7 +23,7 @@ not_true : (b : Bool) → (b ≡ true → ⊥) → b ≡ false
 not_true true never = absurd (never refl)
 not_true false never = refl
 
--- no entry of the list is an `up`, as a search tells
+-- No entry of the list is an `up`, if a search finds none.
 no_up_in : (entries : List Entry) → list_any (λ entry. is_up entry.event) entries ≡ false → (k : ℕ) → k < length entries → is_up (entry_at entries k).event ≡ true → ⊥
 no_up_in entries none k lt u =
     let found : list_any (λ entry. is_up entry.event) entries ≡ true = list_any_at (λ (entry : Entry). is_up entry.event) entries k (record { time = 0; event = Up }) lt u in
@@ -39,39 +39,39 @@ some_up_in : (entries : List Entry) → list_any (λ entry. is_up entry.event) e
 some_up_in [] e = absurd (let d : false ≡ true = e in cc)
 some_up_in (x ∷ xs) e = some_case x xs (is_up x.event) refl (some_up_in xs) e
 
--- ---- what is known
+-- ---- facts about it
 
--- an entry on the connection of a position stands before it
+-- An entry on the connection of a position is before the position.
 pub on-before : (log : List Entry) (k i : ℕ) → IsOnConnection log k i → k < i
 unfolding IsOnConnection
 on-before log k i h = h.0
 
--- no `up` stands between
+-- No `up` is between them.
 pub on-no_up : (log : List Entry) (k i : ℕ) → IsOnConnection log k i → (m : ℕ) → k < m → m < i → is_up (entry_at log m).event ≡ false
 unfolding IsOnConnection
 on-no_up log k i h m after before = not_true (is_up (entry_at log m).event) (h.1 m after before)
 
--- where none does, an entry before the position is on its connection
+-- If no `up` is between them, an entry before the position is on its connection.
 pub on-where : (log : List Entry) (k i : ℕ) → k < i → ((m : ℕ) → k < m → m < i → is_up (entry_at log m).event ≡ false) → IsOnConnection log k i
 unfolding IsOnConnection
 on-where log k i lt none = (lt, (λ m after before u. let d : true ≡ false = sym u ∙ none m after before in cc))
 
--- the entries before the position decide
+-- The entries before the position decide.
 pub on-same : (log other : List Entry) (i : ℕ) → SameBefore log other i → (k : ℕ) → IsOnConnection log k i → IsOnConnection other k i
 on-same log other i same k h =
     on-where other k i (on-before log k i h)
     (λ m after before. sym (ap (λ (x : Entry). is_up x.event) (same m before)) ∙ on-no_up log k i h m after before)
 
--- it stands on the connection of each position between, too
+-- It is also on the connection of each position between them.
 pub on-between : (log : List Entry) (j k i : ℕ) → j < k → k ≤ i → IsOnConnection log j i → IsOnConnection log j k
 on-between log j k i lt le h = on-where log j k lt (λ m after before. on-no_up log j i h m after (omega arith))
 
--- the entry before a position stands on its connection
+-- The entry before a position is on the position's connection.
 pub on-last : (log : List Entry) (k i : ℕ) → k + 1 ≡ i → IsOnConnection log k i
 on-last log k i e = on-where log k i (omega arith) (λ m after before. absurd (omega arith))
 
--- The entries of the last connection are those of the log from this position on. They stand on the connection of the
--- log's end, and no others do. The first of them is an `up`, or the first of all, and no other is an `up`.
+-- Holds if the entries of the last connection are those of the log from this position on. They are on the connection of
+-- the log's end, and no others are. The first of them is an `up`, or the first of all, and no other is an `up`.
 pub record IsFrom (log connection : List Entry) (start : ℕ) : Type 0 where
   pub whole : start + length connection ≡ length log
   pub at : (k : ℕ) → entry_at log (start + k) ≡ entry_at connection k
@@ -81,7 +81,7 @@ pub record IsFrom (log connection : List Entry) (start : ℕ) : Type 0 where
   pub first : (start ≡ 0) ⊎ IsTrue (is_up (entry_at connection 0).event)
   pub alone : (k : ℕ) → 0 < k → k < length connection → is_up (entry_at connection k).event ≡ false
 
--- an entry at the front, where an `up` comes later
+-- An entry at the front, if an `up` comes later.
 module _ (x : Entry) (xs connection : List Entry) (start : ℕ) (from : IsFrom xs connection start) (later : list_any (λ entry. is_up entry.event) xs ≡ true) where
   up_at : (k : ℕ) × (k < length xs) × (is_up (entry_at xs k).event ≡ true)
   up_at = some_up_in xs later
@@ -104,7 +104,7 @@ module _ (x : Entry) (xs connection : List Entry) (start : ℕ) (from : IsFrom x
       let le : start ≤ j = from.no_other j on in
       omega arith
 
-  -- the first of the later connection is an `up`, since one comes
+  -- The first entry of the later connection is an `up`, because there is one.
   first_later : start ≡ 0 → is_up (entry_at connection 0).event ≡ true
   first_later z =
       let e : start + up_at.0 ≡ up_at.0 = omega arith in
@@ -132,7 +132,7 @@ module _ (x : Entry) (xs connection : List Entry) (start : ℕ) (from : IsFrom x
         alone = from.alone;
       }
 
--- an entry at the front, where no `up` comes later
+-- An entry at the front, if no `up` comes later.
 module _ (x : Entry) (xs : List Entry) (none : list_any (λ entry. is_up entry.event) xs ≡ false) where
   none_later : (k : ℕ) → 0 < k → k < length (x ∷ xs) → is_up (entry_at (x ∷ xs) k).event ≡ false
   none_later zero pos lt = absurd (omega arith)
@@ -177,7 +177,7 @@ connection-from (x ∷ xs) =
       | inr none ↦ (0, subst (λ c. IsFrom (x ∷ xs) c 0) (sym (connection-later x xs false none)) (from-here x xs none))
     ]
 
--- where no later entry is an `up`, all are the connection
+-- If no later entry is an `up`, all entries are the connection.
 pub connection-whole : (log : List Entry) → ((m : ℕ) → 0 < m → m < length log → is_up (entry_at log m).event ≡ false) → connection_of log ≡ log
 connection-whole [] single = connection-empty
 connection-whole (x ∷ xs) single = elim (bool_split (list_any (λ entry. is_up entry.event) xs)) [
@@ -199,7 +199,7 @@ push-first : (u : Bool) (entry : Entry) → entry ∷ [] ≡ cond u (entry ∷ [
 push-first true entry = refl
 push-first false entry = refl
 
--- the connection of a log with one more entry
+-- The connection of a log with one more entry.
 pub connection-push : (log : List Entry) (entry : Entry) → connection_of (log ++ entry ∷ []) ≡ cond (is_up entry.event) (entry ∷ []) (connection_of log ++ entry ∷ [])
 connection-push [] entry =
     connection-later entry [] false refl ∙ push-first (is_up entry.event) entry
@@ -219,7 +219,7 @@ time-case true false C x xs time = refl
 time-case false true C x xs time = refl
 time-case false false C x xs time = refl
 
--- the time of the last `up` is that of the connection's first entry, where there is an `up`
+-- The time of the last `up` is that of the connection's first entry, if there is an `up`.
 up_time-from : (log : List Entry) (time : ℕ) → fold (λ t entry. cond (is_up entry.event) entry.time t) time log ≡ cond (list_any (λ entry. is_up entry.event) log) (entry_at (connection_of log) 0).time time
 up_time-from [] time = refl
 up_time-from (x ∷ xs) time =
@@ -233,20 +233,20 @@ up_time-first log k lt u =
     let any : list_any (λ entry. is_up entry.event) log ≡ true = list_any_at (λ (entry : Entry). is_up entry.event) log k (record { time = 0; event = Up }) lt u in
     up_time-from log 0 ∙ ap (λ b. cond b (entry_at (connection_of log) 0).time 0) any
 
--- ---- what holds of a log and of its connection
+-- ---- what holds for a log and for its connection
 
--- some entry of the list passes the test
+-- Holds if some entry of the list passes the test.
 abbrev pub SomeIn : List Entry → (Entry → Bool) → Type 0
 SomeIn entries test = (k : ℕ) × (k < length entries) × IsTrue (test (entry_at entries k))
 
--- before position i of the list, what the entry at j opened is not closed
+-- Holds if the transaction that the entry at j opened is not closed before position i of the list.
 pub record IsOpenIn (entries : List Entry) (j i : ℕ) : Type 0 where
   pub opened : IsTrue (opens (entry_at entries j).event)
   pub earlier : j < i
   pub not_closed : (k : ℕ) → j < k → k < i → IsTrue (closes (entry_at entries j).event (entry_at entries k).event) → ⊥
 
 module _ (log connection : List Entry) (start : ℕ) (from : IsFrom log connection start) where
-  -- the place in the connection of a position of the log
+  -- The position in the connection of a position of the log.
   place : (j : ℕ) → IsOnConnection log j (length log) → (m : ℕ) × (m < length connection) × (j ≡ start + m)
   place j on =
       let before : j < length log = on-before log j (length log) on in

@@ -1,4 +1,4 @@
--- Each entry has an answer: every rule is broken or not.
+-- Each entry has a result: every rule is broken or not.
 use Rattle.std.proofs.Common.{◌≡◌, ℕ, ◌-◌, ◌<◌, Bool, true, false, ◌&&◌, List, [], ◌∷◌, ◌++◌, length, Option, Some, None, IsTrue, ◌⊎◌, inl, inr, refl, arith, nat_lt, nat_le, ◌==◌}
 use Rattle.std.specs.List.{list_any}
 use Rattle.std.proofs.lemmas.Bool.{cases_lt, cases_order}
@@ -35,7 +35,7 @@ use Rattle.hsms_machine.proofs.Steps.{no_cause_iff}
 use Rattle.hsms_machine.proofs.ViewsOfRuns.{past_from, past_to}
 use Rattle.hsms_machine.proofs.ValidEntries.{before_cases, follows_cases, open_cases}
 
--- it holds, or it does not
+-- It holds, or it does not.
 abbrev pub Decided : Type 0 → Type 0
 Decided P = P ⊎ (P → ⊥)
 
@@ -56,7 +56,7 @@ module _ (P Q : Type 0) where
     | inr n ↦ elim q [ inl y ↦ inl (inr y) | inr m ↦ inr (λ h. elim h [ inl x ↦ n x | inr y ↦ m y ]) ]
   ]
 
-  -- decided alike, where each leads to the other
+  -- If each implies the other, both are decided.
   equivalent_decided : (P → Q) → (Q → P) → Decided P → Decided Q
   equivalent_decided to from p = elim p [ inl x ↦ inl (to x) | inr n ↦ inr (λ y. n (from y)) ]
 
@@ -75,7 +75,7 @@ same_decided a b = elim (cases_order a b) [
 nothing_decided : Decided ⊥
 nothing_decided = inr (λ e. e)
 
--- a text is allowed, or it has a fault
+-- A text is allowed, or it has an error.
 text_decided : SomeTextAnswer → NotBothOfText → (depth : ℕ) (octets : List ℕ) → IsOctets octets → Decided (IsText depth octets)
 text_decided some not_both depth octets fits = elim (some depth octets fits) [
   | inl item ↦ inl item
@@ -84,7 +84,7 @@ text_decided some not_both depth octets fits = elim (some depth octets fits) [
 
 -- ---- rules
 
--- each fact holds, or it does not
+-- Each fact holds, or it does not.
 pub record Settled (F : Facts) : Type 0 where
   pub past : (time : ℕ) → Decided (F.IsPast time)
   pub entry : Decided F.HasEntry
@@ -146,7 +146,7 @@ stype_decided : (kind : Kind) → Decided (kind ≡ OtherSType)
 stype_decided OtherSType = inl refl
 stype_decided kind = inr (λ e. cc)
 
--- some rule of the list is the first one that applies, or none is
+-- Some rule of the list is the first one that applies, or no rule applies.
 first_decided : (Applies : Rule → Type 0) → ((rule : Rule) → Decided (Applies rule)) → (rules : List Rule) → (answer : Option Rule) × IsFirst Applies rules answer
 first_decided Applies decided [] = (None, refl)
 first_decided Applies decided (rule ∷ rules) = elim (decided rule) [
@@ -212,14 +212,14 @@ module _ (F : Facts) (s : Settled F) (settings : Parameters) where
     ]
   ]
 
-  -- a discarded frame lacks a cause where the first rule that it breaks as a taken frame is none
+  -- A discarded frame lacks a cause if it breaks no rule as an accepted frame.
   cause_decided : (frame : Frame) → Decided (IsText settings.depth frame.text) → Decided (IsNoCause F settings (Discarded frame))
   cause_decided frame text =
       let first = first_decided (FrameBreaks F settings Incoming frame) (frame_decided Incoming frame text) (format_rules ++ transaction_rules) in
       let iff = no_cause_iff F settings frame first.0 first.1 in
       both_decided _ _ (not_decided _ s.over) (equivalent_decided _ _ iff.0 iff.1 (none_decided first.0))
 
-  -- the texts of the event are items or not
+  -- The texts of the event are items or not.
   abbrev pub TextDecided : Event → Type 0
   TextDecided (Sent frame) = Decided (IsText settings.depth frame.text)
   TextDecided (Taken frame) = Decided (IsText settings.depth frame.text)
@@ -260,7 +260,7 @@ module _ (some : SomeTextAnswer) (not_both : NotBothOfText) where
       let s = settled log in
       first_decided (Breaks F settings entry) (breaks_decided F s settings entry (texts_decided F s settings entry.event fits)) all_rules
 
-  -- the view tells it too
+  -- The view gives this result too.
   pub returned_result : (view : View) (settings : Parameters) (entry : Entry) → HasOctets entry.event
       → (answer : Option Rule) × IsFirst (Breaks (facts_of view) settings entry) all_rules answer
   returned_result view settings entry fits =

@@ -1,4 +1,4 @@
--- An expiry that is put before an entry breaks no rule there.
+-- An expiry that is inserted before an entry breaks no rule there.
 use Rattle.std.proofs.Common.{◌≡◌, ℕ, ◌+◌, ◌-◌, ◌<◌, ◌≤◌, ◌==◌, ◌&&◌, ◌++◌, min, Bool, true, false, not, cond, List, [], ◌∷◌, length, filter, Option, Some, None, option_to_list, inl, inr, refl, sym, ap, subst, ◌∙◌, nat_lt, nat_le, arith, if◌then◌else◌}
 use Rattle.std.specs.List.{list_any}
 use Rattle.std.proofs.lemmas.Bool.{cases_lt, eq-eqb, ltb-true, ltb-false, le-leb}
@@ -72,7 +72,7 @@ pool_ordered pool xs entry ordered until = by_case (is_up entry.event) where
       (in_order-filter (λ opened. not (is_closed_by pool entry.event opened)) xs ordered)
       (until-filter entry.time (λ opened. not (is_closed_by pool entry.event opened)) xs until)
 
--- what is open of a run is in order, and was opened by the time of its last entry
+-- Holds if the open transactions of a run are in order, and were opened by the time of its last entry.
 pub record AreTimely (view : View) : Type 0 where
   pub ordered : AreInOrder view.sent_data
   pub requests : AreInOrder view.sent_control
@@ -103,11 +103,11 @@ run_timely settings log = from_front (IsTimelyRun settings) (timely_more setting
 
 -- ---- the expiry
 
--- the rules behind the first two
+-- The rules after the first two.
 abbrev after_up : List Rule
 after_up = Ended ∷ (timer_rules ++ (format_rules ++ (transaction_rules ++ (NoCause ∷ []))))
 
--- an expiry lacks its `up` no more than an entry before which it is due does
+-- An expiry does not lack its `up`, if the entry before which it is due does not.
 not_missing : (log : List Entry) (settings : Parameters) (event : Event) (system : ℕ) → 0 < length log
     → ((facts_before log (length log)).FollowsDown → ⊥) → (IsNotUp (facts_before log (length log)) settings event → ⊥)
     → IsNotUp (facts_before log (length log)) settings (T3 system) → ⊥
@@ -123,7 +123,7 @@ late_by : (last moment time : ℕ) (b : Bool) → nat_lt last moment ≡ b → (
 late_by last moment time true is = let lt : last < moment = ltb-true last moment is in (omega arith, omega arith)
 late_by last moment time false is = let le : moment ≤ last = ltb-false last moment is in (omega arith, omega arith)
 
--- it is due, and no earlier than the entry before
+-- The expiry is due, and no earlier than the entry before.
 when_due : (view : View) (time since : ℕ) → view.settings.t3 < time - since
     → (view.last_time ≤ expiry_of view time since view.settings.t3) × (view.settings.t3 ≤ expiry_of view time since view.settings.t3 - since)
 when_due view time since late =

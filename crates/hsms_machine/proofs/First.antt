@@ -4,7 +4,7 @@ use Rattle.hsms_machine.specs.declared.rule.Rule.{Rule}
 use Rattle.hsms_machine.specs.Rule.{IsFirst}
 
 module _ (Applies : Rule → Type 0) where
-  -- where none of the first rules applies, the others decide
+  -- If none of the first rules applies, the others decide.
   pub first_append : (xs ys : List Rule) (a : Option Rule) → IsFirst Applies xs None → IsFirst Applies ys a → IsFirst Applies (xs ++ ys) a
   first_append [] ys a h k = k
   first_append (x ∷ xs) ys a h k = elim h [
@@ -12,7 +12,7 @@ module _ (Applies : Rule → Type 0) where
     | inr q ↦ inr (q.0, first_append xs ys a q.1 k)
   ]
 
-  -- where one of the first rules applies, the others are not looked at
+  -- If one of the first rules applies, the others are not considered.
   pub first_front : (xs ys : List Rule) (r : Rule) → IsFirst Applies xs (Some r) → IsFirst Applies (xs ++ ys) (Some r)
   first_front [] ys r h = absurd (let e : ◌≡◌ {A = Option Rule} (Some r) None = h in cc)
   first_front (x ∷ xs) ys r h = elim h [
@@ -28,7 +28,7 @@ module _ (Applies : Rule → Type 0) where
   first_found xs ys None e h = absurd (let d : false ≡ true = e in cc)
   first_found xs ys (Some r) e h = first_front xs ys r h
 
-  -- a last rule that does not apply may be left out
+  -- A last rule that does not apply may be omitted.
   pub first_extend : (xs : List Rule) (y : Rule) (a : Option Rule) → (Applies y → ⊥) → IsFirst Applies xs a → IsFirst Applies (xs ++ y ∷ []) a
   first_extend [] y a never h = inr (never, h)
   first_extend (x ∷ xs) y a never h = elim h [
@@ -42,7 +42,7 @@ module _ (Applies : Rule → Type 0) where
     | inr q ↦ (q.0, q.1)
   ]
 
-  -- where no rule applies, the answer is none
+  -- If no rule applies, the result is none.
   pub first_none : (xs : List Rule) (a : Option Rule) → ((r : Rule) → Applies r → ⊥) → IsFirst Applies xs a → a ≡ None
   first_none [] a never h = h
   first_none (x ∷ xs) a never h = elim h [
@@ -54,7 +54,7 @@ module _ (Applies : Rule → Type 0) where
   none_from [] never = refl
   none_from (x ∷ xs) never = inr (never x, none_from xs never)
 
-  -- the first rule applies
+  -- The first rule applies.
   pub applies : (xs : List Rule) (rule : Rule) → IsFirst Applies xs (Some rule) → Applies rule
   applies [] rule h = absurd (let d : ◌≡◌ {A = Option Rule} (Some rule) None = h in cc)
   applies (x ∷ xs) rule h = elim h [
@@ -62,7 +62,7 @@ module _ (Applies : Rule → Type 0) where
     | inr q ↦ applies xs rule q.1
   ]
 
-  -- and none before it does
+  -- No rule before it applies.
   pub not_first : (x : Rule) (xs : List Rule) (rule : Rule) → (x ≡ rule → ⊥) → IsFirst Applies (x ∷ xs) (Some rule)
       → (Applies x → ⊥) × IsFirst Applies xs (Some rule)
   not_first x xs rule other h = elim h [
@@ -70,7 +70,7 @@ module _ (Applies : Rule → Type 0) where
     | inr q ↦ (q.0, q.1)
   ]
 
--- rules that apply alike have the same first one
+-- Equivalent conditions have the same first rule.
 pub first_agrees : (P Q : Rule → Type 0) (xs : List Rule) (a : Option Rule) → ((r : Rule) → P r → Q r) → ((r : Rule) → Q r → P r) → IsFirst P xs a → IsFirst Q xs a
 first_agrees P Q [] a to from h = h
 first_agrees P Q (x ∷ xs) a to from h = elim h [
@@ -78,7 +78,7 @@ first_agrees P Q (x ∷ xs) a to from h = elim h [
   | inr q ↦ inr ((λ y. q.0 (from x y)), first_agrees P Q xs a to from q.1)
 ]
 
--- there is one first rule at most
+-- There is at most one first rule.
 pub first_same : (P : Rule → Type 0) (xs : List Rule) (a b : Option Rule) → IsFirst P xs a → IsFirst P xs b → a ≡ b
 first_same P [] a b h k = h ∙ sym k
 first_same P (x ∷ xs) a b h k = elim h [

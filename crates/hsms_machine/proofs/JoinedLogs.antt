@@ -1,4 +1,4 @@
--- Runs of single connections, one after the other, are a run of several.
+-- Runs of single connections, one after the other, are a run of several connections.
 use Rattle.std.proofs.Common.{◌≡◌, ℕ, ◌+◌, ◌-◌, ◌<◌, ◌≤◌, Bool, true, false, ◌&&◌, List, [], ◌∷◌, ◌++◌, length, length-append, None, inl, inr, refl, sym, ap, subst, ◌∙◌, arith}
 use Rattle.std.proofs.lemmas.Bool.{cases_lt}
 use Rattle.std.proofs.lemmas.List.{append-nil, get_or-append-add, get_or_append_left}
@@ -32,7 +32,7 @@ module _ (settings : Parameters) (F : Facts) where
   not_up-of Up b = (b.0, (λ c. b.1 (refl, c.1)))
   not_up-of event b = b
 
-  -- what an entry breaks as one of several connections it breaks as one of one
+  -- A rule that an entry breaks in a log of several connections, it also breaks in a log of one.
   breaks-of : (entry : Entry) (r : Rule) → Breaks F (several_of settings) entry r → Breaks F settings entry r
   unfolding has_right_session has_right_direction
   breaks-of entry NotUp b = not_up-of entry.event b
@@ -46,7 +46,7 @@ run-several settings log run i lt =
     none_never (Breaks F (several_of settings) entry) all_rules
     (never_map (Breaks F settings entry) (Breaks F (several_of settings) entry) all_rules (breaks-of settings F entry) (never_from (Breaks F settings entry) all_rules (run i lt)))
 
--- the other way round, where an `up` is the first entry alone
+-- The converse, if an `up` is only the first entry.
 module _ (settings : Parameters) (F : Facts) (event : Event) (single : is_up event ≡ true → F.HasEntry → ⊥) where
   not_up-back : (e : Event) → e ≡ event → IsNotUp F settings e → IsNotUp F (several_of settings) e
   not_up-back Up is b = absurd (single (ap is_up (sym is)) b.0)
@@ -89,7 +89,7 @@ module _ (first second : List Entry) (starts : is_up (entry_at second 0).event �
         (λ m after before.
         ap (λ (x : Entry). is_up x.event) (at_place m (m - base) (omega arith)) ∙ on-no_up second k i h (m - base) (omega arith) (omega arith))
 
-    -- what stands on the connection of the position stands in the second
+    -- An entry on the connection of the position is in the second log.
     on-in : (j : ℕ) → IsOnConnection whole j (base + i) → (k : ℕ) × (j ≡ base + k) × IsOnConnection second k i
     on-in j h =
         let lt : j < base + i = on-before whole j (base + i) h in
@@ -160,7 +160,7 @@ module _ (first second : List Entry) (starts : is_up (entry_at second 0).event �
         let e : s.0 + 1 ≡ base + i = s.1 in
         (s.0 - base, omega arith, subst (λ x. is_down x.event ≡ true) (at_place s.0 (s.0 - base) (omega arith)) s.2)
 
-    -- after its first entry, the second log's facts are those of the whole
+    -- After its first entry, the second log's facts are those of the complete log.
     facts_agree-joined : FactsAgree (facts_before second i) (facts_before whole (base + i))
     facts_agree-joined = record {
       order = record {
@@ -176,9 +176,9 @@ module _ (first second : List Entry) (starts : is_up (entry_at second 0).event �
       some_open = λ pool test. (some_open-out pool test, some_open-in pool test);
     }
 
--- ---- the first entry of the second
+-- ---- the first entry of the second log
 
--- an `up` of version 2 that stands directly after `down`, and isn't earlier, breaks no rule
+-- An `up` of version 2 that directly follows `down`, and is not earlier, breaks no rule.
 up_by : (F : Facts) (settings : Parameters) (time : ℕ) → settings.version ≡ 2 → F.FollowsDown → (F.IsPast time → ⊥) → (event : Event) → is_up event ≡ true → IsFirst (Breaks F settings (record { time = time; event = event })) all_rules None
 up_by F settings time two down past Up up =
     none_never (Breaks F settings (record { time = time; event = Up })) all_rules
@@ -207,7 +207,7 @@ module _ (settings : Parameters) (first second : List Entry) (two : settings.ver
       first_broken-facts_agree (facts_before second k) (facts_before (first ++ second) (length first + k)) (facts_agree-joined first second starts k pos) settings (entry_at (first ++ second) (length first + k)) all_rules None
       (subst (λ x. IsFirst (Breaks (facts_before second k) settings x) all_rules None) (sym (at first second starts k)) (next k lt))
 
-  -- the entry where they meet
+  -- The entry at which the logs meet.
   seam : 0 < length second → Keeps (length first)
   seam more =
       let starts : is_up (entry_at second 0).event ≡ true = first_up settings second next more in

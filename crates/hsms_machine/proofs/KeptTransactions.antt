@@ -1,4 +1,4 @@
--- What a map keeps of transactions, of which those at its front are closed.
+-- The transactions of a map: those at its front are closed.
 use Rattle.std.proofs.Common.{◌≡◌, ℕ, ◌+◌, ◌-◌, ◌<◌, ◌≤◌, Bool, true, false, not, ◌==◌, ◌||◌, List, [], ◌∷◌, ◌++◌, Option, Some, None, inl, inr, refl, sym, ap, subst, ◌∙◌, arith, filter, slice_get, length, drop, take, reverse, nat_eq, remove, zero, suc, cond, ◌↔◌, IsSome, option_to_list, length-append}
 use Rattle.std.specs.List.{find}
 use Rattle.std.specs.Cmp.{nat_eq_equiv}
@@ -15,7 +15,7 @@ use Rattle.hsms_machine.specs.declared.open_transactions.Transaction.{Transactio
 use Rattle.hsms_machine.specs.OpeningOrder.{AreKeyed, AreSince, AreUntil, AreInOrder, AreApart, AreKept, uses, first_of}
 use Rattle.hsms_machine.proofs.Mapped.{or_parts, filter_none, find-some, is_none_at}
 
--- ---- behind the closed ones
+-- ---- after the closed ones
 
 pub values-drop : (n : ℕ) (es : List (ℕ × Transaction)) → values_of (drop n es) ≡ drop n (values_of es)
 values-drop zero es = refl
@@ -38,7 +38,7 @@ apart-drop zero xs h = h
 apart-drop (suc n) [] h = tt
 apart-drop (suc n) (x ∷ xs) h = apart-drop n xs h.1
 
--- the closed ones let go
+-- The closed ones are dropped.
 pub kept-dropped : (n : ℕ) (es : List (ℕ × Transaction)) → AreKept n es → AreKept 0 (drop n es)
 kept-dropped n es h =
     let values = values-drop n es in
@@ -49,7 +49,7 @@ kept-dropped n es h =
       in_order = subst AreInOrder (sym values) h.in_order;
     }
 
--- the front taken off as the end, turned round
+-- Removing the front removes the end of the reversed list.
 pub front_dropped : {X : Type 0} (xs : List X) (n m : ℕ) → m ≡ length xs - n → reverse (take m (reverse xs)) ≡ drop n xs
 front_dropped xs n m e =
     let turned : reverse xs ≡ reverse (drop n xs) ++ reverse (take n xs) = ap reverse (sym (take-append-drop n xs)) ∙ reverse-append (take n xs) (drop n xs) in
@@ -68,7 +68,7 @@ first-drop [] (suc n) = refl
 first-drop (x ∷ xs) zero = refl
 first-drop (x ∷ xs) (suc n) = first-drop xs n
 
--- the entry behind the closed ones is that of the oldest
+-- The entry after the closed ones is that of the oldest.
 pub value-first : (n : ℕ) (es : List (ℕ × Transaction)) → option_map (λ e. e.1) (slice_get es n) ≡ first_of (drop n (values_of es))
 value-first n es = value-at es n ∙ first-drop (values_of es) n
 
@@ -78,12 +78,12 @@ slice-drop [] (suc n) i j e = refl
 slice-drop (x ∷ xs) (suc n) i zero e = absurd (omega arith)
 slice-drop (x ∷ xs) (suc n) i (suc j) e = slice-drop xs n i j (omega arith)
 
--- the value at a place behind the closed ones
+-- The value at an index after the closed ones.
 pub value-subsequent : (es : List (ℕ × Transaction)) (entry : ℕ × Transaction) (n i j : ℕ) → j ≡ n + i → slice_get es j ≡ Some entry → slice_get (drop n (values_of es)) i ≡ Some entry.1
 value-subsequent es entry n i j e at =
     slice-drop (values_of es) n i j e ∙ sym (value-at es j) ∙ ap (option_map (λ e. e.1)) at
 
--- ---- the transaction of some system bytes, where it stands
+-- ---- the index of the transaction with some system bytes
 
 pub found_passes : (test : Transaction → Bool) (opened : Transaction) (xs : List Transaction) → find test xs ≡ Some opened → test opened ≡ true
 found_passes test opened [] e = absurd cc
@@ -95,7 +95,7 @@ found_passes test opened (x ∷ xs) e = by_case (found_passes test opened xs) (t
         subst (λ y. test y ≡ true) same t
     by_case later false t e = later e
 
--- what isn't used isn't found
+-- System bytes that are not used are not found.
 pub unused_none : (system : ℕ) (xs : List Transaction) → uses system xs ≡ false → find (λ other. other.header.system == system) xs ≡ None
 unused_none system xs unused =
     is_none_at (find (λ other. other.header.system == system) xs) (find-some (λ other. other.header.system == system) xs ∙ unused)
@@ -115,7 +115,7 @@ module _ (system : ℕ) (opened : Transaction) (is : (opened.header.system == sy
   used_at (x ∷ xs) zero e = ap (λ b. b || uses system xs) (here_is x e)
   used_at (x ∷ xs) (suc i) e = or_right (x.header.system == system) (uses system xs) (used_at xs i e)
 
-  -- no other has its system bytes: not the first, where it stands later
+  -- No other has its system bytes: not the first, if it is at a later index.
   first_differs : (x : Transaction) (xs : List Transaction) (i : ℕ) → uses x.header.system xs ≡ false → slice_get xs i ≡ Some opened → (x.header.system == system) ≡ false
   first_differs x xs i apart at = elim (cases_Bool (x.header.system == system)) [
     | inl t ↦
@@ -124,7 +124,7 @@ module _ (system : ℕ) (opened : Transaction) (is : (opened.header.system == sy
     | inr f ↦ f
   ]
 
-  -- none behind the first, where it is that
+  -- No later one has them, if it is the first.
   unused_later : (x : Transaction) (xs : List Transaction) → Some x ≡ Some opened → uses x.header.system xs ≡ false → uses system xs ≡ false
   unused_later x xs e apart =
       subst (λ s. uses s xs ≡ false) (eqb-true x.header.system system (here_is x e)) apart
@@ -147,14 +147,14 @@ module _ (system : ℕ) (opened : Transaction) (is : (opened.header.system == sy
       let differs = first_differs x xs i apart.0 e in
       rw differs (ap (λ l. x ∷ l) (removed_at xs i apart.1 e))
 
-  -- a closed one has its system bytes: no open one does
+  -- If a closed one has its system bytes, no open one does.
   pub unused_following : (xs : List Transaction) (n i : ℕ) → AreApart xs → slice_get xs i ≡ Some opened → i < n → uses system (drop n xs) ≡ false
   unused_following xs zero i apart e lt = absurd (omega arith)
   unused_following [] (suc n) i apart e lt = refl
   unused_following (x ∷ xs) (suc n) zero apart e lt = uses-drop system n xs (unused_later x xs e apart.0)
   unused_following (x ∷ xs) (suc n) (suc i) apart e lt = unused_following xs n i apart.1 e (omega arith)
 
--- ---- an entry put at the end
+-- ---- an appended entry
 
 pub values-push : (es : List (ℕ × Transaction)) (e : ℕ × Transaction) → values_of (es ++ e ∷ []) ≡ values_of es ++ e.1 ∷ []
 values-push [] e = refl
@@ -182,7 +182,7 @@ pub in_order-push : (xs : List Transaction) (opened : Transaction) → AreInOrde
 in_order-push [] opened h until = (tt, tt)
 in_order-push (x ∷ xs) opened h until = (since-push x.time xs opened h.0 until.0, in_order-push xs opened h.1 until.1)
 
--- behind the closed ones
+-- The open ones, after the closed ones.
 pub open-push : (closed : ℕ) (es : List (ℕ × Transaction)) (opened : Transaction) → closed ≤ length es → drop closed (values_of (es ++ (opened.header.system, opened) ∷ [])) ≡ drop closed (values_of es) ++ opened ∷ []
 open-push closed es opened within =
     let le : closed ≤ length (values_of es) = subst (λ n. closed ≤ n) (sym (length-values_of es)) within in
@@ -200,7 +200,7 @@ kept-push closed es opened h fresh until =
       in_order = subst AreInOrder (sym (open-push closed es opened h.within)) (in_order-push (drop closed (values_of es)) opened h.in_order until);
     }
 
--- where a closed one has the system bytes, the one that is put stands among the closed ones
+-- If a closed one has the system bytes, the new one is stored among the closed ones.
 pub insert-closed : (n : ℕ) (es : List (ℕ × Transaction)) (opened : Transaction) → AreKeyed es → uses opened.header.system (drop n (values_of es)) ≡ false → uses opened.header.system (values_of es) ≡ true → drop n (insert_entry nat_eq es opened.header.system opened) ≡ drop n es
 insert-closed zero es opened keyed fresh used = absurd (let d : true ≡ false = sym used ∙ fresh in cc)
 insert-closed (suc n) [] opened keyed fresh used = absurd (let d : false ≡ true = used in cc)
@@ -215,7 +215,7 @@ insert-closed (suc n) (e ∷ es) opened keyed fresh used =
           rw differs (insert-closed n es opened keyed.1 fresh later)
     ]
 
--- ---- the entry at a place taken out
+-- ---- the removal of the entry at an index
 
 pub values-remove : (es : List (ℕ × Transaction)) (i : ℕ) → values_of (remove es i) ≡ remove (values_of es) i
 values-remove [] zero = refl
@@ -255,7 +255,7 @@ in_order-remove [] (suc i) h = tt
 in_order-remove (x ∷ xs) zero h = h.1
 in_order-remove (x ∷ xs) (suc i) h = (since-remove x.time xs i h.0, in_order-remove xs i h.1)
 
--- the last entry taken off the end
+-- The removal of the last entry from the end.
 remove-nil : {X : Type 0} (xs : List X) (i : ℕ) → xs ≡ [] → remove xs i ≡ []
 remove-nil [] zero e = refl
 remove-nil [] (suc i) e = refl
@@ -276,7 +276,7 @@ last_removed es rest (Some x) i e some at =
     let here : i ≡ length rest = omega (arith, size, at) in
     rw (e, here) (sym (remove-append rest x))
 
--- ---- behind the closed ones
+-- ---- after the closed ones
 
 pub remove-subsequent : {X : Type 0} (xs : List X) (n i j : ℕ) → j ≡ n + i → drop n (remove xs j) ≡ remove (drop n xs) i
 remove-subsequent xs zero i j e = ap (remove xs) (let same : j ≡ i = omega arith in same)
@@ -297,7 +297,7 @@ kept-remove closed es i j h at lt =
       in_order = subst AreInOrder (sym (open-remove closed es i j at)) (in_order-remove (drop closed (values_of es)) i h.in_order);
     }
 
--- the oldest closed
+-- The oldest is closed.
 pub close-first : {X : Type 0} (xs : List X) (n m : ℕ) → m ≡ n + 1 → drop m xs ≡ remove (drop n xs) 0
 close-first [] n zero e = absurd (omega arith)
 close-first [] zero (suc m) e = refl

@@ -1,4 +1,4 @@
--- The least of moments that are joined.
+-- The earliest time of joined lists.
 use Rattle.std.proofs.Common.{◌≡◌, ℕ, min, List, [], ◌∷◌, ◌++◌, Option, Some, None, refl, sym, ap, ◌∙◌, arith, option_to_list}
 use Rattle.hsms_machine.specs.Timer.{least_of, least_in}
 

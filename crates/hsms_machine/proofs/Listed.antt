@@ -10,7 +10,7 @@ use Rattle.hsms_machine.specs.Laws.{IsIn, Ascends, ViewListsWhatIsOpen}
 use Rattle.hsms_machine.proofs.Connection.{IsFrom, connection-from, IsOpenIn, open-in, open-out}
 use Rattle.hsms_machine.proofs.ViewsOfRuns.{open_later, open_earlier, open_here, here_not_closed}
 
--- positions moved up
+-- The positions, each increased by a number.
 
 abbrev moved_by : ℕ → List ℕ → List ℕ
 moved_by start positions = map (λ n. start + n) positions
@@ -37,7 +37,7 @@ ascends-moved start (j ∷ js) h = (
   ascends-moved start js h.1,
 )
 
--- entries of one list at positions that are moved, and of another where they are not
+-- Entries of one list at increased positions are those of another at the original positions.
 entries-moved : (log entries : List Entry) (start : ℕ) → ((k : ℕ) → entry_at log (start + k) ≡ entry_at entries k) → (js : List ℕ) → map (entry_at log) (moved_by start js) ≡ map (entry_at entries) js
 entries-moved log entries start at [] = refl
 entries-moved log entries start at (j ∷ js) =
@@ -51,16 +51,16 @@ above_zero js k i =
     let e : k ≡ 1 + (from_moved 1 k js i).0 = (from_moved 1 k js i).1 in
     omega arith
 
--- ---- what is open in a list
+-- ---- the open transactions of a list
 
--- these are the positions of the list at which what is opened is not closed, in order
+-- Holds if these are the positions of the list whose opened transactions are not closed, in order.
 record AreOpenIn (entries : List Entry) (positions : List ℕ) : Type 0 where
   ascends : Ascends positions
   all_open : (j : ℕ) → IsIn j positions → IsOpenIn entries j (length entries)
   all_listed : (j : ℕ) → IsOpenIn entries j (length entries) → IsIn j positions
   entries_are : open_entries entries ≡ map (entry_at entries) positions
 
--- ---- one entry more at the front
+-- ---- one more entry at the front
 
 module _ (x : Entry) (xs : List Entry) (js : List ℕ) (listed : AreOpenIn xs js) where
   abbrev is_closed : Bool
@@ -122,7 +122,7 @@ listed_in (x ∷ xs) =
     let rest = listed_in xs in
     by_first x xs rest.0 rest.1 (opens x.event && not (list_any (λ other. closes x.event other.event) xs)) refl
 
--- ---- what is open on the connection
+-- ---- the open transactions of the connection
 
 pub lists_open : ViewListsWhatIsOpen
 lists_open log =

@@ -1,4 +1,4 @@
--- What a map keeps of open transactions, as the list of its values tells it.
+-- The open transactions of a map, by the list of its values.
 use Rattle.std.proofs.Common.{◌≡◌, ℕ, ◌+◌, ◌-◌, ◌^◌, ◌<◌, ◌≤◌, min, Bool, true, false, not, cond, ◌==◌, ◌&&◌, ◌||◌, List, [], ◌∷◌, Option, Some, None, is_some, inl, inr, refl, sym, ap, subst, ◌∙◌, arith, filter, nat_lt, nat_le, nat_eq, length}
 use Rattle.std.specs.Prelude.{IfSome, IfNone}
 use Rattle.std.specs.Bool.{then_some}
@@ -16,7 +16,9 @@ use Rattle.hsms_machine.specs.Transaction.{passes, answers, answers_kind, reject
 use Rattle.hsms_machine.specs.Timer.{due_at, due_times, least_of, least_in}
 use Rattle.hsms_machine.specs.OpeningOrder.{IsOrdered, AreKeyed, AreSince, AreUntil, AreInOrder, AreApart, uses, first_of}
 
--- the parts of an `||` that is false
+-- The parts of an `
+--
+-- ` that is false.
 pub or_parts : (a b : Bool) → (a || b) ≡ false → (a ≡ false) × (b ≡ false)
 or_parts true b e = absurd (let d : true ≡ false = e in cc)
 or_parts false b e = (refl, e)
@@ -63,7 +65,7 @@ is_none_at (Some x) e = absurd (let d : true ≡ false = e in cc)
 pub lookup-fresh : (system : ℕ) (es : List (ℕ × Transaction)) → AreKeyed es → uses system (values_of es) ≡ false → lookup (nat_eq system) es ≡ None
 lookup-fresh system es keyed fresh = is_none_at (lookup (nat_eq system) es) (lookup-uses system es keyed ∙ fresh)
 
--- nothing is found where nothing is
+-- Nothing is found in an empty list.
 pub find-empty : (system : ℕ) (es : List (ℕ × Transaction)) → length es ≡ 0 → find (λ opened. opened.header.system == system) (values_of es) ≡ None
 find-empty system [] e = refl
 find-empty system (x ∷ es) e = absurd (omega arith)
@@ -84,7 +86,7 @@ module _ (test : Transaction → Bool) (system : ℕ) (only : (x : Transaction) 
       let here : test x ≡ false = other_fails x parts.0 in
       rw here (any_none xs parts.1)
 
-  -- no other transaction has the system bytes of the first
+  -- No other transaction has the system bytes of the first.
   unused_after : (x : Transaction) (xs : List Transaction) → (x.header.system == system) ≡ true → uses x.header.system xs ≡ false → uses system xs ≡ false
   unused_after x xs is apart = subst (λ s. uses s xs ≡ false) (eqb-true x.header.system system is) apart
 
@@ -97,7 +99,7 @@ module _ (test : Transaction → Bool) (system : ℕ) (only : (x : Transaction) 
         rw (differs, here) (any_at xs apart.1)
   ]
 
--- among those that have the system bytes, the rest of a test decides
+-- Among those with the system bytes, the rest of a test decides.
 pub passes_found : (test : Transaction → Bool) (system : ℕ) (xs : List Transaction) → passes (λ opened. (opened.header.system == system) && test opened) (find (λ opened. opened.header.system == system) xs) ≡ passes test (find (λ opened. opened.header.system == system) xs)
 passes_found test system [] = refl
 passes_found test system (x ∷ xs) = by_case (passes_found test system xs) (x.header.system == system) refl
@@ -125,7 +127,7 @@ concludes_only other x e = elim (or_cases (answers x.header other) (rejects x.he
   | inr r ↦ rejects_only other x r
 ]
 
--- and at a time
+-- So it is with a time.
 pub timed_only : (other : Header) (time : ℕ) (x : Transaction) → (concludes x.header other && (x.time == time)) ≡ true → x.header.system ≡ other.system
 timed_only other time x e = concludes_only other x (and_parts (concludes x.header other) (x.time == time) e).0
 
@@ -139,7 +141,7 @@ filter_none test (x ∷ xs) none =
     rw parts.0 (ap (λ l. x ∷ l) (filter_none test xs parts.1))
 
 module _ (test : Transaction → Bool) (system : ℕ) (only : (x : Transaction) → test x ≡ true → x.header.system ≡ system) where
-  -- where one passes, it is the one with the system bytes
+  -- If one passes, it is the one with the system bytes.
   pub filter_one : (xs : List Transaction) → AreApart xs → list_any test xs ≡ true → filter (λ x. not (x.header.system == system)) xs ≡ filter (λ x. not (test x)) xs
   filter_one [] apart some = refl
   filter_one (x ∷ xs) apart some = elim (cases_Bool (x.header.system == system)) [
@@ -236,7 +238,7 @@ due_falls now limit a b le late =
     le-leb limit (now - a) (omega arith)
 
 module _ (limit : ℕ) where
-  -- the moment of a transaction, if there is one
+  -- The due time of a transaction, if there is one.
   abbrev pub due_of : Option Transaction → Option ℕ
   due_of None = None
   due_of (Some opened) = due_at limit opened.time
@@ -249,7 +251,7 @@ module _ (limit : ℕ) where
       let here : nat_lt (x.time + limit) (2 ^ 64) ≡ false = le-ltb (x.time + limit) (2 ^ 64) (omega arith) in
       rw here (no_due time far xs h.1)
 
-  -- the moment is none, or not before this one
+  -- The time is none, or not before this one.
   abbrev IsNotBefore : ℕ → Option ℕ → Type 0
   IsNotBefore moment None = Unit {0}
   IsNotBefore moment (Some other) = moment ≤ other

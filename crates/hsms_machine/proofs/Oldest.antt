@@ -1,4 +1,4 @@
--- The open primary that was opened first has the lowest place.
+-- The open primary that was opened first has the lowest line number.
 use Rattle.std.proofs.Common.{◌≡◌, ℕ, ◌<◌, ◌==◌, Bool, true, false, cond, List, [], ◌∷◌, length, Option, Some, None, inl, inr, refl, sym, ap, subst, ◌∙◌, nat_lt, arith}
 use Rattle.std.specs.List.{list_any}
 use Rattle.std.proofs.lemmas.Bool.{cases_Bool, eqb-true, eq-eqb, ltb-true, ltb-false, lt-ltb}
@@ -23,12 +23,12 @@ use Rattle.hsms_machine.proofs.Placed.{same-at, same-sym, open-same, TimeIs, tim
 passes_any : (kind : Header → Bool) (time : ℕ) (header : Header) → passes (λ opened. true) (opened_by kind time header) ≡ kind header
 passes_any kind time header = elim (kind header) as (λ b. passes (λ opened. true) (cond b (Some (record { time = time; header = header })) None) ≡ b) [ true ↦ refl | false ↦ refl ]
 
--- a sent primary opens a transaction of sent data, and nothing else does
+-- A sent primary opens a transaction of sent data, and nothing else does.
 primary_opens : (time : ℕ) (event : Event) → passes (λ opened. true) (opened_as_at SentData time event) ≡ is_sent_primary event
 primary_opens time (Sent frame) = passes_any is_data_request time frame.header
 primary_opens time event = refl
 
--- a test of the time is one of the entry's time
+-- A test of the transaction's time is a test of the entry's time.
 timed : (test : ℕ → Bool) (time : ℕ) (o : Option Transaction) → TimeIs time o → passes (λ opened. true) o ≡ true → passes (λ opened. test opened.time) o ≡ test time
 timed test time None is some = absurd (let d : false ≡ true = some in cc)
 timed test time (Some opened) is some = ap test is
@@ -61,7 +61,7 @@ none_first (x ∷ xs) e = absurd cc
 
 -- ---- the log
 
--- an open sent primary passes each test of its place
+-- An open sent primary passes each test of its line number.
 primary_passes : (test : ℕ → Bool) (log placed : List Entry) → SameEvents log placed → (j : ℕ) → IsOpen log j (length log) → is_sent_primary (entry_at log j).event ≡ true → test (entry_at placed j).time ≡ true → list_any (λ opened. test opened.time) (open_of SentData placed) ≡ true
 primary_passes test log placed s j unclosed is passed =
     let entry = entry_at placed j in

@@ -1,4 +1,4 @@
--- The oldest of the open ones may stand beside the others.
+-- The oldest open transaction may be stored outside the map.
 use Rattle.std.proofs.Common.{◌≡◌, ℕ, ◌-◌, ◌^◌, ◌<◌, ◌≤◌, Bool, true, false, not, ◌==◌, ◌||◌, List, [], ◌∷◌, ◌++◌, Option, Some, None, refl, sym, ap, subst, ◌∙◌, arith, filter, length, cond, option_to_list, append_assoc}
 use Rattle.std.specs.List.{find}
 use Rattle.std.proofs.lemmas.Bool.{eqb-true}
@@ -21,18 +21,18 @@ pub found_later : (system : ℕ) (oldest : Option Transaction) (xs : List Transa
 found_later system None xs unused = refl
 found_later system (Some opened) xs unused = let differs = used_alone system opened false unused in rw differs refl
 
--- where the oldest has them, no later one does
+-- If the oldest has them, no later one does.
 later_unused : (system : ℕ) (oldest : Option Transaction) (xs : List Transaction) → AreApart (option_to_list oldest ++ xs) → uses system (option_to_list oldest) ≡ true → uses system xs ≡ false
 later_unused system None xs apart used = absurd (let d : false ≡ true = used in cc)
 later_unused system (Some opened) xs apart used =
     subst (λ s. uses s xs ≡ false) (eqb-true opened.header.system system (used_alone system opened true used)) apart.0
 
--- what has the system bytes is taken out
+-- The transaction with the system bytes is removed.
 pub oldest_out : (system : ℕ) (oldest : Option Transaction) → uses system (option_to_list oldest) ≡ true → [] ≡ filter (λ x. not (x.header.system == system)) (option_to_list oldest)
 oldest_out system None used = refl
 oldest_out system (Some opened) used = let is = used_alone system opened true used in rw is refl
 
--- ---- what a test leaves that only the transaction of some system bytes fails
+-- ---- what remains by a test that only the transaction with some system bytes fails
 
 module _ (test : Transaction → Bool) (system : ℕ) (only : (x : Transaction) → test x ≡ true → x.header.system ≡ system) where
   pub filter_oldest : (oldest left : Option Transaction) (xs : List Transaction) → AreApart (option_to_list oldest ++ xs) → uses system (option_to_list oldest) ≡ true → option_to_list left ≡ filter (λ x. not (test x)) (option_to_list oldest)
@@ -108,7 +108,7 @@ nothing_queued (x ∷ xs) e = absurd (omega (arith, e))
 
 -- ---- one more
 
--- none is open
+-- None is open.
 pub none_queued : (oldest : Option Transaction) (queue : List Transaction) → length (option_to_list oldest ++ queue) ≡ 0 → queue ≡ []
 none_queued None [] e = refl
 none_queued None (x ∷ xs) e = absurd (omega (arith, e))
@@ -117,7 +117,8 @@ none_queued (Some opened) queue e = absurd (omega (arith, e))
 pub listed-alone : (opened : Transaction) (queue : List Transaction) → queue ≡ [] → AreListed (Some opened) queue
 listed-alone opened queue none = subst (AreListed (Some opened)) (sym none) (record { few = omega arith; apart = (refl, tt); in_order = (tt, tt) })
 
--- what is fresh among all is among the later ones, and so is what comes behind all
+-- System bytes that are fresh among all are fresh among the later ones. A transaction that comes after all also comes
+-- after these.
 pub fresh_later : (system : ℕ) (oldest : Option Transaction) (queue : List Transaction) → uses system (option_to_list oldest ++ queue) ≡ false → uses system queue ≡ false
 fresh_later system None queue fresh = fresh
 fresh_later system (Some opened) queue fresh = (or_parts (opened.header.system == system) (uses system queue) fresh).1

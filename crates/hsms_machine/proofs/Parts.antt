@@ -1,4 +1,4 @@
--- An entry in two parts, and what asks for the text of neither.
+-- An entry in two parts, and what does not depend on the text.
 use Rattle.std.proofs.Common.{◌≡◌, ◌⊎◌, ◌&&◌, ◌||◌, not, ℕ, Bool, true, false, List, [], Option, None, inl, inr, refl, sym}
 use Rattle.hsms_machine.specs.declared.entry.Act.{Act}
 use Rattle.hsms_machine.specs.declared.entry.Act.TheVariants.{Up as ActUp, Sent as ActSent, Taken as ActTaken, Discarded as ActDiscarded, T3 as ActT3, Cut as ActCut, Down as ActDown}
@@ -12,7 +12,7 @@ use Rattle.hsms_machine.specs.ViewRules.{facts_of, view_after, IsBrokenAt, IsFre
 use Rattle.hsms_machine.proofs.SameFacts.{never_from}
 
 module _ (facts : Facts) (settings : Parameters) (time : ℕ) where
-  -- the rules of order and of timers ask for no text
+  -- The rules of order and of timers do not depend on the text.
   pub order_at : (act : Act) (text : List ℕ) (a : Option Rule) → IsFirst (Breaks facts settings (entry_of time act [])) order_rules a → IsFirst (Breaks facts settings (entry_of time act text)) order_rules a
   order_at ActUp text a h = h
   order_at (ActSent header) text a h = h
@@ -31,7 +31,7 @@ module _ (facts : Facts) (settings : Parameters) (time : ℕ) where
   timer_at (ActCut cause) text a h = h
   timer_at ActDown text a h = h
 
--- nor does what changes
+-- Neither does the effect of an entry.
 pub after_at : (view : View) (time : ℕ) (act : Act) (text : List ℕ) → view_after view (entry_of time act []) ≡ view_after view (entry_of time act text)
 after_at view time ActUp text = refl
 after_at view time (ActSent header) text = refl
@@ -45,7 +45,7 @@ pub unused : (b : Bool) → (b ≡ true → ⊥) → b ≡ false
 unused true never = absurd (never refl)
 unused false never = refl
 
--- a lawful request is fresh
+-- A valid request is fresh.
 pub fresh_at : (view : View) (time : ℕ) (act : Act) (text : List ℕ) → IsBrokenAt view (entry_of time act text) None → IsFresh view act
 fresh_at view time (ActSent header) text h =
     let never = never_from (Breaks (facts_of view) view.settings (entry_of time (ActSent header) text)) all_rules h in
@@ -61,7 +61,7 @@ fresh_at view time (ActT3 system) text h = tt
 fresh_at view time (ActCut cause) text h = tt
 fresh_at view time ActDown text h = tt
 
--- what isn't in use is fresh: of a request, and of the lists of one direction
+-- What is not in use is fresh: for a request, and for the lists of one direction.
 pub fresh_where : (used request one other : Bool) → ((used ≡ true → (request ≡ true) × ((one ≡ true) ⊎ (other ≡ true))) × ((request ≡ true) × ((one ≡ true) ⊎ (other ≡ true)) → used ≡ true)) → not used ≡ (not request || (not one && not other))
 fresh_where true true true other iff = refl
 fresh_where true true false true iff = refl

@@ -1,4 +1,4 @@
--- What is open in a log with places for times is what is open in the log.
+-- The open transactions of a log with line numbers as times are those of the log.
 use Rattle.std.proofs.Common.{◌≡◌, ℕ, zero, suc, ◌<◌, ◌==◌, Bool, true, false, not, cond, ◌&&◌, ◌||◌, List, [], ◌∷◌, ◌++◌, length, Option, Some, None, IsTrue, is_some, IfSome, IfNone, inl, inr, refl, sym, ap, subst, ◌∙◌}
 use Rattle.std.specs.List.{list_any, find}
 use Rattle.hsms_frame.specs.declared.header.Header.{Header}
@@ -54,7 +54,7 @@ same-push [] (y ∷ ys) place entry s = absurd s
 same-push (x ∷ xs) [] place entry s = absurd s
 same-push (x ∷ xs) (y ∷ ys) place entry s = (s.0, same-push xs ys place entry s.1)
 
--- what is open stays open over other times
+-- An open transaction stays open with other times.
 pub open-same : (log placed : List Entry) → SameEvents log placed → (j : ℕ) → IsOpen log j (length log) → IsOpen placed j (length placed)
 open-same log placed s j h = record {
   opened = subst (λ (event : Event). opens event ≡ true) (same-at log placed s j) h.opened;
@@ -68,7 +68,7 @@ open-same log placed s j h = record {
   same : length log ≡ length placed
   same = same-length log placed s
 
--- a test of the header asks for no time
+-- A test of the header does not depend on the time.
 header-opened_by : (test : Header → Bool) (kind : Header → Bool) (time other : ℕ) (header : Header) → passes (λ opened. test opened.header) (opened_by kind time header) ≡ passes (λ opened. test opened.header) (opened_by kind other header)
 header-opened_by test kind time other header = elim (kind header) as (λ b. passes (λ opened. test opened.header) (cond b (Some (record { time = time; header = header })) None) ≡ passes (λ opened. test opened.header) (cond b (Some (record { time = other; header = header })) None)) [ true ↦ refl | false ↦ refl ]
 
@@ -92,7 +92,7 @@ both true b f g = sym (f refl)
 both false true f g = g refl
 both false false f g = refl
 
--- so a pool of the placed log has the same system bytes
+-- So a pool of the log with line numbers has the same system bytes.
 pub any-same : (test : Header → Bool) (pool : Pool) (log placed : List Entry) → SameEvents log placed → list_any (λ opened. test opened.header) (open_of pool log) ≡ list_any (λ opened. test opened.header) (open_of pool placed)
 any-same test pool log placed s =
     both (list_any (λ opened. test opened.header) (open_of pool log)) (list_any (λ opened. test opened.header) (open_of pool placed))
@@ -104,7 +104,7 @@ uses-same system pool log placed s = any-same (λ header. header.system == syste
 
 -- ---- what an event closes
 
--- an opened transaction has the time of its entry
+-- An opened transaction has the time of its entry.
 abbrev pub TimeIs : ℕ → Option Transaction → Type 0
 TimeIs time None = Unit {0}
 TimeIs time (Some opened) = opened.time ≡ time
@@ -136,7 +136,7 @@ closing pool log placed event place s e =
       parts.1,
     )
 
--- what is closed is in one of the pools
+-- A closed transaction is in one of the pools.
 agreed : (pool : Pool) (opening event : Event) (o : Option Transaction) → Agrees pool opening event o → is_some o ≡ true → closes opening event ≡ true → passes (is_closed_by pool event) o ≡ true
 agreed pool opening event None agrees some c = absurd (let d : false ≡ true = some in cc)
 agreed pool opening event (Some opened) agrees some c = sym agrees ∙ c
@@ -172,7 +172,7 @@ pub none_of : (xs : List Transaction) → list_any (λ opened. false) xs ≡ fal
 none_of [] = refl
 none_of (x ∷ xs) = none_of xs
 
--- ---- a lawful request is fresh in the placed log
+-- ---- a valid request is fresh in the log with line numbers
 
 fresh_bools : (request one other : Bool) → (request ≡ true → (one ≡ false) × (other ≡ false)) → (not request || (not one && not other)) ≡ true
 fresh_bools false one other h = refl
@@ -196,7 +196,7 @@ fresh_at_act settings log placed time (ActTaken header) text s h =
     fresh_bools (is_request header) (uses header.system (open_of TakenData placed)) (uses header.system (open_of TakenControl placed)) (λ r. (fresh_in log placed s TakenData header.system (λ e. fresh (r, inl e)), fresh_in log placed s TakenControl header.system (λ e. fresh (r, inr e))))
 fresh_at_act settings log placed time act text s h = refl
 
--- the freshness asks for no settings
+-- Freshness does not depend on the settings.
 fresh-settings : (one other : Parameters) (placed : List Entry) (act : Act) → is_fresh (view_of one placed) act ≡ is_fresh (view_of other placed) act
 fresh-settings one other placed (ActSent header) = refl
 fresh-settings one other placed (ActTaken header) = refl
@@ -208,7 +208,7 @@ fresh_placed settings log placed places time act text has h =
     subst (λ (w : View). is_fresh w act ≡ true) has.seen
     (fresh-settings places.settings settings placed act ∙ fresh_at_act settings log placed time act text has.same h)
 
--- ---- one entry more
+-- ---- one more entry
 
 pub places-push : (log placed : List Entry) (places new : View) (place : ℕ) (entry : Entry) → HasPlaces log placed places → new ≡ view_after places (at_place place entry) → HasPlaces (log ++ entry ∷ []) (placed ++ at_place place entry ∷ []) new
 places-push log placed places new place entry has e = record {
@@ -225,7 +225,7 @@ no_places settings view e = record {
   seen = ap (λ (s : Parameters). view_of s []) (ap (λ (w : View). w.settings) e) ∙ sym e;
 }
 
--- ---- what the places tell
+-- ---- results from the line numbers
 
 pool_is : (settings : Parameters) (log : List Entry) (pool : Pool) → pool_of (view_of settings log) pool ≡ open_of pool log
 pool_is settings log SentData = refl
@@ -249,7 +249,7 @@ abbrev ConcludesNone : List Transaction → List Transaction → Header → Opti
 ConcludesNone one other message result =
     IfNone result ((list_any (λ opened. concludes opened.header message) one || list_any (λ opened. concludes opened.header message) other) ≡ false)
 
--- the event of an entry whose parts are known
+-- The event of an entry whose parts are known.
 pub parted : (entry : Entry) (time : ℕ) (act matched : Act) (text : List ℕ) → entry_of time act text ≡ entry → act ≡ matched → entry.event ≡ event_of matched text
 parted entry time act matched text e is = sym (ap (λ (x : Entry). x.event) e) ∙ ap (λ (a : Act). event_of a text) is
 

@@ -40,7 +40,7 @@ phase_by-first false true s = refl
 phase_by-first false false true = refl
 phase_by-first false false false = refl
 
--- the phase after an entry of the same connection
+-- The phase after an entry of the same connection.
 abbrev phase_kept : Phase → Event → Phase
 phase_kept phase event =
     phase_by (is_gone phase || is_down event) (is_over phase || ends_session event) (is_selected phase || selects event)
@@ -73,7 +73,7 @@ last-push log entry =
     let e : length log ≡ length (log ++ entry ∷ []) - 1 = omega (arith, length_push log entry) in
     get_or_push log entry (record { time = 0; event = Up }) (length (log ++ entry ∷ []) - 1) e
 
--- one entry's part in the next lemma
+-- The case of one entry in the next lemma.
 push-case : (test : Entry → Bool) (x : Entry) (A O T : List Entry) (b1 b2 b3 : Bool) → test x ≡ not b3 → A ≡ filter test O ++ T → cond (b1 && not (b2 || (b3 || false))) (x ∷ A) A ≡ filter test (cond (b1 && not b2) (x ∷ O) O) ++ T
 push-case test x A O T true true true e h = h
 push-case test x A O T true true false e h = h
@@ -92,7 +92,7 @@ open_entries-push (x ∷ xs) entry =
     rw later
     (push-case (λ other. not (closes other.event entry.event)) x (open_entries (xs ++ entry ∷ [])) (open_entries xs) (cond (opens entry.event) (entry ∷ []) []) (opens x.event) (list_any (λ other. closes x.event other.event) xs) (closes x.event entry.event) refl (open_entries-push xs entry))
 
--- what an entry opened in a pool is closed as the pool says
+-- The transaction that an entry opened in a pool is closed as the pool states.
 abbrev pub Agrees : Pool → Event → Event → Option Transaction → Type 0
 Agrees pool opening event None = Unit {0}
 Agrees pool opening event (Some opened) = closes opening event ≡ is_closed_by pool event opened
@@ -124,7 +124,7 @@ agrees_by TakenData time (Taken h) event = picks (is_data_request h.header) (Agr
 agrees_by TakenControl time (Taken h) event = picks (is_control_request h.header) (Agrees TakenControl (Taken h) event) (record { time = time; header = h.header }) (taken_control-closes time h event) tt
 agrees_by pool time opening event = tt
 
--- filtering the entries is filtering what they opened
+-- Filtering the entries filters what they opened.
 kept-case : (pool : Pool) (opening event : Event) (x : Entry) (o : Option Transaction) (A : List Entry) (B : List Transaction) (test : Bool) → test ≡ not (closes opening event) → Agrees pool opening event o → o ≡ opened_as pool x → filter_map (opened_as pool) A ≡ B → filter_map (opened_as pool) (cond test (x ∷ A) A) ≡ filter (λ transaction. not (is_closed_by pool event transaction)) (option_to_list o) ++ B
 kept-case pool opening event x None A B true t agrees is h = rw (sym is) h
 kept-case pool opening event x None A B false t agrees is h = h
@@ -145,7 +145,7 @@ filter_map-kept pool event (x ∷ xs) =
     kept-case pool x.event event x (opened_as pool x) (filter (λ other. not (closes other.event event)) xs) (filter (λ transaction. not (is_closed_by pool event transaction)) (filter_map (opened_as pool) xs)) (not (closes x.event event)) refl (agrees_by pool x.time x.event event) refl (filter_map-kept pool event xs)
     ∙ sym (cons-append (λ transaction. not (is_closed_by pool event transaction)) (opened_as pool x) (filter_map (opened_as pool) xs))
 
--- an entry that opens nothing opens nothing in any pool
+-- An entry that opens nothing opens nothing in any pool.
 opens_none_by : (a b : Bool) (t : Transaction) (x : Entry) (xs : List Entry) → (a || b ≡ false → cond a (Some t) None ≡ None) × (a || b ≡ false → cond b (Some t) None ≡ None)
 opens_none_by true b t x xs = ((λ e. absurd (let d : true ≡ false = e in cc)), (λ e. absurd (let d : true ≡ false = e in cc)))
 opens_none_by false true t x xs = ((λ e. absurd (let d : true ≡ false = e in cc)), (λ e. absurd (let d : true ≡ false = e in cc)))
@@ -162,7 +162,7 @@ new-case : (pool : Pool) (x : Entry) (b : Bool) → opens x.event ≡ b → filt
 new-case pool x true e = elim (opened_as pool x) as (λ o. cons_option o [] ≡ option_to_list o) [ None ↦ refl | Some t ↦ refl ]
 new-case pool x false e = rw (opens_none pool x.time x.event e) refl
 
--- the open transactions of the pool after an entry of the same connection
+-- The open transactions of the pool after an entry of the same connection.
 abbrev pool_kept : Pool → List Transaction → Entry → List Transaction
 pool_kept pool opened entry = filter (λ transaction. not (is_closed_by pool entry.event transaction)) opened ++ option_to_list (opened_as pool entry)
 
@@ -187,7 +187,7 @@ pub pool-push : (pool : Pool) (log : List Entry) (entry : Entry) → open_of poo
 pool-push pool log entry =
     ap (λ entries. filter_map (opened_as pool) (open_entries entries)) (connection-push log entry) ∙ opened-case pool (connection_of log) entry (is_up entry.event) refl
 
--- the view of a log with one more entry
+-- The view of a log with one more entry.
 pub view-push : (settings : Parameters) (log : List Entry) (entry : Entry) → view_of settings (log ++ entry ∷ []) ≡ view_after (view_of settings log) entry
 view-push settings log entry =
     let e1 = phase-push log entry in

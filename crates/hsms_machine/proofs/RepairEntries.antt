@@ -51,7 +51,7 @@ valid_kept settings log LeftOut entry put is_valid h = absurd (asks_not settings
 valid_kept settings log (Changed steps) entry put is_valid h = absurd (asks_not settings log entry _ is_valid h.1)
 valid_kept settings log (Preceded one more) entry put is_valid h = absurd (asks_not settings log entry _ is_valid h.3)
 
--- behind a front that was kept
+-- The repair after a prefix that was kept.
 kept_from : (settings : Parameters) (before front more after : List Entry) → IsRun settings (before ++ front) → IsRepaired settings before (front ++ more) after → (rest : List Entry) × (after ≡ front ++ rest) × IsRepaired settings (before ++ front) more rest
 kept_from settings before [] more after run h = (after, refl, subst (λ l. IsRepaired settings l more after) (sym (append-nil before)) h)
 kept_from settings before (entry ∷ front) more after run h =
@@ -76,7 +76,7 @@ run_kept settings log repaired run h =
     let r = kept_from settings [] log [] repaired run (subst (λ l. IsRepaired settings [] l repaired) (sym (append-nil log)) h) in
     r.1 ∙ ap (λ l. log ++ l) r.2 ∙ append-nil log
 
--- ---- no remedy asks for a text
+-- ---- no repair depends on a text
 
 discarded_at : (act : Act) (text : List ℕ) → discarded (event_of act []) ≡ discarded (event_of act text)
 discarded_at ActUp text = refl

@@ -1,4 +1,4 @@
--- Behind a run something stands in place of each entry, after few judgements.
+-- After a run each entry has a repair, with few checks.
 use Rattle.std.proofs.Common.{◌≡◌, ℕ, zero, suc, ◌+◌, ◌-◌, ◌*◌, ◌<◌, ◌≤◌, ◌==◌, ◌&&◌, ◌||◌, not, min, Bool, true, false, cond, List, [], ◌∷◌, ◌++◌, length, filter, Option, Some, None, ◌⊎◌, inl, inr, refl, sym, ap, subst, ◌∙◌, nat_lt, nat_le, arith}
 use Rattle.std.specs.List.{list_any}
 use Rattle.std.proofs.lemmas.Bool.{cases_Bool, cases_lt, and_parts, eqb-true, eq-eqb, ltb-true, ltb-false, lt-ltb, le-leb}
@@ -43,7 +43,7 @@ use Rattle.hsms_machine.proofs.Runs.{empty_run, run-push}
 use Rattle.hsms_machine.proofs.SameFacts.{late_up, never_from, none_never}
 use Rattle.hsms_machine.proofs.ViewsOfRuns.{broken-view, order_from_view, open_from_view}
 
--- ---- what is judged, as the view tells it
+-- ---- what is checked, by the view
 
 abbrev BreaksAt : Parameters → List Entry → Entry → Rule → Type 0
 BreaksAt settings log entry rule = Breaks (facts_of (view_of settings log)) settings entry rule
@@ -51,11 +51,11 @@ BreaksAt settings log entry rule = Breaks (facts_of (view_of settings log)) sett
 abbrev FirstAt : Parameters → List Entry → Entry → Option Rule → Type 0
 FirstAt settings log entry answer = IsFirst (BreaksAt settings log entry) all_rules answer
 
--- the entry comes no earlier than the one before it
+-- Holds if the entry is no earlier than the one before it.
 abbrev IsTimelyAt : Parameters → List Entry → Entry → Type 0
 IsTimelyAt settings log entry = (view_of settings log).last_time ≤ entry.time
 
--- something stands in place of the entry after so many judgements at most, and this holds of the log then
+-- Holds if the entry has a repair with at most `most` checks, and `Holds` holds for the log then.
 pub record Within (settings : Parameters) (Holds : List Entry → Type 0) (most : ℕ) (log : List Entry) (entry : Entry) : Type 0 where
   pub steps : Steps
   pub put : List Entry
@@ -66,7 +66,7 @@ pub record Within (settings : Parameters) (Holds : List Entry → Type 0) (most 
 abbrev pub Anything : List Entry → Type 0
 Anything log = Unit {0}
 
--- this entry is put before another one, as a rule asks for that this breaks, and is lawful
+-- Holds if this entry is inserted before another one, as the rule that the other breaks requires, and is valid.
 record IsPutFirst (settings : Parameters) (log : List Entry) (entry first : Entry) (rule : Rule) : Type 0 where
   asked : change_by (repair_of (view_of settings log) entry rule) entry ≡ First first
   is_valid : Broken settings log first None
@@ -109,7 +109,7 @@ module _ (settings : Parameters) (Holds : List Entry → Type 0) where
         holds = subst Holds (append_assoc log one.put more.put) more.holds;
       }
 
-  -- a lawful entry that is put first takes two judgements
+  -- A valid entry that is inserted takes two checks.
   subsequent : (most : ℕ) (log : List Entry) (entry first : Entry) (rule : Rule) → IsRun settings log → FirstAt settings log entry (Some rule)
       → IsPutFirst settings log entry first rule → Within settings Holds most (log ++ first ∷ []) entry
       → Within settings Holds (suc (1 + most)) log entry
@@ -117,14 +117,14 @@ module _ (settings : Parameters) (Holds : List Entry → Type 0) where
       let one : Within settings Anything 1 log first = record { steps = Passed; put = first ∷ []; entry_repaired = (put.is_valid, refl); few = omega arith; holds = tt } in
       preceded Anything 1 most log entry first rule run h put.asked one more
 
--- ---- moments
+-- ---- times
 
 later_parts : (one other : ℕ) (b : Bool) → nat_lt one other ≡ b
     → (one ≤ cond b other one) × (other ≤ cond b other one) × ((bound : ℕ) → one ≤ bound → other ≤ bound → cond b other one ≤ bound)
 later_parts one other true is = let lt : one < other = ltb-true one other is in (omega arith, omega arith, λ bound le more. more)
 later_parts one other false is = let le : other ≤ one = ltb-false one other is in (omega arith, omega arith, λ bound le more. le)
 
--- it is no earlier than the entry before, no later than this one, and due
+-- It is no earlier than the entry before, no later than this one, and due.
 moment_of : (view : View) (time since limit : ℕ) → view.last_time ≤ time → limit < time - since
     → (view.last_time ≤ expiry_of view time since limit) × (expiry_of view time since limit ≤ time) × (limit ≤ expiry_of view time since limit - since)
 moment_of view time since limit le late =
@@ -133,7 +133,7 @@ moment_of view time since limit le late =
     let due : moment ≤ expiry_of view time since limit = parts.1 in
     (parts.0, parts.2 time le (omega arith), omega (arith, due, late))
 
--- ---- an expiry is put first
+-- ---- an expiry is inserted
 
 head_of : (test : Transaction → Bool) (xs : List Transaction) → list_any test xs ≡ true → (x : Transaction) × (rest : List Transaction) × (xs ≡ x ∷ rest)
 head_of test [] e = absurd (let d : false ≡ true = e in cc)
@@ -152,14 +152,15 @@ phase_with_t3 Over system some = refl
 phase_with_t3 Gone system some = refl
 
 module _ (some : SomeTextAnswer) (not_both : NotBothOfText) (settings : Parameters) where
-  -- what is lawful after the log is so as the view tells it
+  -- What is valid after the log is valid by the view.
   returned_valid : (log : List Entry) (entry : Entry) → IsRun settings log → HasOctets entry.event → Broken settings log entry None → FirstAt settings log entry None
   returned_valid log entry run fits is_valid =
       let answer = returned_result some not_both (view_of settings log) settings entry fits in
       let none : answer.0 ≡ None = one_first settings log entry answer.0 None (broken-view settings log run entry answer.0 answer.1) is_valid in
       subst (FirstAt settings log entry) none answer.1
 
-  -- the expiry of the oldest primary, where it has to come before an entry: the phase stays, and fewer primaries wait
+  -- Holds for the expiry of the oldest primary, if it has to come before an entry: the phase stays, and fewer primaries
+  -- wait.
   record IsExpiryFirst (log : List Entry) (entry first : Entry) : Type 0 where
     put : IsPutFirst settings log entry first T3Overdue
     phase : phase_of (log ++ first ∷ []) ≡ phase_of log
@@ -196,7 +197,7 @@ module _ (some : SomeTextAnswer) (not_both : NotBothOfText) (settings : Paramete
         },
       )
 
--- ---- a cut is put first
+-- ---- a cut is inserted
 
 any_weaker : (test other : Transaction → Bool) (xs : List Transaction) → ((x : Transaction) → test x ≡ true → other x ≡ true)
     → list_any test xs ≡ true → list_any other xs ≡ true
@@ -221,7 +222,7 @@ phase_with_cut Selected cause up = refl
 phase_with_cut Over cause up = refl
 phase_with_cut Gone cause up = absurd (up refl)
 
--- the rules behind the first four
+-- The rules after the first four.
 abbrev after_t3_rules : List Rule
 after_t3_rules = LinkOverdue ∷ NotDue ∷ (format_rules ++ (transaction_rules ++ (NoCause ∷ [])))
 
@@ -235,7 +236,7 @@ module _ (settings : Parameters) (log : List Entry) (entry : Entry) (run : IsRun
   timed : IsTimed (facts_of view)
   timed = elim overdue.1 [ inl t6 ↦ t6.0 | inr t7 ↦ t7.0 ]
 
-  -- no primary is overdue
+  -- No primary is overdue.
   no_t3 : IsT3Overdue (facts_of view) settings entry.time → ⊥
   no_t3 late =
       let Breaks_here = BreaksAt settings log entry in
@@ -245,14 +246,14 @@ module _ (settings : Parameters) (log : List Entry) (entry : Entry) (run : IsRun
       let none = (not_first Breaks_here T3Overdue after_t3_rules LinkOverdue (λ e. cc) after_three).0 in
       none ((λ is. overdue.0 (t3_expires entry.event is)), late)
 
-  -- nor is one before
+  -- No primary was overdue at an earlier time.
   no_t3_before : (time : ℕ) → time ≤ entry.time → IsT3Overdue (facts_of view) settings time → ⊥
   no_t3_before time le late = no_t3 (late.0, any_weaker (λ opened. nat_lt settings.t3 (time - opened.time)) (λ opened. nat_lt settings.t3 (entry.time - opened.time)) (open_of SentData log) later late.1)
     where
       later : (x : Transaction) → nat_lt settings.t3 (time - x.time) ≡ true → nat_lt settings.t3 (entry.time - x.time) ≡ true
       later x is = let lt : settings.t3 < time - x.time = ltb-true settings.t3 (time - x.time) is in lt-ltb settings.t3 (entry.time - x.time) (omega arith)
 
-  -- the connection came up
+  -- The connection was established.
   has_begun : phase_of log ≡ Before → ⊥
   has_begun e = elim overdue.1 [
     | inl t6 ↦
@@ -264,14 +265,14 @@ module _ (settings : Parameters) (log : List Entry) (entry : Entry) (run : IsRun
         let d : false ≡ true = subst (λ p. (is_connected p && nat_lt settings.t7 (entry.time - view.up_time)) ≡ true) e up in cc
   ]
 
-  -- a cut that is due then breaks no rule
+  -- A cut that is due then breaks no rule.
   cut_valid : (time : ℕ) (cause : Cause) → view.last_time ≤ time → time ≤ entry.time → is_link_cut cause ≡ true
       → (IsCutNotDue (facts_of view) settings time cause → ⊥) → FirstAt settings log (entry_of_event time (Cut cause)) None
   cut_valid time cause last le is due =
       none_never (BreaksAt settings log (entry_of_event time (Cut cause))) all_rules
       ((λ past. absurd (omega (arith, past, last))), ((λ up. elim up [ inl begun ↦ begun has_begun | inr gone ↦ timed.1 gone ]), ((λ ended. timed.0 ended.1), ((λ t3. no_t3_before time le t3.1), ((λ link. link.0 is), ((λ early. due early), ((λ never. never), ((λ never. never), ((λ never. never), ((λ never. never), ((λ never. never), ((λ never. never), ((λ never. never), ((λ never. never), ((λ never. never), ((λ never. never), ((λ never. never), ((λ never. never), ((λ never. never), tt)))))))))))))))))))
 
-  -- the cut that has to come before the entry
+  -- Holds for the cut that has to come before the entry.
   record IsCutFirst (first : Entry) : Type 0 where
     asked : change_by (repair_of view entry LinkOverdue) entry ≡ First first
     is_valid : FirstAt settings log first None
@@ -319,7 +320,7 @@ module _ (settings : Parameters) (log : List Entry) (entry : Entry) (run : IsRun
         },
       )
 
-  -- where no request is overdue, T7 is
+  -- If no request is overdue, T7 is.
   only_t7 : passes (λ opened. nat_lt settings.t6 (entry.time - opened.time)) (first_of view.sent_control) ≡ false → IsT7Overdue (facts_of view) settings entry.time
   only_t7 none = elim overdue.1 [
     | inl t6 ↦
@@ -342,7 +343,7 @@ module _ (settings : Parameters) (log : List Entry) (entry : Entry) (run : IsRun
   cut_found : (first : Entry) × IsCutFirst first
   cut_found = cut_by (first_of view.sent_control) refl
 
-  -- a cut before an entry: the session is over then, and no more primaries wait
+  -- Holds for a cut before an entry: the session has then ended, and the number of waiting primaries does not increase.
   record IsCutBefore (first : Entry) : Type 0 where
     put : IsPutFirst settings log entry first LinkOverdue
     phase : phase_of (log ++ first ∷ []) ≡ Over
@@ -370,7 +371,7 @@ module _ (settings : Parameters) (log : List Entry) (entry : Entry) (run : IsRun
 
 -- ---- entry by entry
 
--- neither the time nor a timer breaks the rule
+-- Holds if neither the time nor a timer breaks the rule.
 abbrev IsOther : Rule → Type 0
 IsOther Backwards = ⊥
 IsOther T3Overdue = ⊥
@@ -384,7 +385,7 @@ more_of one other le w =
     record { steps = w.steps; put = w.put; entry_repaired = w.entry_repaired; few = omega arith; holds = w.holds }
 
 module _ (some : SomeTextAnswer) (not_both : NotBothOfText) (settings : Parameters) where
-  -- an entry in a phase of some kind, where it is known what becomes of it if a timer is not why it fails
+  -- Holds for an entry in a phase of some kind, if its repair is known unless a timer is the cause of its failure.
   record Handled (entry : Entry) (Holds : List Entry → Type 0) (Fits : Phase → Type 0) (more : ℕ) : Type 0 where
     fits : HasOctets entry.event
     some_more : 1 ≤ more
@@ -395,7 +396,7 @@ module _ (some : SomeTextAnswer) (not_both : NotBothOfText) (settings : Paramete
         → Within settings Holds (waiting * 2 + more) log entry
 
   module _ (entry : Entry) (Holds : List Entry → Type 0) (Fits : Phase → Type 0) (more : ℕ) (handled : Handled entry Holds Fits more) where
-    -- what is found behind a log where so many primaries wait
+    -- The result after a log in which this many primaries wait.
     abbrev Found : ℕ → ℕ → Type 0
     Found waiting most =
         (log : List Entry) → IsRun settings log → IsTimelyAt settings log entry → Fits (phase_of log) → length (open_of SentData log) ≤ waiting
@@ -407,7 +408,7 @@ module _ (some : SomeTextAnswer) (not_both : NotBothOfText) (settings : Paramete
     not_past : (log : List Entry) → IsTimelyAt settings log entry → BreaksAt settings log entry Backwards → ⊥
     not_past log timely past = absurd (omega (arith, timely, past))
 
-    -- once the session is over no timer runs
+    -- After the session has ended, no timer runs.
     when_over : (waiting : ℕ) (log : List Entry) → IsRun settings log → IsTimelyAt settings log entry → phase_of log ≡ Over → length (open_of SentData log) ≤ waiting
         → (answer : Option Rule) → FirstAt settings log entry answer → Within settings Holds (waiting * 2 + more) log entry
     when_over waiting log run timely over few None h =
@@ -421,7 +422,7 @@ module _ (some : SomeTextAnswer) (not_both : NotBothOfText) (settings : Paramete
     when_over waiting log run timely over few (Some rule) h =
         handled.others waiting log run timely (subst Fits (sym over) handled.over) few rule tt h
 
-    -- where a timer is why it fails, its expiry is put first
+    -- If a timer is the cause of its failure, the timer's expiry is inserted.
     by_answer : (waiting : ℕ)
         → ((log : List Entry) → IsRun settings log → IsTimelyAt settings log entry → Fits (phase_of log) → suc (length (open_of SentData log)) ≤ waiting
         → Within settings Holds (waiting * 2 + more) log entry)
@@ -474,7 +475,7 @@ module _ (some : SomeTextAnswer) (not_both : NotBothOfText) (settings : Paramete
   left_out named_rule entry discards lacks NoCause is = refl
   left_out named_rule entry discards lacks rule is = discards
 
-  -- what is neither taken nor an `up` is left out
+  -- An event that is neither accepted nor an `up` is omitted.
   plain : (entry : Entry) → HasOctets entry.event → discarded entry.event ≡ LeaveOut → ((view : View) → missing_down view entry.time entry.event ≡ LeaveOut)
       → Handled entry Anything AnyPhase 1
   plain entry fits discards lacks = record {
@@ -486,7 +487,7 @@ module _ (some : SomeTextAnswer) (not_both : NotBothOfText) (settings : Paramete
         (ap (λ r. change_by r entry) (left_out (view_of settings log) entry discards (lacks (view_of settings log)) rule is)) tt (omega arith);
   }
 
-  -- a taken frame is thrown away
+  -- An accepted frame is discarded.
   module _ (time : ℕ) (frame : Frame) (octets : IsOctets frame.text) where
     taken_others : (waiting : ℕ) (log : List Entry) → IsRun settings log → IsTimelyAt settings log (entry_of_event time (Taken frame))
         → length (open_of SentData log) ≤ waiting → (rule : Rule) → IsOther rule → FirstAt settings log (entry_of_event time (Taken frame)) (Some rule)
@@ -516,7 +517,7 @@ module _ (some : SomeTextAnswer) (not_both : NotBothOfText) (settings : Paramete
       others = λ waiting log run timely any few rule is h. taken_others waiting log run timely few rule is h;
     }
 
-  -- a `down` of a connection that is up comes to stand at the end
+  -- A `down` of an established connection becomes the last entry.
   module _ (time : ℕ) where
     abbrev IsDownAt : List Entry → Type 0
     IsDownAt log = (phase_of log ≡ Gone) × ((view_of settings log).last_time ≡ time)
@@ -559,7 +560,7 @@ module _ (some : SomeTextAnswer) (not_both : NotBothOfText) (settings : Paramete
           absurd (down_breaks log up rule is (applies (BreaksAt settings log (entry_of_event time Down)) all_rules rule h));
     }
 
-    -- then an `up` is lawful, where the log may have several connections
+    -- Then an `up` is valid, if the log may have several connections.
     up_valid : (log : List Entry) → IsRun settings log → settings.version ≡ 2 → IsDownAt log → FirstAt settings log (entry_of_event time Up) None
     up_valid log run two is =
         let last = is.1 in
@@ -643,7 +644,7 @@ module _ (some : SomeTextAnswer) (not_both : NotBothOfText) where
       let found = repaired_within some not_both settings log entry run fits in
       (found.steps, found.put, found.entry_repaired, found.few)
 
-  -- ---- a whole log
+  -- ---- a complete log
 
   log_repaired : (settings : Parameters) (before log : List Entry) → IsRun settings before → AllHaveOctets log
       → (repaired : List Entry) × IsRepaired settings before log repaired
@@ -657,7 +658,7 @@ module _ (some : SomeTextAnswer) (not_both : NotBothOfText) where
   pub each_repaired : EachLogIsRepaired
   each_repaired settings log fit = log_repaired settings [] log (empty_run settings) fit
 
--- ---- one way alone
+-- ---- only one way
 
 one_change : (settings : Parameters) (log : List Entry) (entry : Entry) (one other : Change) → Asks settings log entry one → Asks settings log entry other → one ≡ other
 one_change settings log entry one other h k =

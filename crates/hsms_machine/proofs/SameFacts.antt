@@ -1,4 +1,4 @@
--- Two lots of facts that say the same lead to the same broken rules.
+-- Equivalent facts lead to the same broken rules.
 use Rattle.std.proofs.Common.{◌≡◌, ◌↔◌, ℕ, ◌-◌, Bool, true, false, List, [], ◌∷◌, ◌++◌, Option, Some, None, ◌⊎◌, inl, inr, refl, sym, subst, ◌∙◌, nat_lt, nat_le, ◌==◌, ◌&&◌}
 use Rattle.hsms_frame.specs.Frame.{Frame}
 use Rattle.hsms_machine.specs.declared.entry.Entry.{Entry}
@@ -18,7 +18,7 @@ use Rattle.hsms_machine.specs.declared.direction.Flow.{Flow}
 use Rattle.hsms_machine.specs.declared.direction.Flow.TheVariants.{Outgoing, Incoming}
 use Rattle.hsms_machine.proofs.First.{first_agrees}
 
--- the facts that the rules of order ask for, but for the end of the session
+-- Holds if the facts that the rules of order use are equivalent, except the end of the session.
 pub record OrdersAgree (F G : Facts) : Type 0 where
   pub past : (time : ℕ) → F.IsPast time ↔ G.IsPast time
   pub entry : F.HasEntry ↔ G.HasEntry
@@ -116,12 +116,12 @@ breaks-facts_agree F G h settings entry NotDue b = due-facts_agree F G h setting
 breaks-facts_agree F G h settings entry NoCause b = cause-facts_agree F G h settings entry.event b
 breaks-facts_agree F G h settings entry r b = event-facts_agree F G h settings entry.event r b
 
--- the first broken rule is the same
+-- The first broken rule is the same.
 pub first_broken-facts_agree : (F G : Facts) → FactsAgree F G → (settings : Parameters) (entry : Entry) (rules : List Rule) (a : Option Rule) → IsFirst (Breaks F settings entry) rules a → IsFirst (Breaks G settings entry) rules a
 first_broken-facts_agree F G h settings entry rules a b =
     first_agrees (Breaks F settings entry) (Breaks G settings entry) rules a (breaks-facts_agree F G h settings entry) (breaks-facts_agree G F (facts_agree-sym F G h) settings entry) b
 
--- none of these rules applies
+-- None of these rules applies.
 abbrev pub Never : (Rule → Type 0) → List Rule → Type 0
 Never Applies [] = Unit {0}
 Never Applies (rule ∷ rules) = (Applies rule → ⊥) × Never Applies rules
@@ -144,7 +144,7 @@ never_from Applies (r ∷ rs) h = elim h [
 abbrev pub late_rules : List Rule
 late_rules = timer_rules ++ (format_rules ++ (transaction_rules ++ NoCause ∷ []))
 
--- once the session is over, an event that needs none breaks no rule but those of order
+-- Once the session has ended, an event that needs no session breaks only rules of order.
 late_by : (F : Facts) → F.IsOver → (settings : Parameters) (time : ℕ) (event : Event) → needs_session event ≡ false → Never (Breaks F settings (record { time = time; event = event })) late_rules
 late_by F over settings time Up e = ((λ b. b.1.0.0 over), ((λ b. elim b.1 [ inl p ↦ p.0.0 over | inr q ↦ q.0.0 over ]), ((λ b. b), ((λ b. b), ((λ b. b), ((λ b. b), ((λ b. b), ((λ b. b), ((λ b. b), ((λ b. b), ((λ b. b), ((λ b. b), ((λ b. b), ((λ b. b), ((λ b. b), ((λ b. b), tt))))))))))))))))
 late_by F over settings time Down e = ((λ b. b.1.0.0 over), ((λ b. elim b.1 [ inl p ↦ p.0.0 over | inr q ↦ q.0.0 over ]), ((λ b. b), ((λ b. b), ((λ b. b), ((λ b. b), ((λ b. b), ((λ b. b), ((λ b. b), ((λ b. b), ((λ b. b), ((λ b. b), ((λ b. b), ((λ b. b), ((λ b. b), ((λ b. b), tt))))))))))))))))
@@ -154,7 +154,7 @@ late_by F over settings time event e = absurd (let d : true ≡ false = e in cc)
 pub late : (F : Facts) → F.IsOver → (settings : Parameters) (entry : Entry) → needs_session entry.event ≡ false → Never (Breaks F settings entry) late_rules
 late F over settings entry e = late_by F over settings entry.time entry.event e
 
--- directly after `down`, an `up` breaks no rule but those of order
+-- Directly after `down`, an `up` breaks only rules of order.
 pub late_up : (F : Facts) → F.FollowsDown → (settings : Parameters) (time : ℕ) → Never (Breaks F settings (record { time = time; event = Up })) late_rules
 late_up F down settings time = ((λ b. b.1.0.1 down), ((λ b. elim b.1 [ inl p ↦ p.0.1 down | inr q ↦ q.0.1 down ]), ((λ b. b), ((λ b. b), ((λ b. b), ((λ b. b), ((λ b. b), ((λ b. b), ((λ b. b), ((λ b. b), ((λ b. b), ((λ b. b), ((λ b. b), ((λ b. b), ((λ b. b), ((λ b. b), tt))))))))))))))))
 
@@ -162,7 +162,7 @@ bool_cases : (b : Bool) → (b ≡ true) ⊎ (b ≡ false)
 bool_cases true = inl refl
 bool_cases false = inr refl
 
--- after the session is over, the facts of order and the end decide
+-- After the session has ended, the facts of order and the end decide.
 pub over_agrees : (F G : Facts) → OrdersAgree F G → F.IsOver → G.IsOver → (settings : Parameters) (entry : Entry) (a : Option Rule) → IsFirst (Breaks F settings entry) all_rules a → IsFirst (Breaks G settings entry) all_rules a
 over_agrees F G h f g settings entry a b =
     let back = orders_agree-sym F G h in
@@ -189,7 +189,7 @@ over_agrees F G h f g settings entry a b =
       )
     ]
 
--- where the entry breaks the rule that the connection is up, the facts of order decide
+-- If the entry breaks the rule that the connection is established, the facts of order decide.
 pub down_agrees : (F G : Facts) → OrdersAgree F G → (settings : Parameters) (entry : Entry) → Breaks F settings entry NotUp → (a : Option Rule) → IsFirst (Breaks F settings entry) all_rules a → IsFirst (Breaks G settings entry) all_rules a
 down_agrees F G h settings entry broken a b =
     let back = orders_agree-sym F G h in
@@ -204,7 +204,7 @@ down_agrees F G h settings entry broken a b =
       )
     ]
 
--- where an event that needs no session can break no rule but those of order, these decide
+-- If an event that needs no session can break only rules of order, these decide.
 quiet_agrees : (F G : Facts) → OrdersAgree F G → (settings : Parameters) (entry : Entry) → needs_session entry.event ≡ false → Never (Breaks F settings entry) late_rules → Never (Breaks G settings entry) late_rules → (a : Option Rule) → IsFirst (Breaks F settings entry) all_rules a → IsFirst (Breaks G settings entry) all_rules a
 quiet_agrees F G h settings entry needs f g a b =
     let back = orders_agree-sym F G h in
@@ -228,7 +228,7 @@ quiet_agrees F G h settings entry needs f g a b =
       )
     ]
 
--- directly after `down`, the facts of order decide
+-- Directly after `down`, the facts of order decide.
 module _ (F G : Facts) (h : OrdersAgree F G) (down : F.HasDown) (f : F.FollowsDown) (g : G.FollowsDown) (settings : Parameters) where
   gone_at : (time : ℕ) (event : Event) (a : Option Rule) → IsFirst (Breaks F settings (record { time = time; event = event })) all_rules a → IsFirst (Breaks G settings (record { time = time; event = event })) all_rules a
   gone_at time Up a b = quiet_agrees F G h settings (record { time = time; event = Up }) refl (late_up F f settings time) (late_up G g settings time) a b
@@ -237,7 +237,7 @@ module _ (F G : Facts) (h : OrdersAgree F G) (down : F.HasDown) (f : F.FollowsDo
   pub gone_agrees : (entry : Entry) (a : Option Rule) → IsFirst (Breaks F settings entry) all_rules a → IsFirst (Breaks G settings entry) all_rules a
   gone_agrees entry a b = gone_at entry.time entry.event a b
 
--- where each of the two says that the connection is not up, the first two rules decide
+-- If both state that the connection is not established, the first two rules decide.
 pub barred_agrees : (F G : Facts) → ((time : ℕ) → F.IsPast time ↔ G.IsPast time) → (settings : Parameters) (entry : Entry) → Breaks F settings entry NotUp → Breaks G settings entry NotUp → (a : Option Rule) → IsFirst (Breaks F settings entry) all_rules a → IsFirst (Breaks G settings entry) all_rules a
 barred_agrees F G past settings entry f g a b = elim b [
   | inl p ↦ inl ((past entry.time).0 p.0, p.1)

@@ -1,4 +1,4 @@
--- What is open under the system bytes of a frame.
+-- The open transactions with the system bytes of a frame.
 use Rattle.std.proofs.Common.{◌≡◌, ℕ, ◌==◌, Bool, true, false, cond, ◌&&◌, ◌||◌, List, Option, Some, None, IsTrue, IfSome, IfNone, inl, inr, sym, ap, subst, ◌∙◌}
 use Rattle.std.specs.List.{list_any}
 use Rattle.std.proofs.lemmas.Bool.{and_parts, or_cases, eqb-true}

@@ -1,4 +1,4 @@
--- Version 1 is read as logs of one connection are, without a word of connections.
+-- Version 1 is read like logs of one connection, without the concept of connections.
 use Rattle.std.proofs.Common.{◌≡◌, ℕ, ◌+◌, ◌<◌, Bool, true, false, ◌&&◌, List, length, Option, None, inl, inr, refl, arith}
 use Rattle.hsms_machine.specs.declared.entry.Entry.{Entry}
 use Rattle.hsms_machine.specs.declared.entry.Event.{Event}
@@ -17,7 +17,7 @@ use Rattle.hsms_machine.proofs.Connection.{on-before, on-where, on-last, connect
 use Rattle.hsms_machine.proofs.SameFacts.{FactsAgree, facts_agree-sym, first_broken-facts_agree, barred_agrees, never_from}
 use Rattle.hsms_machine.proofs.ValidEntries.{follows_cases, one_connection}
 
--- up to position i only the first entry is an `up`
+-- Up to position i, only the first entry is an `up`.
 module _ (log : List Entry) (i : ℕ) (single : (m : ℕ) → 0 < m → m < i → is_up (entry_at log m).event ≡ false) where
   some_to : (test : Entry → Bool) → SomeBefore log i test → SomeEarlier log i test
   some_to test s = (s.0, on-before log s.0 i s.1, s.2)
@@ -55,7 +55,7 @@ module _ (log : List Entry) (i : ℕ) (single : (m : ℕ) → 0 < m → m < i �
   }
 
   module _ (settings : Parameters) (one : settings.version ≡ 1) where
-    -- directly after `down` each entry breaks the same rule, either way
+    -- Directly after `down`, each entry breaks the same rule by both definitions.
     barred_before : (event : Event) → FollowsDown log i → IsNotUp (facts_before log i) settings event
     barred_before Up down =
         let next : down.0 + 1 ≡ i = down.1 in
@@ -83,7 +83,7 @@ not_true : (b : Bool) → (b ≡ true → ⊥) → b ≡ false
 not_true true never = absurd (never refl)
 not_true false never = refl
 
--- only the first entry of a run is an `up`
+-- Only the first entry of a run is an `up`.
 single_of_run : (settings : Parameters) (log : List Entry) → settings.version ≡ 1 → IsRun settings log → (m : ℕ) → 0 < m → m < length log → is_up (entry_at log m).event ≡ false
 single_of_run settings log one run m pos lt =
     not_true (is_up (entry_at log m).event) (λ up. let first : m ≡ 0 = one_connection settings log run one m lt up in omega arith)

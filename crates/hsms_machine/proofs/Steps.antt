@@ -1,4 +1,4 @@
--- What the code of the view needs: the rules of an event by its cases, and the steps of the pools.
+-- Facts for the code of the view: the rules of an event by its cases, and the steps of the pools.
 use Rattle.std.proofs.Common.{◌≡◌, ℕ, Bool, true, false, not, ◌==◌, List, [], ◌∷◌, ◌++◌, Option, None, IsTrue, inr, refl, sym, ap, subst, ◌∙◌, filter, option_to_list}
 use Rattle.std.proofs.lemmas.List.{append-nil}
 use Rattle.hsms_frame.specs.Header.{kind_of, wait_of}
@@ -35,7 +35,7 @@ kinds_differ SelectReq wait e = absurd (let d : false ≡ true = e in cc)
 kinds_differ LinktestReq wait e = absurd (let d : false ≡ true = e in cc)
 kinds_differ kind wait e = refl
 
--- no message opens a data and a control transaction
+-- No message opens a data and a control transaction.
 pub data_not_control : (header : Header) → is_data_request header ≡ true → is_control_request header ≡ false
 unfolding is_data_request is_control_request
 data_not_control header e = kinds_differ (kind_of header) (wait_of header) e
@@ -49,7 +49,7 @@ unfolding is_data_request is_control_request
 control_not_data header e = control_kind_differs (kind_of header) (wait_of header) e
 
 module _ (facts : Facts) (settings : Parameters) where
-  -- where none of the frame rules is the first one, none is broken
+  -- If none of the frame rules is the first one, none is broken.
   pub frame_none : (flow : Flow) (frame : Frame) → IsFirst (FrameBreaks facts settings flow frame) (format_rules ++ transaction_rules) None → (r : Rule) → FrameBreaks facts settings flow frame r → ⊥
   frame_none flow frame h r =
       let P : Rule → Type 0 = λ q. FrameBreaks facts settings flow frame q in
@@ -81,14 +81,14 @@ module _ (facts : Facts) (settings : Parameters) where
         | _ ↦ λ e. e
       ]
 
-  -- a discarded frame lacks a cause exactly where the frame rules answer none
+  -- A discarded frame lacks a cause exactly if the frame rules return none.
   pub no_cause_iff : (frame : Frame) (a : Option Rule) → IsFirst (FrameBreaks facts settings Incoming frame) (format_rules ++ transaction_rules) a → (a ≡ None → (r : Rule) → FrameBreaks facts settings Incoming frame r → ⊥) × (((r : Rule) → FrameBreaks facts settings Incoming frame r → ⊥) → a ≡ None)
   no_cause_iff frame a h = (
     (λ e. frame_none Incoming frame (subst (λ b. IsFirst (FrameBreaks facts settings Incoming frame) (format_rules ++ transaction_rules) b) e h)),
     (λ never. first_none (FrameBreaks facts settings Incoming frame) (format_rules ++ transaction_rules) a never h),
   )
 
-  -- the answer is the first of the rules 7 to 19 that the event breaks
+  -- Holds if the result is the first of the rules 7 to 19 that the event breaks.
   abbrev pub EventFirst : ℕ → Option Rule → Event → Type 0
   EventFirst time a event = IsFirst (Breaks facts settings (record { time = time; event = event })) (format_rules ++ (transaction_rules ++ NoCause ∷ [])) a
 
@@ -162,7 +162,7 @@ module _ (xs : List Transaction) (time : ℕ) (frame : Frame) where
 pub sent_data-t3 : (xs : List Transaction) (time system : ℕ) → pool_after SentData xs (record { time = time; event = T3 system }) ≡ filter (λ opened. not (opened.header.system == system)) xs
 sent_data-t3 xs time system = append-nil (filter (λ opened. not (opened.header.system == system)) xs)
 
--- an event that neither opens nor closes a transaction of the pool
+-- An event that neither opens nor closes a transaction of the pool.
 pub pool-idle : (xs : List Transaction) → filter (λ (transaction : Transaction). not false) xs ++ [] ≡ xs
 pool-idle xs = append-nil (filter (λ transaction. not false) xs) ∙ keep_all (λ transaction. not false) (λ x. refl) xs
 
@@ -176,7 +176,7 @@ pool-quiet SentControl xs time act up sent taken t3 = pool-idle xs
 pool-quiet TakenData xs time act up sent taken t3 = pool-idle xs
 pool-quiet TakenControl xs time act up sent taken t3 = pool-idle xs
 
--- what neither opens nor closes a transaction leaves the pools
+-- An event that neither opens nor closes a transaction leaves the pools unchanged.
 pub view-quiet : (view : View) (time : ℕ) (act : Act) → (act ≡ ActUp → ⊥) → ((header : Header) → act ≡ ActSent header → ⊥) → ((header : Header) → act ≡ ActTaken header → ⊥) → ((system : ℕ) → act ≡ ActT3 system → ⊥) → view ≡ record view { sent_data = pool_after SentData view.sent_data (entry_of time act []); sent_control = pool_after SentControl view.sent_control (entry_of time act []); taken_data = pool_after TakenData view.taken_data (entry_of time act []); taken_control = pool_after TakenControl view.taken_control (entry_of time act []) }
 view-quiet view time act up sent taken t3 =
     let e1 = pool-quiet SentData view.sent_data time act up sent taken t3 in

@@ -1,4 +1,4 @@
--- A lawful entry comes after everything that is open.
+-- A valid entry comes after all open transactions.
 use Rattle.std.proofs.Common.{◌≡◌, ℕ, ◌<◌, ◌≤◌, Bool, true, false, not, cond, List, [], ◌∷◌, ◌++◌, Some, None, subst, sym, arith, filter, option_to_list}
 use Rattle.hsms_frame.specs.declared.header.Header.{Header}
 use Rattle.hsms_machine.specs.declared.entry.Entry.{Entry}
@@ -75,7 +75,7 @@ until-pool pool xs entry h = by_case (is_up entry.event) where
   by_case true = tt
   by_case false = kept
 
--- after a lawful entry nothing that is open was opened after it
+-- After a valid entry, no open transaction was opened after it.
 pub until_after : (view new : View) (entry : Entry) → IsUntil entry.time view → new ≡ view_after view entry → IsUntil new.last_time new
 until_after view new entry h e =
     let after : IsUntil entry.time (view_after view entry) = record {

@@ -29,7 +29,7 @@ use Rattle.hsms_machine.proofs.ViewsOfRuns.{is_valid, any_from_some, some_from_a
 use Rattle.hsms_machine.proofs.Connection.{SameBefore, on-before, on-no_up, on-between, on-last}
 use Rattle.hsms_machine.proofs.Runs.{some-same, some_open-same, same-sym, run-push, empty_run}
 
--- an entry of a run breaks no rule
+-- An entry of a run breaks no rule.
 obeys : (settings : Parameters) (log : List Entry) → IsRun settings log → (i : ℕ) → i < length log → (r : Rule) → Breaks (facts_before log i) settings (entry_at log i) r → ⊥
 obeys settings log run i lt r =
     let n : Never (Breaks (facts_before log i) settings (entry_at log i)) all_rules = is_valid settings log run i lt in
@@ -55,7 +55,7 @@ obeys settings log run i lt r =
       | NoCause ↦ n.1.1.1.1.1.1.1.1.1.1.1.1.1.1.1.1.1.1.0
     ]
 
--- what holds before a position is decided by the entries before it
+-- What holds before a position is decided by the entries before it.
 
 module _ (log : List Entry) (i : ℕ) (le : i ≤ length log) where
   prefix_len : length (take i log) ≡ i
@@ -98,7 +98,7 @@ follows_cases log i = elim (cases_lt 0 i) [
   | inr le ↦ inr (λ s. let next : s.0 + 1 ≡ i = s.1 in omega arith)
 ]
 
--- data flows while selected
+-- Data flows while the session is selected.
 
 data_by : (settings : Parameters) (log : List Entry) (i : ℕ) (time : ℕ) (event : Event) → IsTrue (is_data_event event) → (Breaks (facts_before log i) settings (record { time = time; event = event }) NotSelected → ⊥) → (Breaks (facts_before log i) settings (record { time = time; event = event }) Ended → ⊥) → ((IsSelected log i → ⊥) → ⊥) × (IsOver log i → ⊥)
 data_by settings log i time (Sent frame) is_data not_selected ended = ((λ n. not_selected (is_data, n)), (λ o. ended (refl, o)))
@@ -113,7 +113,7 @@ data_flows settings log run i lt is_data =
       | inr n ↦ absurd (named_rule.0 n)
     ]
 
--- expiries
+-- Expiries.
 
 passes_one : (b : Bool) (t : Transaction) (test : Transaction → Bool) → b ≡ true → test t ≡ true → passes test (cond b (Some t) None) ≡ true
 passes_one true t test e h = h
@@ -128,7 +128,7 @@ data_kind_opens SelectReq e = absurd (let d : false ≡ true = e in cc)
 data_kind_opens LinktestReq e = absurd (let d : false ≡ true = e in cc)
 data_kind_opens kind e = refl
 
--- data that opens a transaction opens one of data
+-- Data that opens a transaction opens a data transaction.
 data_request : (header : Header) → is_data header ≡ true → is_request header ≡ true → is_data_request header ≡ true
 unfolding is_data is_control_request
 data_request header data_is opens_is = elim (or_cases (is_data_request header) (is_control_request header) opens_is) [
@@ -151,7 +151,7 @@ answer_kind (Sent request) (Taken response) a = (refl, (λ t. let d : false ≡ 
 answer_kind (Taken request) (Sent response) a = (refl, (λ t. let d : false ≡ true = t in cc))
 answer_kind opening event a = absurd (let d : false ≡ true = a in cc)
 
--- an event that needs a session does not follow a `down`
+-- An event that needs a session does not follow a `down`.
 no_down : (log : List Entry) (i : ℕ) (settings : Parameters) (event : Event) → needs_session event ≡ true → (IsNotUp (facts_before log i) settings event → ⊥) → FollowsDown log i → ⊥
 no_down log i settings Up needs obeyed s = let d : false ≡ true = needs in cc
 no_down log i settings event needs obeyed s = obeyed (inr (s.0, on-last log s.0 i s.1, s.2))
@@ -166,9 +166,9 @@ within_t3 settings log run j i lt open_before awaited answered =
       | inr le ↦ le
     ]
 
--- system bytes
+-- System bytes.
 
--- an open transaction is in one of the two pools of its direction
+-- An open transaction is in one of the two pools of its direction.
 module _ (log : List Entry) (i : ℕ) where
   in_sent : (time : ℕ) (frame : Frame) (test : Transaction → Bool) → is_request frame.header ≡ true → test (record { time = time; header = frame.header }) ≡ true → (passes test (opened_as_at SentData time (Sent frame)) ≡ true) ⊎ (passes test (opened_as_at SentControl time (Sent frame)) ≡ true)
   in_sent time frame test o t = elim (or_cases (is_data_request frame.header) (is_control_request frame.header) o) [
@@ -176,7 +176,7 @@ module _ (log : List Entry) (i : ℕ) where
     | inr c ↦ inr (passes_one (is_control_request frame.header) (record { time = time; header = frame.header }) test c t)
   ]
 
-  -- an open transaction whose system bytes a later request of its direction shares
+  -- An open transaction whose system bytes a later request of its direction shares.
   in_use : (j : ℕ) → IsOpen log j i → (time : ℕ) (opening event : Event) → (entry_at log j).time ≡ time → (entry_at log j).event ≡ opening → opens opening ≡ true → opens event ≡ true → shares_system opening event ≡ true → (settings : Parameters) (at : ℕ) → Breaks (facts_before log i) settings (record { time = at; event = event }) SystemInUse
   in_use j h time (Sent f) (Sent g) et ee oj oi shared settings at = (
     oi,
@@ -221,14 +221,14 @@ unique_system settings log run i j k le hj hk shared = elim (cases_order j k) [
   ]
 ]
 
--- responses
+-- Responses.
 
 answers_system : (request response : Header) → answers request response ≡ true → response.system ≡ request.system
 unfolding answers
 answers_system request response h =
     eqb-true response.system request.system (and_parts (response.system == request.system) (answers_kind (kind_of request) (kind_of response) request response) h).0
 
--- two requests that one response answers are of one direction, with the same system bytes
+-- Two requests that one response answers are of one direction, with the same system bytes.
 answered_share : (a b c : Event) → answers_event a c ≡ true → answers_event b c ≡ true → shares_system a b ≡ true
 answered_share (Sent f) (Sent g) (Taken h) p q = eq-eqb f.header.system g.header.system (sym (answers_system f.header h.header p) ∙ answers_system g.header h.header q)
 answered_share (Taken f) (Taken g) (Sent h) p q = eq-eqb f.header.system g.header.system (sym (answers_system f.header h.header p) ∙ answers_system g.header h.header q)
@@ -241,7 +241,7 @@ answer_closes (Sent f) (Taken h) p = or_left (answers f.header h.header) (reject
 answer_closes (Taken f) (Sent h) p = or_left (answers f.header h.header) (rejects f.header h.header) p
 answer_closes a c p = absurd (let d : false ≡ true = p in cc)
 
--- the entry of a pool that a response answers
+-- The entry of a pool that a response answers.
 answered-sent_data : (time : ℕ) (event : Event) (response : Frame) → passes (λ opened. answers opened.header response.header) (opened_as_at SentData time event) ≡ true → answers_event event (Taken response) ≡ true
 answered-sent_data time (Sent f) response h = (one_passes (is_data_request f.header) (record { time = time; header = f.header }) (λ opened. answers opened.header response.header) h).1
 answered-sent_data time event response h = absurd (let d : false ≡ true = h in cc)
@@ -259,7 +259,7 @@ answered-taken_control time (Taken f) response h = (one_passes (is_control_reque
 answered-taken_control time event response h = absurd (let d : false ≡ true = h in cc)
 
 module _ (log : List Entry) (i : ℕ) (le : i ≤ length log) where
-  -- some open transaction is answered by the event
+  -- Holds if the event answers some open transaction.
   abbrev pub SomeAnswered : Event → Type 0
   SomeAnswered event = (j : ℕ) × IsOpen log j i × IsTrue (answers_event (entry_at log j).event event)
 
@@ -296,9 +296,9 @@ answers_one settings log run i lt response =
       (λ later after h. h.not_closed i (on-before log j i opened.earlier) after (answer_closes (entry_at log j).event (entry_at log i).event found.2)),
     )
 
--- connections
+-- Connections.
 
--- a later `up` breaks no rule only in version 2, directly after `down`
+-- A later `up` breaks no rule only in version 2, directly after `down`.
 later_up_by : (log : List Entry) (i : ℕ) (settings : Parameters) (event : Event) → 0 < i → is_up event ≡ true → (IsNotUp (facts_before log i) settings event → ⊥) → (settings.version ≡ 2) × FollowsDown log i
 later_up_by log i settings Up pos up obeyed = elim (follows_cases log i) [
   | inl down ↦ elim (cases_order settings.version 2) [

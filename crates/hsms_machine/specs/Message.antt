@@ -1,5 +1,5 @@
--- What a header says of its message (SEMI E37, section 8, message format; SEMI E37.1 for the session ID and the ends
--- that may select).
+-- Properties of a message by its header (SEMI E37, section 8, message format; SEMI E37.1 for the session ID and the
+-- endpoints that may select).
 use Rattle.std.specs.Prelude.{ℕ, ◌==◌, Bool, true, false, ◌&&◌, ◌||◌, not}
 use Rattle.hsms_frame.specs.Header.{kind_of, stream_of, wait_of}
 use Rattle.hsms_frame.specs.declared.header.Header.{Header}
@@ -45,18 +45,18 @@ abbrev pub is_reject_kind : Kind → Bool
 is_reject_kind Reject = true
 is_reject_kind _ = false
 
--- a primary with the W bit opens a data transaction
+-- True if a primary has the W bit, so it opens a data transaction.
 abbrev pub opens_data : Kind → Bool → Bool
 opens_data Primary wait = wait
 opens_data _ wait = false
 
--- a Select.req or a Linktest.req opens a control transaction
+-- True for a Select.req or a Linktest.req, which opens a control transaction.
 abbrev pub opens_control : Kind → Bool
 opens_control SelectReq = true
 opens_control LinktestReq = true
 opens_control _ = false
 
--- the session ID that a message of the kind has: the device of data, FFFF of control, any of a Reject
+-- True if a message of the kind may have the session ID: the device ID for data, FFFF for control, any for a Reject.
 abbrev pub is_session : Kind → ℕ → ℕ → Bool
 is_session Primary device session = session == device
 is_session Reply device session = session == device
@@ -67,28 +67,28 @@ is_session LinktestRsp device session = session == 65535
 is_session Separate device session = session == 65535
 is_session _ device session = true
 
--- the message comes from the active end
+-- True if the message comes from the active endpoint.
 abbrev pub is_from_active : Side → Flow → Bool
 is_from_active Active Outgoing = true
 is_from_active Active Incoming = false
 is_from_active Passive Outgoing = false
 is_from_active Passive Incoming = true
 
--- the message comes from the equipment
+-- True if the message comes from equipment.
 abbrev pub is_from_equipment : Role → Flow → Bool
 is_from_equipment Equipment Outgoing = true
 is_from_equipment Equipment Incoming = false
 is_from_equipment Host Outgoing = false
 is_from_equipment Host Incoming = true
 
--- the end from which the message comes may send it
+-- True if the endpoint that sends the message may send it.
 abbrev pub is_direction : Kind → Bool → Bool → Bool → Bool
 is_direction SelectReq from_active from_equipment nine = from_active
 is_direction SelectRsp from_active from_equipment nine = not from_active
 is_direction Primary from_active from_equipment nine = not nine || from_equipment
 is_direction _ from_active from_equipment nine = true
 
--- neither a reply nor a primary of stream 9 has the W bit
+-- True unless a reply or a primary of stream 9 has the W bit.
 abbrev pub is_wait : Kind → Bool → Bool → Bool
 is_wait Primary wait nine = not (wait && nine)
 is_wait Reply wait nine = not wait
@@ -102,15 +102,15 @@ is_data header = is_data_kind (kind_of header)
 unfoldable pub is_control : Header → Bool
 is_control header = is_control_kind (kind_of header)
 
--- a reply, a Select.rsp or a Linktest.rsp
+-- True for a reply, a Select.rsp or a Linktest.rsp.
 unfoldable pub is_response : Header → Bool
 is_response header = is_response_kind (kind_of header)
 
--- a response or a Reject: no other message ends a transaction
+-- True for a response or a Reject: no other message ends a transaction.
 unfoldable pub may_conclude : Header → Bool
 may_conclude header = is_response_kind (kind_of header) || is_reject_kind (kind_of header)
 
--- a Select.rsp with status 0
+-- True for a Select.rsp with status 0.
 unfoldable pub establishes : Header → Bool
 establishes header = is_select_response (kind_of header) && (header.byte3 == 0)
 
@@ -123,7 +123,7 @@ is_data_request header = opens_data (kind_of header) (wait_of header)
 unfoldable pub is_control_request : Header → Bool
 is_control_request header = opens_control (kind_of header)
 
--- the message opens a transaction
+-- True if the message opens a transaction.
 abbrev pub is_request : Header → Bool
 is_request header = is_data_request header || is_control_request header
 

@@ -1,5 +1,5 @@
--- How a log is gone on with behind a failure (this project's profile): what stands in place of an entry that breaks a
--- rule, and a log in which this was done throughout.
+-- The repair of a log after a failure (this project's profile): what replaces an entry that breaks a rule, and a log in
+-- which each such entry was replaced.
 use Rattle.std.specs.Prelude.{◌≡◌, ℕ, ◌+◌, ◌-◌, ◌==◌, ◌&&◌, min, List, [], ◌∷◌, ◌++◌, Option, Some, None, nat_lt, if◌then◌else◌}
 use Rattle.hsms_machine.specs.declared.entry.Entry.{Entry}
 use Rattle.hsms_machine.specs.declared.entry.Event.{Event}
@@ -19,24 +19,24 @@ use Rattle.hsms_machine.specs.OpeningOrder.{first_of}
 
 -- ---- one entry
 
--- what is done with an entry
+-- The change that a repair makes at an entry.
 pub data Change : Type 0 where
-  -- another entry stands in place of this one
+  -- Another entry replaces this one.
   Other : Entry → Change
-  -- this entry stands before it
+  -- This entry is inserted before it.
   First : Entry → Change
-  -- it is left out
+  -- The entry is omitted.
   Without : Change
 
 abbrev pub entry_of_event : ℕ → Event → Entry
 entry_of_event time event = record { time = time; event = event }
 
--- a taken frame is thrown away
+-- The event with an accepted frame discarded.
 abbrev pub thrown_away : Event → Event
 thrown_away (Taken frame) = Discarded frame
 thrown_away event = event
 
--- what a remedy does with an entry
+-- The change that a repair makes at an entry.
 abbrev pub change_by : RepairAction → Entry → Change
 change_by (Raise time) entry = Other (entry_of_event time entry.event)
 change_by Discard entry = Other (entry_of_event entry.time (thrown_away entry.event))
@@ -45,37 +45,38 @@ change_by (CutFirst time cause) entry = First (entry_of_event time (Cut cause))
 change_by (DownFirst time) entry = First (entry_of_event time Down)
 change_by LeaveOut entry = Without
 
--- ---- what a broken rule asks for
+-- ---- the repair for a broken rule
 
--- a received frame that may not be taken is thrown away
+-- A received frame that may not be accepted is discarded.
 abbrev pub discarded : Event → RepairAction
 discarded (Taken frame) = Discard
 discarded event = LeaveOut
 
--- an `up` that lacks its `down` has it put before, where the log may have several connections
+-- A `down` is inserted before an `up` that lacks it, if the log may have several connections.
 abbrev pub missing_down : View → ℕ → Event → RepairAction
 missing_down view time Up =
     if (view.settings.version == 2) && is_connected view.phase then DownFirst time else LeaveOut
 missing_down view time event = LeaveOut
 
--- the later of two moments
+-- The later of two times.
 abbrev pub later_of : ℕ → ℕ → ℕ
 later_of one other = if nat_lt one other then other else one
 
--- When the limit had passed since a time: no later than the entry at this time, and no earlier than the one before it.
+-- When the limit had passed since a time: no later than the entry at this time, and no earlier than the entry before
+-- it.
 abbrev pub expiry_of : View → ℕ → ℕ → ℕ → ℕ
 expiry_of view time since limit = later_of view.last_time (min (since + limit) time)
 
--- the primary that was opened first has expired
+-- The primary that was opened first has expired.
 abbrev pub expired : View → ℕ → Option Transaction → RepairAction
 expired view time None = LeaveOut
 expired view time (Some opened) = ExpireFirst (expiry_of view time opened.time view.settings.t3) opened.header.system
 
--- the connection was cut as T7 ran out
+-- The connection was cut when T7 expired.
 abbrev pub cut_by_t7 : View → ℕ → RepairAction
 cut_by_t7 view time = CutFirst (expiry_of view time view.up_time view.settings.t7) T7
 
--- the connection was cut as T6 of the first open request ran out, or T7 where it had not by this time
+-- The connection was cut when T6 of the first open request expired, or T7 if T6 had not expired by this time.
 abbrev pub cut : View → ℕ → Option Transaction → RepairAction
 cut view time None = cut_by_t7 view time
 cut view time (Some opened) =
@@ -83,7 +84,7 @@ cut view time (Some opened) =
     then CutFirst (expiry_of view time opened.time view.settings.t6) T6
     else cut_by_t7 view time
 
--- what the rule that the entry broke first asks for
+-- The repair for the rule that the entry broke first.
 abbrev pub repair_of : View → Entry → Rule → RepairAction
 repair_of view entry Backwards = Raise view.last_time
 repair_of view entry NotUp = missing_down view entry.time entry.event
@@ -93,22 +94,23 @@ repair_of view entry NotDue = LeaveOut
 repair_of view entry NoCause = LeaveOut
 repair_of view entry rule = discarded entry.event
 
--- ---- what stands in place of an entry
+-- ---- what replaces an entry
 
--- after the log the first broken rule of the entry asks for this
+-- Holds if this change is the repair for the first rule that the entry breaks after the log.
 abbrev pub Asks : Parameters → List Entry → Entry → Change → Type 0
 Asks settings log entry change =
     (rule : Rule) × Broken settings log entry (Some rule)
     × (change_by (repair_of (view_of settings log) entry rule) entry ≡ change)
 
--- what was done with an entry
+-- The steps of the repair of one entry.
 pub data Steps : Type 0 where
   Passed : Steps
   LeftOut : Steps
   Changed : Steps → Steps
   Preceded : Steps → Steps → Steps
 
--- `put` stands in place of the entry after the log: the entry where it is lawful, else what is asked for, itself mended
+-- Holds if `put` replaces the entry after the log: the entry if it is valid, otherwise its repair, which is repaired
+-- itself.
 abbrev pub RepairedBy : Parameters → List Entry → Steps → Entry → List Entry → Type 0
 RepairedBy settings log Passed entry put = Broken settings log entry None × (put ≡ entry ∷ [])
 RepairedBy settings log LeftOut entry put = Asks settings log entry Without × (put ≡ [])
@@ -121,9 +123,9 @@ RepairedBy settings log (Preceded one more) entry put =
     × RepairedBy settings (log ++ before) more entry rest
     × (put ≡ before ++ rest)
 
--- ---- a whole log
+-- ---- a complete log
 
--- `after` stands in place of the entries, behind a log that was gone on with before
+-- Holds if `after` replaces the entries, after a log that was repaired before.
 abbrev pub IsRepaired : Parameters → List Entry → List Entry → List Entry → Type 0
 IsRepaired settings before [] after = after ≡ []
 IsRepaired settings before (entry ∷ entries) after =
@@ -134,25 +136,25 @@ IsRepaired settings before (entry ∷ entries) after =
 
 -- ---- laws
 
--- the log that was gone on with is a run
+-- The repaired log is a run.
 abbrev pub RepairedLogPasses : Type 0
 RepairedLogPasses =
     (settings : Parameters) (log repaired : List Entry) → IsRepaired settings [] log repaired → IsRun settings repaired
 
--- a lawful entry stays as it is
+-- A valid entry stays unchanged.
 abbrev pub ValidEntryIsKept : Type 0
 ValidEntryIsKept =
     (settings : Parameters) (log : List Entry) (steps : Steps) (entry : Entry) (put : List Entry)
     → Broken settings log entry None → RepairedBy settings log steps entry put
     → put ≡ entry ∷ []
 
--- so a run stays as it is
+-- So a run stays unchanged.
 abbrev pub RunIsItsRepair : Type 0
 RunIsItsRepair =
     (settings : Parameters) (log repaired : List Entry) → IsRun settings log → IsRepaired settings [] log repaired
     → repaired ≡ log
 
--- up to the first entry that breaks a rule nothing is changed
+-- Nothing is changed up to the first entry that breaks a rule.
 abbrev pub FrontIsKept : Type 0
 FrontIsKept =
     (settings : Parameters) (front more repaired : List Entry)

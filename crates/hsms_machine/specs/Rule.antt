@@ -23,7 +23,7 @@ use Rattle.hsms_machine.specs.Transaction.{answers, SentData, SentControl, Taken
 use Rattle.hsms_machine.specs.Session.{Facts}
 use Rattle.hsms_machine.specs.Timer.{IsT3Overdue, IsT6Overdue, IsT7Overdue, IsNotDue}
 
--- the name of a rule
+-- The name of a rule.
 abbrev pub rule_name : Rule → List ℕ
 rule_name Backwards = codes "Backwards"
 rule_name NotUp = codes "NotUp"
@@ -45,7 +45,7 @@ rule_name NoTransaction = codes "NoTransaction"
 rule_name SelectStatus = codes "SelectStatus"
 rule_name NoCause = codes "NoCause"
 
--- the place of a rule in the order in which they are tried, from 0
+-- The index of a rule in the order in which the rules are checked, from 0.
 abbrev pub rule_number : Rule → ℕ
 rule_number Backwards = 0
 rule_number NotUp = 1
@@ -69,13 +69,13 @@ rule_number NoCause = 18
 
 -- ---- order
 
--- An `up` that is not the first entry, and in version 2 does not stand directly after `down` either. Any other entry
--- before the first `up`, or after a `down` with no `up` since.
+-- Holds for an `up` that is not the first entry and, in version 2, does not directly follow a `down`. Holds for any
+-- other entry before the first `up`, or after a `down` without an `up` since.
 abbrev pub IsNotUp : Facts → Parameters → Event → Type 0
 IsNotUp facts settings Up = facts.HasEntry × ¬ ((settings.version ≡ 2) × facts.FollowsDown)
 IsNotUp facts settings _ = ¬ facts.HasUp ⊎ facts.HasDown
 
--- the events that only a session which is not over may have
+-- True for the events that may occur only before the session ends.
 abbrev pub needs_session : Event → Bool
 needs_session (Sent frame) = true
 needs_session (Taken frame) = true
@@ -90,15 +90,15 @@ is_link_cut T6 = true
 is_link_cut T7 = true
 is_link_cut _ = false
 
--- the events by which an expiry of T6 or T7 may be preceded or logged
+-- True for the events that may precede or log an expiry of T6 or T7.
 abbrev pub is_expiry : Event → Bool
 is_expiry (T3 system) = true
 is_expiry (Cut cause) = is_link_cut cause
 is_expiry _ = false
 
--- ---- a frame that is sent or taken
+-- ---- a frame that is sent or accepted
 
--- some open transaction whose request went in this direction passes the test
+-- Holds if some open transaction whose request was sent in this direction passes the test.
 abbrev pub SomeOpenOf : Facts → Flow → (Transaction → Bool) → Type 0
 SomeOpenOf facts Outgoing test = facts.SomeOpen SentData test ⊎ facts.SomeOpen SentControl test
 SomeOpenOf facts Incoming test = facts.SomeOpen TakenData test ⊎ facts.SomeOpen TakenControl test
@@ -107,15 +107,16 @@ abbrev pub opposite : Flow → Flow
 opposite Outgoing = Incoming
 opposite Incoming = Outgoing
 
--- a transaction whose request went in this direction has these system bytes
+-- Holds if a transaction whose request was sent in this direction has these system bytes.
 abbrev pub IsInUse : Facts → Flow → ℕ → Type 0
 IsInUse facts flow system = SomeOpenOf facts flow (λ opened. opened.header.system == system)
 
--- the message answers an open transaction of the other direction
+-- Holds if the message answers an open transaction of the other direction.
 abbrev pub IsAnswer : Facts → Flow → Header → Type 0
 IsAnswer facts flow header = SomeOpenOf facts (opposite flow) (λ opened. answers opened.header header)
 
--- The rules that bind a sent or taken frame. A text is empty, or one item whose spelling is nested within the depth.
+-- Holds if a sent or accepted frame breaks the rule. A text is empty, or one item whose encoding is nested within the
+-- depth.
 abbrev pub FrameBreaks : Facts → Parameters → Flow → Frame → Rule → Type 0
 FrameBreaks facts settings flow frame TooLong = settings.max < 10 + length frame.text
 FrameBreaks facts settings flow frame PType = kind_of frame.header ≡ OtherPType
@@ -131,7 +132,7 @@ FrameBreaks facts settings flow frame NoTransaction = IsTrue (is_response frame.
 FrameBreaks facts settings flow frame SelectStatus = IsTrue (establishes frame.header) × facts.IsSelected
 FrameBreaks facts settings flow frame _ = ⊥
 
--- a discarded frame, while the session is not over, that as a taken frame breaks no rule
+-- Holds for a discarded frame, while the session has not ended, that would break no rule as an accepted frame.
 abbrev pub IsNoCause : Facts → Parameters → Event → Type 0
 IsNoCause facts settings (Discarded frame) =
     ¬ facts.IsOver × ((rule : Rule) → FrameBreaks facts settings Incoming frame rule → ⊥)
@@ -144,7 +145,7 @@ EventBreaks facts settings _ rule = ⊥
 
 -- ---- all rules
 
--- the entry breaks the rule, where these facts hold of the entries before it
+-- Holds if the entry breaks the rule, given these facts about the entries before it.
 abbrev pub Breaks : Facts → Parameters → Entry → Rule → Type 0
 Breaks facts settings entry Backwards = facts.IsPast entry.time
 Breaks facts settings entry NotUp = IsNotUp facts settings entry.event
@@ -168,11 +169,11 @@ format_rules = TooLong ∷ PType ∷ SType ∷ ControlText ∷ Session ∷ Direc
 abbrev pub transaction_rules : List Rule
 transaction_rules = NotSelected ∷ WBit ∷ Text ∷ SystemInUse ∷ NoTransaction ∷ SelectStatus ∷ []
 
--- all rules, in the order in which they are tried
+-- All rules, in the order in which they are checked.
 abbrev pub all_rules : List Rule
 all_rules = order_rules ++ (timer_rules ++ (format_rules ++ (transaction_rules ++ (NoCause ∷ []))))
 
--- the answer is the first rule of the list that applies, or none
+-- Holds if the result is the first rule of the list that applies, or none.
 abbrev pub IsFirst : (Rule → Type 0) → List Rule → Option Rule → Type 0
 IsFirst Applies [] answer = answer ≡ None
 IsFirst Applies (rule ∷ rules) answer =

@@ -1,4 +1,5 @@
--- The state of a session, and what the rules ask of the entries before one (SEMI E37, section 5, connection states).
+-- The state of a session, and the facts about earlier entries that the rules use (SEMI E37, section 5, connection
+-- states).
 use Rattle.std.specs.Prelude.{◌≡◌, ℕ, ◌+◌, ◌<◌, Bool, true, false, ◌&&◌, List, IsTrue}
 use Rattle.hsms_machine.specs.declared.entry.Entry.{Entry}
 use Rattle.hsms_machine.specs.declared.entry.Event.{Event}
@@ -8,51 +9,51 @@ use Rattle.hsms_machine.specs.Entry.{entry_at, is_up, is_down, SomeBefore}
 use Rattle.hsms_machine.specs.Message.{establishes, separates}
 use Rattle.hsms_machine.specs.Transaction.{Pool, SomeOpen}
 
--- the event enters the state SELECTED
+-- True if the event enters the state SELECTED.
 abbrev pub selects : Event → Bool
 selects (Sent frame) = establishes frame.header
 selects (Taken frame) = establishes frame.header
 selects _ = false
 
--- the event ends the session
+-- True if the event ends the session.
 abbrev pub ends_session : Event → Bool
 ends_session (Sent frame) = separates frame.header
 ends_session (Taken frame) = separates frame.header
 ends_session (Cut cause) = true
 ends_session _ = false
 
--- the entry before position i is a `down`
+-- Holds if the entry before position i is a `down`.
 abbrev pub FollowsDown : List Entry → ℕ → Type 0
 FollowsDown log i = (k : ℕ) × (k + 1 ≡ i) × IsTrue (is_down (entry_at log k).event)
 
--- on the connection of position i, the session has been selected
+-- Holds if the session has been selected, on the connection of position i.
 abbrev pub IsSelected : List Entry → ℕ → Type 0
 IsSelected log i = SomeBefore log i (λ entry. selects entry.event)
 
--- on the connection of position i, the session has ended
+-- Holds if the session has ended, on the connection of position i.
 abbrev pub IsOver : List Entry → ℕ → Type 0
 IsOver log i = SomeBefore log i (λ entry. ends_session entry.event)
 
--- What the rules ask of the entries before one.
+-- The facts about the entries before an entry that the rules use.
 pub record Facts : Type 1 where
   -- the entry before is later than this time
   pub IsPast : ℕ → Type 0
   -- there is an entry before
   pub HasEntry : Type 0
-  -- the connection came up
+  -- the connection was established
   pub HasUp : Type 0
-  -- it went down
+  -- the connection was closed
   pub HasDown : Type 0
   -- the entry before is a `down`
   pub FollowsDown : Type 0
-  -- the connection came up at a time that passes the test
+  -- the connection was established at a time that passes the test
   pub IsUpSince : (ℕ → Bool) → Type 0
   pub IsSelected : Type 0
   pub IsOver : Type 0
   -- an open transaction of the pool passes the test
   pub SomeOpen : Pool → (Transaction → Bool) → Type 0
 
--- the facts before position i of the log
+-- The facts before position i of the log.
 abbrev pub facts_before : List Entry → ℕ → Facts
 facts_before log i = record {
   IsPast = λ time. (k : ℕ) × (k + 1 ≡ i) × (time < (entry_at log k).time);

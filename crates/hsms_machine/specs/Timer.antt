@@ -1,4 +1,4 @@
--- The timers T3, T6 and T7: what is overdue, what may be logged as expired, and when the next one runs out (SEMI E37,
+-- The timers T3, T6 and T7: what is overdue, which expiries may be logged, and when the next timer expires (SEMI E37,
 -- section 10, parameters; SEMI E5, section 8, for T3). Differences of times are compared, in milliseconds.
 use Rattle.std.specs.Prelude.{ℕ, ◌+◌, ◌-◌, ◌^◌, ◌==◌, ◌&&◌, ◌⊎◌, min, List, [], ◌∷◌, Option, Some, None, nat_lt, nat_le, if◌then◌else◌}
 use Rattle.std.specs.List.{filter_map}
@@ -13,21 +13,21 @@ use Rattle.hsms_machine.specs.Session.{Facts}
 
 -- ---- what is overdue at a time
 
--- nothing is overdue once the session is over, or directly after `down`
+-- Holds unless the session has ended or the entry before is a `down`: then nothing is overdue.
 abbrev pub IsTimed : Facts → Type 0
 IsTimed facts = ¬ facts.IsOver × ¬ facts.FollowsDown
 
--- an open sent data transaction has waited for longer than T3
+-- Holds if an open sent data transaction has waited for longer than T3.
 abbrev pub IsT3Overdue : Facts → Parameters → ℕ → Type 0
 IsT3Overdue facts settings time =
     IsTimed facts × facts.SomeOpen SentData (λ opened. nat_lt settings.t3 (time - opened.time))
 
--- an open sent Select.req or Linktest.req has waited for longer than T6
+-- Holds if an open sent Select.req or Linktest.req has waited for longer than T6.
 abbrev pub IsT6Overdue : Facts → Parameters → ℕ → Type 0
 IsT6Overdue facts settings time =
     IsTimed facts × facts.SomeOpen SentControl (λ opened. nat_lt settings.t6 (time - opened.time))
 
--- the connection is up and has not been selected for longer than T7
+-- Holds if the connection is established and has not been selected for longer than T7.
 abbrev pub IsT7Overdue : Facts → Parameters → ℕ → Type 0
 IsT7Overdue facts settings time =
     IsTimed facts × ¬ facts.IsSelected × facts.IsUpSince (λ up. nat_lt settings.t7 (time - up))
@@ -47,23 +47,23 @@ IsNotDue facts settings time (T3 system) =
 IsNotDue facts settings time (Cut cause) = IsCutNotDue facts settings time cause
 IsNotDue facts settings time _ = ⊥
 
--- ---- the next moment at which a timer runs out
+-- ---- the next time at which a timer expires
 
--- the moment at which the limit has passed since a time, where a number of 64 bits has it
+-- The time at which the limit has passed since a time, if it fits in 64 bits.
 abbrev pub due_at : ℕ → ℕ → Option ℕ
 due_at limit time = if nat_lt (time + limit) (2 ^ 64) then Some (time + limit) else None
 
--- the moments at which the transactions have waited for the limit
+-- The times at which the transactions have waited for the limit.
 abbrev pub due_times : ℕ → List Transaction → List ℕ
 due_times limit opened = filter_map (λ transaction. due_at limit transaction.time) opened
 
--- the lesser of two moments, where there are two
+-- The earlier of two times, if there are two.
 abbrev pub least_of : Option ℕ → Option ℕ → Option ℕ
 least_of None other = other
 least_of (Some one) None = Some one
 least_of (Some one) (Some other) = Some (min one other)
 
--- the least of the moments, or none where there is none
+-- The earliest of the times, or none if there is none.
 abbrev pub least_in : List ℕ → Option ℕ
 least_in [] = None
 least_in (moment ∷ moments) = least_of (Some moment) (least_in moments)

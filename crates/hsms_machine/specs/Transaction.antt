@@ -12,9 +12,10 @@ use Rattle.hsms_machine.specs.declared.open_transactions.Transaction.{Transactio
 use Rattle.hsms_machine.specs.Entry.{entry_at, IsOnConnection}
 use Rattle.hsms_machine.specs.Message.{is_reject_kind, is_data_request, is_control_request, is_request}
 
--- ---- answers
+-- ---- responses
 
--- a reply to a primary with the W bit has its stream, and its function plus one or zero
+-- True for a reply to a primary with the W bit: it has the primary's stream, and the primary's function plus one, or
+-- function zero.
 abbrev pub is_reply_to : Header → Header → Bool
 is_reply_to primary reply =
     wait_of primary
@@ -27,46 +28,46 @@ answers_kind SelectReq SelectRsp request response = true
 answers_kind LinktestReq LinktestRsp request response = true
 answers_kind _ _ request response = false
 
--- the response, which goes in the other direction, answers the request
+-- True if the response, sent in the other direction, answers the request.
 unfoldable pub answers : Header → Header → Bool
 answers request response =
     (response.system == request.system)
     && answers_kind (kind_of request) (kind_of response) request response
 
--- the message, which goes in the other direction, is a Reject with the request's system bytes
+-- True if the message, sent in the other direction, is a Reject with the request's system bytes.
 unfoldable pub rejects : Header → Header → Bool
 rejects request other = (other.system == request.system) && is_reject_kind (kind_of other)
 
--- the message, which goes in the other direction, ends the transaction that the request opened
+-- True if the message, sent in the other direction, ends the transaction that the request opened.
 abbrev pub concludes : Header → Header → Bool
 concludes request other = answers request other || rejects request other
 
 -- ---- opening and closing
 
--- the entry opens a transaction
+-- True if the event opens a transaction.
 abbrev pub opens : Event → Bool
 opens (Sent frame) = is_request frame.header
 opens (Taken frame) = is_request frame.header
 opens _ = false
 
--- the event closes a transaction that a sent request opened
+-- True if the event closes a transaction that a sent request opened.
 abbrev pub closes_sent : Header → Event → Bool
 closes_sent request (Taken frame) = concludes request frame.header
 closes_sent request (T3 system) = is_data_request request && (request.system == system)
 closes_sent request _ = false
 
--- the event closes a transaction that a taken request opened
+-- True if the event closes a transaction that an accepted request opened.
 abbrev pub closes_taken : Header → Event → Bool
 closes_taken request (Sent frame) = concludes request frame.header
 closes_taken request _ = false
 
--- the later event closes the transaction that the earlier one opened
+-- True if the later event closes the transaction that the earlier one opened.
 abbrev pub closes : Event → Event → Bool
 closes (Sent frame) later = closes_sent frame.header later
 closes (Taken frame) later = closes_taken frame.header later
 closes _ later = false
 
--- before position i of the log, the transaction that the entry at j opened is open
+-- Holds if the transaction that the entry at j opened is open before position i of the log.
 pub record IsOpen (log : List Entry) (j i : ℕ) : Type 0 where
   pub opened : IsTrue (opens (entry_at log j).event)
   pub earlier : IsOnConnection log j i
@@ -74,7 +75,7 @@ pub record IsOpen (log : List Entry) (j i : ℕ) : Type 0 where
 
 -- ---- by direction and kind
 
--- transactions are told apart by who opened them, and by whether they are of data or of control
+-- The pools of transactions, which differ in who opened them, and in whether they are of data or of control.
 pub data Pool : Type 0 where
   SentData : Pool
   SentControl : Pool
@@ -91,7 +92,7 @@ opened_as_at TakenData time (Taken frame) = opened_by is_data_request time frame
 opened_as_at TakenControl time (Taken frame) = opened_by is_control_request time frame.header
 opened_as_at _ time _ = None
 
--- the transaction of this pool that the entry opens, if it opens one
+-- The transaction of this pool that the entry opens, if it opens one.
 abbrev pub opened_as : Pool → Entry → Option Transaction
 opened_as pool entry = opened_as_at pool entry.time entry.event
 
@@ -99,6 +100,6 @@ abbrev pub passes : (Transaction → Bool) → Option Transaction → Bool
 passes test None = false
 passes test (Some transaction) = test transaction
 
--- before position i, some open transaction of the pool passes the test
+-- Holds if, before position i, some open transaction of the pool passes the test.
 abbrev pub SomeOpen : List Entry → ℕ → Pool → (Transaction → Bool) → Type 0
 SomeOpen log i pool test = (j : ℕ) × IsOpen log j i × IsTrue (passes test (opened_as pool (entry_at log j)))

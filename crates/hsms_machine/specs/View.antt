@@ -1,4 +1,4 @@
--- What a tracker keeps of a log (this project's profile): the phase, two times, and what is open.
+-- What a tracker keeps of a log (this project's profile): the phase, two times, and the open transactions.
 use Rattle.std.specs.Prelude.{◌≡◌, ℕ, ◌+◌, ◌-◌, ◌==◌, Bool, true, false, ◌&&◌, ◌||◌, not, List, [], ◌∷◌, ◌++◌, Option, Some, None, Result, IfOk, length, fold, option_to_list, if◌then◌else◌}
 use Rattle.std.specs.List.{list_any, filter_map}
 use Rattle.hsms_frame.specs.declared.header.Header.{Header}
@@ -15,9 +15,9 @@ use Rattle.hsms_machine.specs.Session.{selects, ends_session}
 use Rattle.hsms_machine.specs.Timer.{due_at, due_times, least_in}
 use Rattle.hsms_machine.specs.Run.{Broken, IsRun}
 
--- ---- what is open
+-- ---- open transactions
 
--- the entries that open a transaction which no later entry closes, in order
+-- The entries that open a transaction which no later entry closes, in order.
 abbrev pub open_entries : List Entry → List Entry
 open_entries [] = []
 open_entries (entry ∷ later) =
@@ -25,20 +25,20 @@ open_entries (entry ∷ later) =
     then entry ∷ open_entries later
     else open_entries later
 
--- the open transactions of a pool, in order of opening
+-- The open transactions of a pool, in order of opening.
 abbrev pub open_of : Pool → List Entry → List Transaction
 open_of pool log = filter_map (opened_as pool) (open_entries (connection_of log))
 
 -- ---- the phase and the times
 
--- the phase, by whether the connection went down, the session ended and it was selected
+-- The phase, by whether the connection was closed, the session ended and it was selected.
 abbrev pub phase_by : Bool → Bool → Bool → Phase
 phase_by true ended selected = Gone
 phase_by false true selected = Over
 phase_by false false true = Selected
 phase_by false false false = NotSelected
 
--- the phase after the entries of a connection
+-- The phase after the entries of a connection.
 abbrev pub phase_in : List Entry → Phase
 phase_in [] = Before
 phase_in (entry ∷ later) =
@@ -50,13 +50,13 @@ phase_in (entry ∷ later) =
 abbrev pub phase_of : List Entry → Phase
 phase_of log = phase_in (connection_of log)
 
--- the time of the last `up`, or 0
+-- The time of the last `up`, or 0.
 abbrev pub up_time_of : List Entry → ℕ
 up_time_of log = fold (λ time entry. if is_up entry.event then entry.time else time) 0 log
 
 -- ---- the view
 
--- what the rules need to know of a log
+-- What the rules need to know of a log.
 abbrev pub view_of : Parameters → List Entry → View
 view_of settings log = record {
   settings = settings;
@@ -69,38 +69,38 @@ view_of settings log = record {
   taken_control = open_of TakenControl log;
 }
 
--- the log is a run, and this is its view
+-- Holds if the log is a run, and this is its view.
 pub record HasView (settings : Parameters) (log : List Entry) (view : View) : Type 0 where
   pub run : IsRun settings log
   pub seen : view_of settings log ≡ view
 
--- some run has this view
+-- Holds if some run has this view.
 abbrev pub HasRun : View → Type 0
 HasRun view = (log : List Entry) × HasView view.settings log view
 
--- the fact holds of every run that has this view
+-- Holds if the fact holds for every run with this view.
 abbrev pub ForEachRun : View → (List Entry → Type 0) → Type 0
 ForEachRun view Holds = (log : List Entry) → HasView view.settings log view → Holds log
 
--- after every run that has this view, the answer is the first rule that the entry breaks, or none
+-- Holds if, after every run with this view, the result is the first rule that the entry breaks, or none.
 abbrev pub IsBrokenAfter : View → Entry → Option Rule → Type 0
 IsBrokenAfter view entry answer = ForEachRun view (λ log. Broken view.settings log entry answer)
 
--- every run that has this view is a run with the entry at its end too, and has the later view then
+-- Holds if every run with this view, with the entry appended, is a run with the later view.
 abbrev pub LeadsTo : View → Entry → View → Type 0
 LeadsTo view entry later = ForEachRun view (λ log. HasView view.settings (log ++ entry ∷ []) later)
 
--- where the answer is that no rule is broken, the fact holds
+-- Holds if the fact holds whenever the result is that no rule is broken.
 abbrev pub IfValid : {E : Type 0} → Result (Option Rule) E → Type 0 → Type 0
 IfValid result Holds = IfOk result (λ answer. answer ≡ None → Holds)
 
--- ---- what is read from a view
+-- ---- values computed from a view
 
--- the open sent data primaries
+-- The number of open sent data primaries.
 abbrev pub waiting_of : View → ℕ
 waiting_of view = length view.sent_data
 
--- all open sent transactions
+-- The number of open sent transactions.
 abbrev pub own_open_of : View → ℕ
 own_open_of view = length view.sent_data + length view.sent_control
 
@@ -109,24 +109,24 @@ due_by_phase NotSelected requests selection = requests ++ selection
 due_by_phase Selected requests selection = requests
 due_by_phase _ requests selection = []
 
--- the moments at which a timer runs out: T3 and T6 in the two connected phases, T7 while the session is not selected
+-- The times at which a timer expires: T3 and T6 in the two connected phases, T7 while the session is not selected.
 abbrev pub due_times_of : View → List ℕ
 due_times_of view =
     due_by_phase view.phase
     (due_times view.settings.t3 view.sent_data ++ due_times view.settings.t6 view.sent_control)
     (option_to_list (due_at view.settings.t7 view.up_time))
 
--- the least of them
+-- The earliest of these times.
 abbrev pub next_due_of : View → Option ℕ
 next_due_of view = least_in (due_times_of view)
 
--- an open sent transaction has these system bytes
+-- True if an open sent transaction has these system bytes.
 abbrev pub in_use_of : View → ℕ → Bool
 in_use_of view system =
     list_any (λ opened. opened.header.system == system) view.sent_data
     || list_any (λ opened. opened.header.system == system) view.sent_control
 
--- the time and the header of the first of the transactions
+-- The time and the header of the first of the transactions.
 abbrev pub oldest_of : List Transaction → Option (ℕ × Header)
 oldest_of [] = None
 oldest_of (opened ∷ later) = Some (opened.time, opened.header)

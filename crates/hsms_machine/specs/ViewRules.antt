@@ -1,5 +1,5 @@
--- How a view answers what the rules ask, and how one entry changes it: the rules once more, without positions of a log.
--- What a tracker answers is said both ways, of each log with its view and of the view alone.
+-- How a view decides the rules, and how one entry changes it: the rules again, without positions of a log. The results
+-- of a tracker are specified both ways: for each log with its view, and for the view alone.
 use Rattle.std.specs.Prelude.{◌≡◌, ◌≢◌, ℕ, ◌<◌, ◌==◌, Bool, true, false, ◌&&◌, ◌||◌, not, List, [], ◌++◌, Option, filter, IsTrue, if◌then◌else◌, option_to_list}
 use Rattle.std.specs.List.{list_any}
 use Rattle.hsms_machine.specs.declared.entry.Entry.{Entry}
@@ -20,7 +20,7 @@ use Rattle.hsms_machine.specs.View.{phase_by}
 use Rattle.hsms_machine.specs.Rule.{Breaks, IsFirst, all_rules}
 use Rattle.hsms_machine.specs.OpeningOrder.{IsOrdered, AreUntil, uses}
 
--- ---- what the rules ask
+-- ---- facts that the rules use
 
 abbrev pub pool_of : View → Pool → List Transaction
 pool_of view SentData = view.sent_data
@@ -33,7 +33,7 @@ is_connected Before = false
 is_connected Gone = false
 is_connected _ = true
 
--- what the rules ask, as the view tells it
+-- The facts that the rules use, by the view.
 abbrev pub facts_of : View → Facts
 facts_of view = record {
   IsPast = λ time. time < view.last_time;
@@ -47,11 +47,11 @@ facts_of view = record {
   SomeOpen = λ pool test. IsTrue (list_any test (pool_of view pool));
 }
 
--- the answer is the first rule that the entry breaks, as the view tells it, or none
+-- Holds if the result is the first rule that the entry breaks, by the view, or none.
 abbrev pub IsBrokenAt : View → Entry → Option Rule → Type 0
 IsBrokenAt view entry answer = IsFirst (Breaks (facts_of view) view.settings entry) all_rules answer
 
--- ---- one entry more
+-- ---- one more entry
 
 abbrev pub is_gone : Phase → Bool
 is_gone Gone = true
@@ -65,13 +65,13 @@ abbrev pub is_selected : Phase → Bool
 is_selected Selected = true
 is_selected _ = false
 
--- the phase after an event: an `up` begins anew
+-- The phase after an event: an `up` starts again.
 abbrev pub phase_after : Phase → Event → Phase
 phase_after phase event =
     if is_up event then NotSelected else
     phase_by (is_gone phase || is_down event) (is_over phase || ends_session event) (is_selected phase || selects event)
 
--- the event closes the transaction of the pool
+-- True if the event closes the transaction of the pool.
 abbrev pub is_closed_by : Pool → Event → Transaction → Bool
 is_closed_by SentData (Taken frame) opened = concludes opened.header frame.header
 is_closed_by SentControl (Taken frame) opened = concludes opened.header frame.header
@@ -80,14 +80,14 @@ is_closed_by TakenControl (Sent frame) opened = concludes opened.header frame.he
 is_closed_by SentData (T3 system) opened = opened.header.system == system
 is_closed_by _ event opened = false
 
--- the open transactions of the pool after an entry: none after `up`
+-- The open transactions of the pool after an entry: none after `up`.
 abbrev pub pool_after : Pool → List Transaction → Entry → List Transaction
 pool_after pool opened entry =
     if is_up entry.event then [] else
     filter (λ transaction. not (is_closed_by pool entry.event transaction)) opened
     ++ option_to_list (opened_as pool entry)
 
--- the view with what is open after an entry, and all else as before
+-- The view with the transactions that are open after an entry, and the rest unchanged.
 abbrev pub pools_after : View → Entry → View
 pools_after view entry = record view {
   sent_data = pool_after SentData view.sent_data entry;
@@ -96,7 +96,7 @@ pools_after view entry = record view {
   taken_control = pool_after TakenControl view.taken_control entry;
 }
 
--- the view after a lawful entry
+-- The view after a valid entry.
 abbrev pub view_after : View → Entry → View
 view_after view entry = record {
   settings = view.settings;
@@ -111,14 +111,14 @@ view_after view entry = record {
 
 -- ---- in order of opening
 
--- what is open was opened by the time of the last entry, and is in order in each of the four lists
+-- Holds if each open transaction was opened by the time of the last entry, and each of the four lists is in order.
 pub record IsInOrder (view : View) : Type 0 where
   pub sent_data : IsOrdered view.last_time view.sent_data
   pub sent_control : IsOrdered view.last_time view.sent_control
   pub taken_data : IsOrdered view.last_time view.taken_data
   pub taken_control : IsOrdered view.last_time view.taken_control
 
--- a request has the system bytes of no open transaction of its direction
+-- Holds unless a request has the system bytes of an open transaction of its direction.
 abbrev pub IsFresh : View → Act → Type 0
 IsFresh view (ActSent header) =
     IsTrue (is_request header)
@@ -128,7 +128,7 @@ IsFresh view (ActTaken header) =
     → (uses header.system view.taken_data ≡ false) × (uses header.system view.taken_control ≡ false)
 IsFresh view act = Unit {0}
 
--- nothing that is open was opened after this time
+-- Holds if no open transaction was opened after this time.
 pub record IsUntil (time : ℕ) (view : View) : Type 0 where
   pub sent_data : AreUntil time view.sent_data
   pub sent_control : AreUntil time view.sent_control

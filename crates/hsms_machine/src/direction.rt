@@ -1,6 +1,6 @@
-//! Which way a frame goes.
+//! The direction of a frame.
 
-/// Which way a frame goes, as the logging end sees it.
+/// The direction of a frame, as the logging endpoint sees it.
 #[derive(Clone, Copy, PartialEq)]
 pub enum Flow {
     Outgoing,

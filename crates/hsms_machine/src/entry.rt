@@ -1,65 +1,65 @@
-//! What a session log says.
+//! Entries of a session log.
 
 use crate::message::Message;
 use hsms_frame::{Frame, Header};
 use std::marker::Model;
 
-/// Why a connection was cut by its own end (SEMI E37, section 10, parameters).
+/// Why an endpoint cut its connection (SEMI E37, section 10, parameters).
 #[derive(Clone, Copy, Debug, PartialEq, Eq)]
 pub enum Cause {
     /// T6 expired: a Select.req or Linktest.req got no response in time.
     T6,
     /// T7 expired: the connection was not selected in time.
     T7,
-    /// T8 expired: the octets of one message came too slowly.
+    /// T8 expired: the bytes of one message came too slowly.
     T8,
-    /// The length octets of a message were below ten or past the greatest size.
+    /// The length field of a message was below ten or above the maximum size.
     Length,
 }
 
-/// What a log says of a frame.
+/// The mark of a frame in a log.
 #[derive(Clone, Copy, Debug, PartialEq, Eq)]
 pub enum Mark {
-    /// It was sent.
+    /// The frame was sent.
     Sent,
-    /// It was received and taken.
+    /// The frame was received and accepted.
     Taken,
-    /// It was received and thrown away, since taking it would break a rule.
+    /// The frame was received and discarded, because accepting it would break a rule.
     Discarded,
 }
 
-/// What happened, as the end that logs saw it.
+/// An event, as the logging endpoint saw it.
 #[derive(Debug, Drop)]
 pub enum Event {
-    /// The connection came up.
+    /// The connection was established.
     Up,
     /// A frame was sent.
     Sent(Frame),
-    /// A frame was received and taken.
+    /// A frame was received and accepted.
     Taken(Frame),
-    /// A frame was received and thrown away, since taking it would break a rule.
+    /// A frame was received and discarded, because accepting it would break a rule.
     Discarded(Frame),
     /// T3 expired for the sent primary with these system bytes (SEMI E5, section 8, transactions).
     T3(u32),
     /// The connection was cut.
     Cut(Cause),
-    /// The connection went down.
+    /// The connection was closed.
     Down,
 }
 
 /// An entry of a session log.
 #[derive(Debug, Drop)]
 pub struct Entry {
-    /// When it happened, in milliseconds from any beginning.
+    /// The time of the event, in milliseconds from any start.
     pub time: u64,
-    /// What happened.
+    /// The event.
     pub event: Event,
 }
 
 impl Entry {
     ghost use Rattle.std.specs.Prelude.{◌≡◌};
 
-    /// The entry, with the text of its frame where it lies.
+    /// Returns the entry with the text of its frame borrowed.
     pub fn as_ref<'a>(&'a self) -> EntryRef<'a>
         ensures { result ≡ self.now }
     {
@@ -77,8 +77,8 @@ impl Entry {
     }
 }
 
-/// An event without the text of its frame, and with the kind of its message, which is found once. What changes with an
-/// entry, and most of the rules, ask for no text.
+/// An event without the text of its frame, and with the kind of its message, which is computed once. The effect of an
+/// entry, and most of the rules, do not depend on the text.
 #[derive(Clone, Copy)]
 pub enum Act {
     Up,
@@ -90,8 +90,8 @@ pub enum Act {
     Down,
 }
 
-/// An entry of a session log whose text lies elsewhere, in an [`Entry`] or among octets that were read. A tracker judges
-/// it without a copy. Contracts see it as the entry.
+/// An entry of a session log whose text is stored elsewhere, in an [`Entry`] or in a buffer that was read. A tracker
+/// checks it without a copy. Contracts see it as the entry.
 #[derive(Drop)]
 pub struct EntryRef<'a> {
     time: u64,
@@ -113,7 +113,7 @@ impl<'a> EntryRef<'a> {
     ghost use Rattle.hsms_machine.specs.Entry.{frame_entry};
     ghost use Rattle.hsms_machine.specs.EventParts.{entry_of};
 
-    /// The entry of a frame that has this mark, header and text.
+    /// Creates the entry of a frame with this mark, header and text.
     #[inline(always)]
     pub fn of_frame(time: u64, mark: Mark, header: Header, text: &'a [u8]) -> EntryRef<'a>
         ensures { result ≡ frame_entry time mark header text.now }
@@ -135,7 +135,7 @@ impl<'a> EntryRef<'a> {
         EntryRef { time, act, text }
     }
 
-    /// The time, the event but for its text, and the text.
+    /// Returns the time, the event without its text, and the text.
     #[inline(always)]
     pub(crate) fn parts(&self) -> (u64, &Act, &[u8])
         ensures { entry_of result.0 result.1.now result.2.now ≡ self.now }

@@ -1,21 +1,21 @@
-//! The session machine of HSMS (SEMI E37, E37.1): the rules that the entries of a session log keep,
-//! and the tracker that tells, entry by entry, the first rule that is broken. A log is a list of
-//! entries, each with its time in milliseconds: the connection came up, a frame was sent, taken or
-//! discarded, a timer expired, the connection was cut or went down. The tracker keeps what the rules
-//! need to know of the entries so far, and no log. It reads no clock and no socket, so an auditor
-//! asks it about logged entries, and an end of a connection about what it is going to do.
+//! The session machine of HSMS (SEMI E37, E37.1): the rules for the entries of a session log, and a tracker that
+//! returns the first rule that each entry breaks. A log is a list of entries, each with its time in milliseconds. An
+//! entry is one of these events: the connection was established, a frame was sent, accepted or discarded, a timer
+//! expired, the connection was cut or closed. The tracker keeps what the rules need to know of the entries so far, and
+//! no log. It reads no clock and no socket. So an auditor can check logged entries with it, and an endpoint can check
+//! what it is about to do.
 //!
-//! A tracker begins with the settings, and is told each entry in turn:
+//! Create a tracker with the settings, and pass each entry in turn:
 //!
 //! ```
 //! let settings = Settings::new(Role::Host, Side::Active, 0, 45000, 6000, 10000, 5000, 1048576, 32).ok_or("settings")?;
 //! let mut tracker = Tracker::new(alloc, settings);
-//! let broken = tracker.check(&entry);  // what `step` would answer; the tracker stays as it is
+//! let broken = tracker.check(&entry);  // what `step` would return; the tracker is unchanged
 //! match tracker.step(&entry)? {
-//!     None => {}                       // the entry may stand here, and is taken in
-//!     Some(rule) => {}                 // the first rule that it breaks; the tracker stays as it is
+//!     None => {}                       // the entry is valid, and is added
+//!     Some(rule) => {}                 // the first rule that it breaks; the tracker is unchanged
 //! }
-//! let due = tracker.next_due();        // when the next timer runs out, in ms
+//! let due = tracker.next_due();        // when the next timer expires, in ms
 //! ```
 #![tactic(auto)]
 

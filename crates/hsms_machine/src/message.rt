@@ -1,4 +1,4 @@
-//! What the rules ask of a header.
+//! What the rules need to know of a header.
 
 ghost use Rattle.std.specs.Prelude.{◌≡◌};
 ghost use Rattle.hsms_machine.specs.Message.{is_data_request as opens_data_transaction, is_control_request as opens_control_transaction, establishes as is_establishment, is_data as carries_data, is_control as is_control_message, is_response as is_response_message, may_conclude as is_of_conclusive_kind, has_right_session as is_session_right, has_right_direction as is_direction_right, has_right_wait as is_wait_right};
@@ -9,10 +9,10 @@ use crate::settings::{Role, Settings, Side};
 use hsms_frame::{CONTROL_SESSION, Header, Kind, kind};
 use std::marker::Model;
 
-/// The stream by which equipment tells of errors (SEMI E5).
+/// The stream that equipment uses to report errors (SEMI E5).
 const ERROR_STREAM: u8 = 9;
 
-/// A header, and the kind of its message: many rules ask for the kind, and it is found once.
+/// A header, and the kind of its message. Many rules use the kind, so it is computed once.
 #[derive(Clone, Copy)]
 pub struct Message {
     kind: Kind,
@@ -39,7 +39,7 @@ impl Model for Message {
 impl Message {
     ghost use Rattle.hsms_frame.specs.Header.{kind_of};
 
-    /// The message of a header.
+    /// Creates the message of a header.
     pub fn of(header: Header) -> Message
         ensures { result ≡ header }
     {
@@ -47,14 +47,14 @@ impl Message {
         Message { kind, header }
     }
 
-    /// Its header.
+    /// Returns the header.
     pub fn header(self) -> Header
         ensures { result ≡ self }
     {
         self.header
     }
 
-    /// Its kind.
+    /// Returns the kind.
     pub fn kind(self) -> Kind
         ensures { result ≡ kind_of self }
     {
@@ -62,7 +62,7 @@ impl Message {
     }
 }
 
-/// Whether the message is a primary that asks for a reply.
+/// Returns whether the message is a primary that requests a reply.
 #[tactic(auto, unfolding(crate::specs::Message::is_data_request))]
 pub fn is_data_request(message: Message) -> bool
     ensures { result ≡ opens_data_transaction message }
@@ -70,7 +70,7 @@ pub fn is_data_request(message: Message) -> bool
     matches!(message.kind(), Kind::Primary) && message.header().wait()
 }
 
-/// Whether the message is a Select.req or a Linktest.req.
+/// Returns whether the message is a Select.req or a Linktest.req.
 #[tactic(auto, unfolding(crate::specs::Message::is_control_request))]
 pub fn is_control_request(message: Message) -> bool
     ensures { result ≡ opens_control_transaction message }
@@ -87,7 +87,7 @@ fn is_reply_to(primary: Header, reply: Header) -> bool
         && (function == 0 || function - 1 == primary.function())
 }
 
-/// Whether the response, which goes in the other direction, answers the request.
+/// Returns whether the response, sent in the other direction, answers the request.
 #[tactic(auto, unfolding(crate::specs::Transaction::answers))]
 pub fn answers(request: Header, response: Message) -> bool
     ensures { result ≡ is_answer request response }
@@ -103,7 +103,7 @@ pub fn answers(request: Header, response: Message) -> bool
     }
 }
 
-/// Whether the message, which goes in the other direction, ends the request's transaction: it answers or rejects it.
+/// Returns whether the message, sent in the other direction, ends the request's transaction: it answers or rejects it.
 #[tactic(auto, unfolding(crate::specs::Transaction::rejects))]
 pub fn concludes(request: Header, other: Message) -> bool
     ensures { result ≡ is_conclusion request other }
@@ -112,7 +112,7 @@ pub fn concludes(request: Header, other: Message) -> bool
         || (other.header().system == request.system && matches!(other.kind(), Kind::Reject))
 }
 
-/// Whether the message is of a kind that may end a transaction.
+/// Returns whether the message is of a kind that may end a transaction.
 #[tactic(auto, unfolding(crate::specs::Message::may_conclude))]
 pub fn may_conclude(message: Message) -> bool
     ensures { result ≡ is_of_conclusive_kind message }
@@ -123,7 +123,7 @@ pub fn may_conclude(message: Message) -> bool
     )
 }
 
-/// Whether the message is a Select.rsp with status 0.
+/// Returns whether the message is a Select.rsp with status 0.
 #[tactic(auto, unfolding(crate::specs::Message::establishes))]
 pub fn establishes(message: Message) -> bool
     ensures { result ≡ is_establishment message }
@@ -158,7 +158,7 @@ pub fn is_response(message: Message) -> bool
     )
 }
 
-/// Whether the session ID is the one that the message's kind has.
+/// Returns whether the session ID is right for the message's kind.
 #[tactic(auto, unfolding(crate::specs::Message::has_right_session))]
 pub fn has_right_session(settings: Settings, message: Message) -> bool
     ensures { result ≡ is_session_right settings message }
@@ -170,7 +170,7 @@ pub fn has_right_session(settings: Settings, message: Message) -> bool
     }
 }
 
-/// Whether the end from which the message comes may send it.
+/// Returns whether the endpoint that sends the message may send it.
 #[tactic(auto, unfolding(crate::specs::Message::has_right_direction))]
 pub fn has_right_direction(settings: Settings, flow: Flow, message: Message) -> bool
     ensures { result ≡ is_direction_right settings flow message }
@@ -188,7 +188,7 @@ pub fn has_right_direction(settings: Settings, flow: Flow, message: Message) -> 
     }
 }
 
-/// Whether the message may have its W bit as it is.
+/// Returns whether the message may have this value of its W bit.
 #[tactic(auto, unfolding(crate::specs::Message::has_right_wait))]
 pub fn has_right_wait(message: Message) -> bool
     ensures { result ≡ is_wait_right message }

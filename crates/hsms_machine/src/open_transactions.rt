@@ -1,4 +1,4 @@
-//! Transactions that are open, of one direction and kind.
+//! Open transactions of one direction and kind.
 
 ghost use Rattle.std.specs.Prelude.{◌≡◌};
 ghost use Rattle.hsms_machine.specs.Timer.{least_of};
@@ -16,12 +16,12 @@ pub struct Transaction {
     pub header: Header,
 }
 
-/// How many are open at most, which is more than memory has room for.
+/// The maximum number of open transactions, which exceeds what memory can hold.
 const MOST: usize = usize::MAX / 4;
 
-/// Open transactions, in order of opening: no two with the same system bytes, and none before an earlier one. One that
-/// is opened where no other is open stands beside the map of those that are opened behind it: where one is open at a
-/// time, none is hashed.
+/// Open transactions, in order of opening. No two have the same system bytes, and none was opened before an earlier
+/// one. A transaction that is opened when no other is open is stored outside the map of those that are opened after it.
+/// So nothing is hashed if one transaction is open at a time.
 #[derive(Debug, Drop)]
 pub struct Transactions {
     oldest: Option<Transaction>,
@@ -47,7 +47,7 @@ impl Transactions {
     ghost use Rattle.hsms_machine.specs.Transaction.{answers as is_answer, concludes as is_conclusion};
     ghost use Rattle.hsms_machine.specs.OpeningOrder.{AreInOrder, AreApart, AreUntil, uses, first_of};
 
-    /// No transaction.
+    /// Creates a list without transactions.
     pub fn new(alloc: Global) -> Self
         ensures { result ≡ [] }
     {
@@ -57,7 +57,7 @@ impl Transactions {
         }
     }
 
-    /// How many are open.
+    /// Returns how many are open.
     pub fn len(&self) -> usize
         ensures value { result ≡ length self.now }
         ensures bound { result < 2 ^ 63 }
@@ -68,7 +68,7 @@ impl Transactions {
         }
     }
 
-    /// Says that they are in order of opening, and no two with the same system bytes. Does nothing when it runs.
+    /// Proves that they are in order of opening, and no two have the same system bytes. Does nothing at run time.
     pub fn keeps_order(&self)
         ensures in_order { AreInOrder self.now }
         ensures apart { AreApart self.now }
@@ -76,7 +76,7 @@ impl Transactions {
         let _oldest = &self.oldest;
     }
 
-    /// The transaction that was opened first.
+    /// Returns the transaction that was opened first.
     pub fn first(&self) -> Option<Transaction>
         ensures first { result ≡ first_of self.now }
         ensures in_order { AreInOrder self.now }
@@ -87,7 +87,7 @@ impl Transactions {
         }
     }
 
-    /// The transaction of these system bytes.
+    /// Returns the transaction with these system bytes.
     #[inline(always)]
     pub fn get(&self, system: u32) -> Option<Transaction>
         ensures found { result ≡ find (λ opened. opened.header.system == system) self.now }
@@ -100,7 +100,7 @@ impl Transactions {
         }
     }
 
-    /// When the transaction was opened that has the message's system bytes.
+    /// Returns when the transaction with the message's system bytes was opened.
     pub fn time_of(&self, message: Message) -> Option<u64>
         ensures time { IfSome result (λ time. list_any (λ opened. (opened.header.system == message.system) && (opened.time == time)) self.now ≡ true) }
         ensures none { IfNone result (uses message.system self.now ≡ false) }
@@ -109,7 +109,7 @@ impl Transactions {
         Some(opened.time)
     }
 
-    /// Puts a transaction at the end.
+    /// Appends a transaction.
     #[inline(always)]
     pub fn push(&mut self, transaction: Transaction) -> Result<(), AllocError>
         requires fresh { uses transaction.header.system self.old ≡ false }
@@ -127,7 +127,7 @@ impl Transactions {
         self.queue.push(transaction)
     }
 
-    /// Whether it has these system bytes.
+    /// Returns whether it has these system bytes.
     #[inline(always)]
     fn has_system(oldest: Option<Transaction>, system: u32) -> bool
         ensures { result ≡ uses system (option_to_list oldest) }
@@ -138,7 +138,7 @@ impl Transactions {
         }
     }
 
-    /// What is left of it after the message.
+    /// Returns the transaction, unless the message ends it.
     #[inline(always)]
     fn unconcluded(oldest: Option<Transaction>, other: Message) -> Option<Transaction>
         ensures { option_to_list result ≡ filter (λ opened. not (is_conclusion opened.header other)) (option_to_list oldest) }
@@ -155,7 +155,7 @@ impl Transactions {
         }
     }
 
-    /// Whether some transaction has waited for longer than the limit.
+    /// Returns whether some transaction has waited for longer than the limit.
     pub fn has_overdue(&self, now: u64, limit: u32) -> bool
         ensures { result ≡ list_any (λ opened. nat_lt limit (now - opened.time)) self.now }
     {
@@ -165,7 +165,7 @@ impl Transactions {
         }
     }
 
-    /// Whether some transaction has waited for at least the limit.
+    /// Returns whether some transaction has waited for at least the limit.
     pub fn has_due(&self, now: u64, limit: u32) -> bool
         ensures { result ≡ list_any (λ opened. nat_le limit (now - opened.time)) self.now }
     {
@@ -175,7 +175,7 @@ impl Transactions {
         }
     }
 
-    /// Whether the transaction of these system bytes has waited for at least the limit.
+    /// Returns whether the transaction with these system bytes has waited for at least the limit.
     #[inline(never)]
     pub fn is_due(&self, system: u32, now: u64, limit: u32) -> bool
         ensures { result ≡ list_any (λ opened. (opened.header.system == system) && nat_le limit (now - opened.time)) self.now }
@@ -186,7 +186,7 @@ impl Transactions {
         }
     }
 
-    /// Whether some transaction has these system bytes.
+    /// Returns whether some transaction has these system bytes.
     #[inline(always)]
     pub fn is_in_use(&self, system: u32) -> bool
         ensures { result ≡ uses system self.now }
@@ -194,7 +194,7 @@ impl Transactions {
         self.get(system).is_some()
     }
 
-    /// Whether the message, which goes in the other direction, answers a transaction.
+    /// Returns whether the message, sent in the other direction, answers a transaction.
     #[inline(always)]
     pub fn has_request_of(&self, response: Message) -> bool
         ensures { result ≡ list_any (λ opened. is_answer opened.header response) self.now }
@@ -205,7 +205,7 @@ impl Transactions {
         }
     }
 
-    /// The least moment at which a transaction has waited for the limit.
+    /// Returns the earliest time at which a transaction has waited for the limit.
     pub fn first_due(&self, limit: u32) -> Option<u64>
         ensures { result ≡ least_in (due_times limit self.now) }
     {
@@ -213,14 +213,14 @@ impl Transactions {
         Self::due_at(opened.time, limit)
     }
 
-    /// The moment at which the limit has passed since a time.
+    /// Returns the time at which the limit has passed since a time.
     pub fn due_at(time: u64, limit: u32) -> Option<u64>
         ensures { result ≡ due_at limit time }
     {
         time.checked_add(u64::from(limit))
     }
 
-    /// When the transaction was opened that the message, which goes in the other direction, answers or rejects.
+    /// Returns when the transaction was opened that the message, sent in the other direction, answers or rejects.
     pub fn time_concluded(&self, other: Message) -> Option<u64>
         ensures time { IfSome result (λ time. list_any (λ opened. is_conclusion opened.header other && (opened.time == time)) self.now ≡ true) }
         ensures none { IfNone result (list_any (λ opened. is_conclusion opened.header other) self.now ≡ false) }
@@ -229,7 +229,7 @@ impl Transactions {
         concludes(opened.header, other).then_some(opened.time)
     }
 
-    /// Takes all out, in time in proportion to how many there are.
+    /// Removes all transactions, in time proportional to their number.
     pub fn clear(&mut self)
         ensures { self.new ≡ [] }
     {
@@ -237,7 +237,7 @@ impl Transactions {
         self.queue.clear();
     }
 
-    /// Takes out what the message, which goes in the other direction, answers or rejects.
+    /// Removes the transaction that the message, sent in the other direction, answers or rejects.
     #[inline(always)]
     pub fn remove_concluded(&mut self, other: Message)
         ensures { self.new ≡ filter (λ opened. not (is_conclusion opened.header other)) self.old }
@@ -249,7 +249,7 @@ impl Transactions {
         }
     }
 
-    /// Takes out the transaction of these system bytes.
+    /// Removes the transaction with these system bytes.
     pub fn remove_system(&mut self, system: u32)
         ensures { self.new ≡ filter (λ opened. not (opened.header.system == system)) self.old }
     {
@@ -261,7 +261,7 @@ impl Transactions {
     }
 }
 
-/// The earlier of two moments, or the one that there is.
+/// Returns the earlier of two times, or the only one.
 pub fn earlier(one: Option<u64>, other: Option<u64>) -> Option<u64>
     ensures { result ≡ least_of one other }
 {

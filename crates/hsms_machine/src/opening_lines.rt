@@ -1,4 +1,4 @@
-//! The places of what is open: beside a tracker, where in what was read each open transaction was opened.
+//! Line numbers of the open transactions. Next to a tracker, they give the line of the input that opened each one.
 
 use crate::direction::Flow;
 use crate::entry::{Act, EntryRef};
@@ -9,15 +9,15 @@ use crate::view::View;
 use std::alloc::{AllocError, Global};
 use std::marker::Model;
 
-/// The places of the open transactions, as the numbers of their lines. They are told each lawful entry with its place,
-/// and say of an entry which place opened what it closes.
+/// The line numbers of the open transactions. They are updated with each valid entry and its line number. For an entry
+/// they return the line that opened the transaction which it closes.
 #[derive(Debug)]
 pub struct Places {
-    // what is known of the log where each entry has the number of its line for a time
+    // the view of the log in which the time of each entry is its line number
     view: View,
 }
 
-// Written out: a proof over places that are dropped has one step for them, not one for each of their parts.
+// Written out so that a proof has one step for a dropped value, not one for each of its parts.
 impl Drop for Places {
     fn drop(self) {
         let Places { view } = self;
@@ -43,7 +43,7 @@ impl Places {
     ghost use Rattle.hsms_machine.specs.OpeningOrder.{uses};
     ghost use Rattle.hsms_machine.specs.OpeningLines.{HasPlaces, PlacesLeadTo, ClosesOneOpenedAt, ClosesNothing, IsPlaceOfOldest, NoPrimaryIsOpen, IsPlaceInUse, IsNotInUse, is_fresh as is_new};
 
-    /// No places.
+    /// Creates an empty set of line numbers.
     pub fn new(alloc: Global, settings: Settings) -> Places
         ensures places { HasPlaces [] [] result }
         ensures last { result.last_time ≡ 0 }
@@ -53,12 +53,12 @@ impl Places {
         }
     }
 
-    /// Takes in the place of a lawful entry, which is no lower than that of the one before. An entry that isn't lawful is
-    /// noted too, or passed over: of the places after it nothing is said.
+    /// Records the line number of a valid entry, which is no lower than that of the entry before. An entry that is not
+    /// valid is also recorded, or skipped: nothing is specified about the line numbers after it.
     ///
     /// # Errors
     ///
-    /// Where memory is refused to a place; then nothing is changed.
+    /// Returns an error if an allocation fails, and then changes nothing.
     pub fn note(&mut self, place: u64, entry: &EntryRef<'_>) -> Result<(), AllocError>
         requires rising { self.old.last_time ≤ place }
         ensures next { OnOk result (PlacesLeadTo self.old place entry.now self.new) }
@@ -72,7 +72,7 @@ impl Places {
         Ok(())
     }
 
-    /// Whether the act, where it is a request, has system bytes of its own.
+    /// Returns whether no open transaction of its direction has the system bytes of this event, if it is a request.
     fn is_fresh(&self, act: &Act) -> bool
         ensures { result ≡ is_new self.now act.now }
     {
@@ -83,8 +83,8 @@ impl Places {
         }
     }
 
-    /// The place of the entry that opened the transaction which this entry closes as the next one: as its answer, as a
-    /// reject, or as its `t3`. Takes no memory.
+    /// Returns the line that opened the transaction which this entry, as the next one, closes: as its response, as a
+    /// reject, or as its `t3`. Returns `None` if it closes none. Allocates no memory.
     pub fn closes(&self, entry: &EntryRef<'_>) -> Option<u64>
         ensures place { IfSome result (ClosesOneOpenedAt self.now entry.now.event) }
         ensures none { IfNone result (ClosesNothing self.now entry.now.event) }
@@ -102,8 +102,8 @@ impl Places {
         }
     }
 
-    /// The place of the sent primary with the W bit that was opened first of those that are open, which a failure of
-    /// `T3Overdue` concerns. Takes no memory.
+    /// Returns the line of the first opened among the open sent primaries with the W bit. Returns `None` if none is
+    /// open. A failure of `T3Overdue` involves this primary. Allocates no memory.
     pub fn oldest_data(&self) -> Option<u64>
         ensures place { IfSome result (IsPlaceOfOldest self.now) }
         ensures none { IfNone result (NoPrimaryIsOpen self.now) }
@@ -112,8 +112,8 @@ impl Places {
         Some(opened.time)
     }
 
-    /// The place of the open transaction that has the direction and the system bytes of this sent or taken frame, which a
-    /// failure of `SystemInUse` concerns. Takes no memory.
+    /// Returns the line of the open transaction with the direction and the system bytes of this sent or accepted frame.
+    /// Returns `None` if there is none. A failure of `SystemInUse` involves this transaction. Allocates no memory.
     pub fn in_use(&self, entry: &EntryRef<'_>) -> Option<u64>
         ensures place { IfSome result (IsPlaceInUse self.now entry.now.event) }
         ensures none { IfNone result (IsNotInUse self.now entry.now.event) }
@@ -130,7 +130,7 @@ impl Places {
         }
     }
 
-    /// The place of the transaction that has the message's system bytes.
+    /// Returns the line of the transaction with the message's system bytes.
     fn using(primaries: &Transactions, requests: &Transactions, message: Message) -> Option<u64>
         ensures place { IfSome result (λ place. IsTrue (list_any (λ opened. (opened.header.system == message.system) && (opened.time == place)) primaries.now || list_any (λ opened. (opened.header.system == message.system) && (opened.time == place)) requests.now)) }
         ensures none { IfNone result ((uses message.system primaries.now || uses message.system requests.now) ≡ false) }
@@ -141,7 +141,7 @@ impl Places {
         }
     }
 
-    /// The place of the transaction that the message, which goes in the other direction, answers or rejects.
+    /// Returns the line of the transaction that the message, sent in the other direction, answers or rejects.
     fn concluded(primaries: &Transactions, requests: &Transactions, message: Message) -> Option<u64>
         ensures place { IfSome result (λ place. IsTrue (list_any (λ opened. is_conclusion opened.header message && (opened.time == place)) primaries.now || list_any (λ opened. is_conclusion opened.header message && (opened.time == place)) requests.now)) }
         ensures none { IfNone result ((list_any (λ opened. is_conclusion opened.header message) primaries.now || list_any (λ opened. is_conclusion opened.header message) requests.now) ≡ false) }

@@ -1,4 +1,4 @@
-//! Where a session stands.
+//! The phase of a session.
 
 /// The phase of a session (SEMI E37, section 5, connection states).
 ///
@@ -16,12 +16,12 @@
 pub enum Phase {
     /// There was no connection yet: no entry was logged.
     Before,
-    /// The connection is up, and the session is not selected.
+    /// The connection is established, and the session is not selected.
     NotSelected,
     /// The session is selected, so data may flow.
     Selected,
-    /// A Separate.req or a cut has ended the session, and the connection isn't down yet.
+    /// A Separate.req or a cut has ended the session, and the connection is not closed yet.
     Over,
-    /// The connection went down. In a log of several connections the next one may come up.
+    /// The connection was closed. In a log of several connections the next one may be established.
     Gone,
 }

@@ -1,24 +1,25 @@
-//! How a log is gone on with behind an entry that breaks a rule.
+//! The repair of a log after an entry that breaks a rule.
 
 use crate::entry::{Act, Cause};
 use crate::phase::Phase;
 use crate::rule::Rule;
 use crate::view::View;
 
-/// How a log is gone on with behind an entry that breaks a rule: what stands in its place, or before it. Times are in ms.
+/// The repair of a log after an entry that breaks a rule: what replaces the entry, or is inserted before it. Times are
+/// in ms.
 #[derive(Clone, Copy, Debug, PartialEq, Eq)]
 pub enum RepairAction {
-    /// The entry stands at this time.
+    /// The entry gets this time.
     Raise(u64),
-    /// The taken frame of the entry is thrown away.
+    /// The accepted frame of the entry becomes discarded.
     Discard,
-    /// At this time T3 has expired for the sent primary with these system bytes; then the entry.
+    /// At this time T3 expired for the sent primary with these system bytes. Then the entry follows.
     ExpireFirst(u64, u32),
-    /// At this time the connection was cut; then the entry.
+    /// At this time the connection was cut. Then the entry follows.
     CutFirst(u64, Cause),
-    /// At this time the connection went down; then the entry.
+    /// At this time the connection was closed. Then the entry follows.
     DownFirst(u64),
-    /// The entry is left out.
+    /// The entry is omitted.
     LeaveOut,
 }
 
@@ -28,7 +29,7 @@ impl View {
     ghost use Rattle.hsms_machine.specs.OpeningOrder.{first_of};
     ghost use Rattle.hsms_machine.specs.Repair.{repair_of, discarded, missing_down, expired, cut, expiry_of};
 
-    /// What the rule asks for that the entry broke first.
+    /// Returns the repair for the rule that the entry broke first.
     pub fn repair_action(&self, rule: Rule, time: u64, act: &Act) -> RepairAction
         ensures { result ≡ repair_of self.now (entry_of time act.now []) rule }
     {
@@ -89,7 +90,7 @@ impl View {
         }
     }
 
-    /// When the limit had passed since a time: no later than now, and no earlier than the last entry.
+    /// Returns when the limit had passed since a time: no later than `now`, and no earlier than the last entry.
     fn expiry(&self, now: u64, since: u64, limit: u32) -> u64
         ensures { result ≡ expiry_of self.now now since limit }
     {

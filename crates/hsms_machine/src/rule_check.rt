@@ -1,4 +1,4 @@
-//! Which rule an entry breaks first, as the view tells it.
+//! The first rule that an entry breaks, computed from the view.
 
 use crate::direction::Flow;
 use crate::entry::{Act, Cause};
@@ -23,7 +23,7 @@ impl View {
     ghost use Rattle.hsms_machine.specs.EventParts.{event_of, entry_of, frame_of};
     ghost use Rattle.hsms_machine.specs.ViewRules.{facts_of, IsBrokenAt};
 
-    /// The first rule that the entry breaks.
+    /// Returns the first rule that the entry breaks.
     #[inline(always)]
     pub fn first_broken(&self, time: u64, act: &Act, text: &[u8]) -> Option<Rule>
         ensures { IsBrokenAt self.now (entry_of time act.now text.now) result }
@@ -65,7 +65,7 @@ impl View {
         }
     }
 
-    /// Whether anything may be overdue now.
+    /// Returns whether anything may be overdue now.
     fn is_timed(&self) -> bool
         ensures { IsTrue result ↔ IsTimed (facts_of self.now) }
     {
@@ -172,7 +172,7 @@ impl View {
         }
     }
 
-    /// The first rule that a frame breaks which is sent or taken.
+    /// Returns the first rule that a sent or accepted frame breaks.
     #[inline(always)]
     fn broken_frame(&self, flow: Flow, message: Message, text: &[u8]) -> Option<Rule>
         ensures { IsFirst (FrameBreaks (facts_of self.now) self.now.settings flow (frame_of message text.now)) (format_rules ++ transaction_rules) result }
@@ -235,7 +235,7 @@ impl View {
         measure_text(text, self.settings.depth()).is_ok()
     }
 
-    /// Whether the frame opens a transaction while one of its direction has its system bytes.
+    /// Returns whether the frame opens a transaction while one of its direction has its system bytes.
     #[inline(always)]
     pub fn is_in_use(&self, flow: Flow, message: Message) -> bool
         ensures { IsTrue result ↔ IsTrue (is_request message) × IsInUse (facts_of self.now) flow message.system }
@@ -252,7 +252,7 @@ impl View {
         }
     }
 
-    /// Whether the frame is a response that answers no open transaction.
+    /// Returns whether the frame is a response that answers no open transaction.
     fn is_without_transaction(&self, flow: Flow, message: Message) -> bool
         ensures { IsTrue result ↔ IsTrue (is_response_message message) × ¬ IsAnswer (facts_of self.now) flow message }
     {

@@ -1,26 +1,26 @@
-//! The parameters of one end of a connection.
+//! The parameters of one endpoint of a connection.
 
 use std::marker::Model;
 
-/// What the end that logs is in SECS-II (SEMI E5).
+/// The role of the logging endpoint in SECS-II (SEMI E5).
 #[derive(Clone, Copy, Debug, PartialEq, Eq)]
 pub enum Role {
     /// The factory's computer.
     Host,
-    /// The tool. Only it sends primaries of stream 9.
+    /// The tool. Only equipment sends primaries of stream 9.
     Equipment,
 }
 
-/// Which end of the connection logs (SEMI E37, section 6; SEMI E37.1).
+/// Which endpoint of the connection logs (SEMI E37, section 6; SEMI E37.1).
 #[derive(Clone, Copy, Debug, PartialEq, Eq)]
 pub enum Side {
-    /// The end that connects. Only it sends Select.req.
+    /// The endpoint that connects. Only it sends Select.req.
     Active,
-    /// The end that listens. Only it sends Select.rsp.
+    /// The endpoint that listens. Only it sends Select.rsp.
     Passive,
 }
 
-/// The parameters of the end that logs (SEMI E37, section 10, parameters), each within its limits.
+/// The parameters of the logging endpoint (SEMI E37, section 10, parameters), each within its limits.
 #[derive(Clone, Copy, Debug, PartialEq, Eq)]
 pub struct Settings {
     version: u8,
@@ -47,34 +47,34 @@ impl Model for Settings {
     ghost inverse = { λ p. record { version = p.version; role = p.role; link = p.link; device = p.device; t3 = p.t3; t6 = p.t6; t7 = p.t7; t8 = p.t8; max = p.max; depth = p.depth } };
 }
 
-/// The greatest device ID (SEMI E37.1).
+/// The maximum device ID (SEMI E37.1).
 pub const GREATEST_DEVICE: u16 = 32_767;
 
-/// The shortest time of a timer, in milliseconds.
+/// The minimum time of a timer, in milliseconds.
 pub const LEAST_TIME: u32 = 1;
 
-/// The longest time of a timer, in milliseconds: an hour.
+/// The maximum time of a timer, in milliseconds: an hour.
 pub const GREATEST_TIME: u32 = 3_600_000;
 
-/// The least that the longest header and text may be set to, in octets.
+/// The minimum of the setting for the longest header and text, in bytes.
 pub const LEAST_MAX: u32 = 256;
 
-/// The most that the longest header and text may be set to, in octets.
+/// The maximum of the setting for the longest header and text, in bytes.
 pub const GREATEST_MAX: u32 = 33_554_432;
 
-/// The least that the deepest nesting of lists may be set to.
+/// The minimum of the setting for the depth of nested lists.
 pub const LEAST_DEPTH: u8 = 1;
 
-/// The most that the deepest nesting of lists may be set to.
+/// The maximum of the setting for the depth of nested lists.
 pub const GREATEST_DEPTH: u8 = 100;
 
 impl Settings {
     ghost use Rattle.std.specs.Prelude.{◌≡◌, ◌≤◌, ◌↔◌, IsSome, IfSome, IsTrue};
     ghost use Rattle.hsms_machine.specs.Settings.{IsWithinLimits, IsTimeLimit};
 
-    /// The settings with these numbers, for a log of one connection (version 1), or None where one is out of its limits:
-    /// `device` at most 32,767; `t3`, `t6`, `t7` and `t8` from 1 to 3,600,000 ms; `max` from 256 to 33,554,432 octets;
-    /// `depth` from 1 to 100.
+    /// Returns the settings with these numbers, for a log of one connection (version 1). Returns `None` if a number is
+    /// outside its limits: `device` at most 32,767; `t3`, `t6`, `t7` and `t8` from 1 to 3,600,000 ms; `max` from 256 to
+    /// 33,554,432 bytes; `depth` from 1 to 100.
     pub fn new(
         role: Role,
         link: Side,
@@ -113,14 +113,14 @@ impl Settings {
         }
     }
 
-    /// The same numbers, for a log of several connections (version 2). Takes no memory.
+    /// Returns the same numbers, for a log of several connections (version 2). Allocates no memory.
     pub fn several(self) -> Settings
         ensures { result ≡ record self { version = 2 } }
     {
         Settings { version: 2, ..self }
     }
 
-    /// The version of the log: 1 of one connection, 2 of several. Takes no memory.
+    /// Returns the version of the log: 1 for one connection, 2 for several. Allocates no memory.
     pub fn version(&self) -> u8
         ensures value { result ≡ self.now.version }
         ensures least { 1 ≤ result }
@@ -129,21 +129,21 @@ impl Settings {
         self.version
     }
 
-    /// What the end is: host or equipment.
+    /// Returns the role of the endpoint: host or equipment.
     pub fn role(&self) -> Role
         ensures { result ≡ self.now.role }
     {
         self.role
     }
 
-    /// Whether the end connects or listens.
+    /// Returns whether the endpoint connects or listens.
     pub fn link(&self) -> Side
         ensures { result ≡ self.now.link }
     {
         self.link
     }
 
-    /// The device ID that data messages carry as session ID: at most 32,767 (SEMI E37.1).
+    /// Returns the device ID, which is the session ID of data messages: at most 32,767 (SEMI E37.1).
     pub fn device(&self) -> u16
         ensures value { result ≡ self.now.device }
         ensures within { result ≤ 32767 }
@@ -151,7 +151,7 @@ impl Settings {
         self.device
     }
 
-    /// T3 in milliseconds: the longest wait for a reply to data.
+    /// Returns T3 in milliseconds: the longest wait for a reply to data.
     pub fn t3(&self) -> u32
         ensures value { result ≡ self.now.t3 }
         ensures within { IsTimeLimit result }
@@ -159,7 +159,7 @@ impl Settings {
         self.t3
     }
 
-    /// T6 in milliseconds: the longest wait for a Select.rsp or a Linktest.rsp.
+    /// Returns T6 in milliseconds: the longest wait for a Select.rsp or a Linktest.rsp.
     pub fn t6(&self) -> u32
         ensures value { result ≡ self.now.t6 }
         ensures within { IsTimeLimit result }
@@ -167,7 +167,7 @@ impl Settings {
         self.t6
     }
 
-    /// T7 in milliseconds: the longest time that a connection may stand without being selected.
+    /// Returns T7 in milliseconds: the longest time that a connection may be without being selected.
     pub fn t7(&self) -> u32
         ensures value { result ≡ self.now.t7 }
         ensures within { IsTimeLimit result }
@@ -175,7 +175,7 @@ impl Settings {
         self.t7
     }
 
-    /// T8 in milliseconds: the longest time between octets of one message. A log does not measure it.
+    /// Returns T8 in milliseconds: the longest time between bytes of one message. A log does not measure it.
     pub fn t8(&self) -> u32
         ensures value { result ≡ self.now.t8 }
         ensures within { IsTimeLimit result }
@@ -183,7 +183,7 @@ impl Settings {
         self.t8
     }
 
-    /// The greatest number of octets of header and text of one message.
+    /// Returns the maximum number of bytes of header and text of one message.
     pub fn max(&self) -> u32
         ensures value { result ≡ self.now.max }
         ensures least { 256 ≤ result }
@@ -192,7 +192,7 @@ impl Settings {
         self.max
     }
 
-    /// How deep lists may be nested in the text of a data message.
+    /// Returns how deep lists may be nested in the text of a data message.
     pub fn depth(&self) -> u8
         ensures value { result ≡ self.now.depth }
         ensures least { 1 ≤ result }
@@ -207,7 +207,7 @@ impl Settings {
         LEAST_TIME <= time && time <= GREATEST_TIME
     }
 
-    /// That all of them are within their limits. Called for this fact alone; it does nothing.
+    /// Proves that all of them are within their limits. Called for this fact only; it does nothing.
     pub fn are_within_limits(&self)
         ensures { IsWithinLimits self.now }
     {

@@ -1,4 +1,4 @@
-//! The judge of a session, entry by entry.
+//! The tracker of a session, which checks it entry by entry.
 
 use crate::entry::{Entry, EntryRef};
 use crate::open_transactions::{Transactions, earlier};
@@ -11,16 +11,17 @@ use hsms_frame::Header;
 use std::alloc::{AllocError, Global};
 use std::marker::Model;
 
-/// The judge of what is lawful in a session (SEMI E37, E37.1). It keeps the settings, the phase, the
-/// time of the last `up` and of the last entry, and the open transactions, each with its time and header: what
-/// the rules need to know of the entries so far. It stores no log; some lawful log has led to it. In a log of several
-/// connections (`Settings::several`) what is open and the phase are those of the connection since the last `up`.
+/// The tracker of a session, which decides which entries are valid (SEMI E37, E37.1). It keeps what the rules need to
+/// know of the entries so far: the settings, the phase, the times of the last `up` and of the last entry, and the open
+/// transactions with their times and headers. It stores no log; some valid log has led to it. In a log of several
+/// connections (`Settings::several`) the open transactions and the phase are those of the connection since the last
+/// `up`.
 #[derive(Debug)]
 pub struct Tracker {
     view: View,
 }
 
-// Written out: a proof over one that is dropped has one step for it, not one for each of its parts.
+// Written out so that a proof has one step for a dropped value, not one for each of its parts.
 impl Drop for Tracker {
     fn drop(self) {
         let Tracker { view } = self;
@@ -48,7 +49,7 @@ impl Tracker {
     ghost use Rattle.hsms_machine.specs.ViewRules.{IsBrokenAt, IsInOrder, view_after};
     ghost use Rattle.hsms_machine.specs.Repair.{repair_of};
 
-    /// The tracker of a session without an entry.
+    /// Creates the tracker of a session without an entry.
     pub fn new(alloc: Global, settings: Settings) -> Tracker
         ensures { HasView settings [] result }
     {
@@ -57,14 +58,14 @@ impl Tracker {
         }
     }
 
-    /// The time of the last entry, in milliseconds, or 0 where there is none. Takes no memory.
+    /// Returns the time of the last entry, in milliseconds, or 0 if there is none. Allocates no memory.
     pub fn last_time(&self) -> u64
         ensures { result ≡ self.now.last_time }
     {
         self.view.last_time
     }
 
-    /// The first rule that the entry would break as the next one, or None where it is lawful. Takes no
+    /// Returns the first rule that the entry would break as the next one. Returns `None` if it is valid. Allocates no
     /// memory.
     pub fn check(&self, entry: &Entry) -> Option<Rule>
         ensures answer { IsBrokenAfter self.now entry.now result }
@@ -73,7 +74,7 @@ impl Tracker {
         self.check_ref(&entry.as_ref())
     }
 
-    /// Does as `check` does, of an entry whose text lies elsewhere.
+    /// Does the same as `check`, for an entry whose text is stored elsewhere.
     pub fn check_ref(&self, entry: &EntryRef<'_>) -> Option<Rule>
         ensures answer { IsBrokenAfter self.now entry.now result }
         ensures named_rule { IsBrokenAt self.now entry.now result }
@@ -82,9 +83,9 @@ impl Tracker {
         self.view.first_broken(time, act, text)
     }
 
-    /// The first rule that the entry breaks as the next one, or None where it is lawful, and then it is
-    /// taken in. A broken rule leaves the tracker as it was, and so does want of memory, which is answered
-    /// only of a lawful entry that opens a transaction.
+    /// Checks the entry as the next one. Returns the first rule that it breaks. Returns `None` if it is valid, and then
+    /// adds it. A broken rule leaves the tracker unchanged, and so does a failed allocation. An allocation error is
+    /// returned only for a valid entry that opens a transaction.
     pub fn step(&mut self, entry: &Entry) -> Result<Option<Rule>, AllocError>
         ensures answer { IfOk result (λ answer. IsBrokenAfter self.old entry.now answer) }
         ensures named_rule { IfOk result (λ answer. IsBrokenAt self.old entry.now answer) }
@@ -98,7 +99,7 @@ impl Tracker {
         self.step_ref(&entry.as_ref())
     }
 
-    /// Does as `step` does, with an entry whose text lies elsewhere.
+    /// Does the same as `step`, for an entry whose text is stored elsewhere.
     #[inline(always)]
     pub fn step_ref(&mut self, entry: &EntryRef<'_>) -> Result<Option<Rule>, AllocError>
         ensures answer { IfOk result (λ answer. IsBrokenAfter self.old entry.now answer) }
@@ -118,7 +119,7 @@ impl Tracker {
         Ok(broken)
     }
 
-    /// How the log is gone on with behind an entry that breaks this rule first as the next one. Takes no memory.
+    /// Returns how the log is repaired if an entry, as the next one, breaks this rule first. Allocates no memory.
     pub fn repair_action(&self, rule: Rule, entry: &EntryRef<'_>) -> RepairAction
         ensures { result ≡ repair_of self.now entry.now rule }
     {
@@ -126,30 +127,30 @@ impl Tracker {
         self.view.repair_action(rule, time, act)
     }
 
-    /// Where the session stands.
+    /// Returns the phase of the session.
     pub fn phase(&self) -> Phase
         ensures { result ≡ self.now.phase }
     {
         self.view.phase
     }
 
-    /// How many sent primaries with the W bit are open, in any phase.
+    /// Returns how many sent primaries with the W bit are open, in any phase.
     pub fn waiting(&self) -> usize
         ensures { result ≡ waiting_of self.now }
     {
         self.view.sent_data.len()
     }
 
-    /// How many sent transactions are open: primaries with the W bit, Select.req and Linktest.req.
+    /// Returns how many sent transactions are open: primaries with the W bit, Select.req and Linktest.req.
     pub fn own_open(&self) -> usize
         ensures { result ≡ own_open_of self.now }
     {
         self.view.sent_control.len() + self.view.sent_data.len()
     }
 
-    /// The least moment, in the milliseconds of the entries, at which a timer runs out while the session is
-    /// not selected or selected: T3 of an open sent primary, T6 of an open sent Select.req or Linktest.req,
-    /// T7 of a session that is not selected. Moments past 18,446,744,073,709,551,615 are left out.
+    /// Returns the earliest time, in the milliseconds of the entries, at which a timer expires in the phases
+    /// `NotSelected` and `Selected`. The timers are T3 of an open sent primary, T6 of an open sent Select.req or
+    /// Linktest.req, and T7 if the session is not selected. Times above 18,446,744,073,709,551,615 are omitted.
     pub fn next_due(&self) -> Option<u64>
         ensures { result ≡ next_due_of self.now }
     {
@@ -165,15 +166,15 @@ impl Tracker {
         }
     }
 
-    /// Whether an open sent transaction, of data or of control, has these system bytes. Takes no memory.
+    /// Returns whether an open sent transaction, of data or of control, has these system bytes. Allocates no memory.
     pub fn in_use(&self, system: u32) -> bool
         ensures { result ≡ in_use_of self.now system }
     {
         self.view.sent_data.is_in_use(system) || self.view.sent_control.is_in_use(system)
     }
 
-    /// The time and the header of the sent primary with the W bit that was opened first of those that are
-    /// open. Takes no memory.
+    /// Returns the time and the header of the first opened among the open sent primaries with the W bit. Returns `None`
+    /// if none is open. Allocates no memory.
     pub fn oldest_data(&self) -> Option<(u64, Header)>
         ensures { result ≡ oldest_of self.now.sent_data }
     {
@@ -181,8 +182,8 @@ impl Tracker {
         Some((opened.time, opened.header))
     }
 
-    /// The time and the header of the sent Select.req or Linktest.req that was opened first of those that
-    /// are open. Takes no memory.
+    /// Returns the time and the header of the first opened among the open sent Select.req and Linktest.req. Returns
+    /// `None` if none is open. Allocates no memory.
     pub fn oldest_control(&self) -> Option<(u64, Header)>
         ensures { result ≡ oldest_of self.now.sent_control }
     {
@@ -190,8 +191,9 @@ impl Tracker {
         Some((opened.time, opened.header))
     }
 
-    /// That what is open is in order: in each of the four lists of the view no time falls, none is later than that of
-    /// the last entry, and no two transactions have the same system bytes. Called for this fact alone; it does nothing.
+    /// Proves that the open transactions are in order. In each of the four lists of the view no time decreases, and
+    /// none is later than that of the last entry. No two transactions have the same system bytes. Called for this fact
+    /// only; it does nothing.
     pub fn keeps_order(&self)
         ensures { IsInOrder self.now }
     {

@@ -6,13 +6,14 @@ use indexmap::IndexMap;
 use std::alloc::{AllocError, Global};
 use std::marker::Model;
 
-/// How many closed transactions are kept before they go.
+/// How many closed transactions are kept before they are dropped.
 const MANY: usize = 64;
 
-/// Open transactions, in order of opening: no two with the same system bytes, and none before an earlier one.
+/// Open transactions, in order of opening. No two have the same system bytes, and none was opened before an earlier
+/// one.
 ///
-/// The map has closed ones at its front, which are counted. They go together, once they are many and more than a half of
-/// it, so that closing the oldest moves none.
+/// The map keeps closed transactions at its front, and counts them. They are dropped together, once they are many and
+/// more than half of the map. So closing the oldest transaction moves none.
 #[derive(Debug, Drop)]
 pub struct Queue {
     items: IndexMap<u32, Transaction>,
@@ -40,7 +41,7 @@ impl Queue {
     ghost use Rattle.hsms_machine.specs.Transaction.{concludes as is_conclusion};
     ghost use Rattle.hsms_machine.specs.OpeningOrder.{AreInOrder, AreApart, AreUntil, uses, first_of};
 
-    /// No transaction.
+    /// Creates a map without transactions.
     pub fn new(alloc: Global) -> Self
         ensures { result ≡ [] }
     {
@@ -48,7 +49,7 @@ impl Queue {
         Queue { items, closed: 0 }
     }
 
-    /// How many are open.
+    /// Returns how many are open.
     pub fn len(&self) -> usize
         ensures value { result ≡ length self.now }
         ensures bound { result < 2 ^ 63 }
@@ -56,7 +57,7 @@ impl Queue {
         self.items.len() - self.closed
     }
 
-    /// The transaction that was opened first.
+    /// Returns the transaction that was opened first.
     pub fn first(&self) -> Option<Transaction>
         ensures first { result ≡ first_of self.now }
         ensures in_order { AreInOrder self.now }
@@ -65,8 +66,8 @@ impl Queue {
         Some(*opened)
     }
 
-    /// The transaction of these system bytes, and its place. The oldest is looked at first, without a hash: mostly
-    /// it is the one that is asked for.
+    /// Returns the transaction with these system bytes, and its index. Checks the oldest first, without a hash, because
+    /// it is usually the requested one.
     #[inline(always)]
     fn found(&self, system: u32) -> Option<(usize, Transaction)>
         ensures found { option_map (λ x. x.1) result ≡ find (λ opened. opened.header.system == system) self.now }
@@ -84,7 +85,7 @@ impl Queue {
         Some((place - self.closed, *opened))
     }
 
-    /// The transaction of these system bytes.
+    /// Returns the transaction with these system bytes.
     #[inline(always)]
     pub fn get(&self, system: u32) -> Option<Transaction>
         ensures found { result ≡ find (λ opened. opened.header.system == system) self.now }
@@ -94,7 +95,7 @@ impl Queue {
         Some(opened)
     }
 
-    /// Puts a transaction at the end.
+    /// Appends a transaction.
     #[inline(always)]
     pub fn push(&mut self, transaction: Transaction) -> Result<(), AllocError>
         requires fresh { uses transaction.header.system self.old ≡ false }
@@ -106,14 +107,14 @@ impl Queue {
         if self.items.insert(system, transaction)?.is_none() {
             return Ok(());
         }
-        // A closed one had these system bytes, and the transaction stands in its place.
+        // A closed transaction had these system bytes, and the new transaction is at its index.
         Self::drop_front(&mut self.items, self.closed);
         self.closed = 0;
         self.items.insert(system, transaction)?;
         Ok(())
     }
 
-    /// Takes so many out at the front.
+    /// Removes this many from the front.
     #[inline(never)]
     fn drop_front(items: &mut IndexMap<u32, Transaction>, count: usize)
         requires within { count ≤ index_map_len items.old }
@@ -129,7 +130,7 @@ impl Queue {
         items.reverse();
     }
 
-    /// Takes all out, in time in proportion to how many there are.
+    /// Removes all transactions, in time proportional to their number.
     pub fn clear(&mut self)
         ensures { self.new ≡ [] }
     {
@@ -137,7 +138,7 @@ impl Queue {
         self.closed = 0;
     }
 
-    /// Takes out what the message, which goes in the other direction, answers or rejects.
+    /// Removes the transaction that the message, sent in the other direction, answers or rejects.
     #[inline(never)]
     pub fn remove_concluded(&mut self, other: Message)
         ensures { self.new ≡ filter (λ opened. not (is_conclusion opened.header other)) self.old }
@@ -150,7 +151,7 @@ impl Queue {
         }
     }
 
-    /// Takes out the transaction of these system bytes.
+    /// Removes the transaction with these system bytes.
     pub fn remove_system(&mut self, system: u32)
         ensures { self.new ≡ filter (λ opened. not (opened.header.system == system)) self.old }
     {
@@ -159,7 +160,8 @@ impl Queue {
         }
     }
 
-    /// Takes out the one at this place. The oldest is counted as closed, and the last is taken off the end: none moves.
+    /// Removes the transaction at this index. The oldest is counted as closed, and the last is removed from the end:
+    /// then none moves.
     #[inline(always)]
     fn remove_at(&mut self, place: usize)
         ensures { self.new ≡ remove self.old place }
@@ -172,7 +174,7 @@ impl Queue {
         }
     }
 
-    /// Lets the closed ones go once they are many, and more than a half of the map.
+    /// Drops the closed transactions once they are many, and more than half of the map.
     #[inline(always)]
     fn let_go(&mut self)
         ensures { self.new ≡ self.old }
@@ -183,7 +185,7 @@ impl Queue {
         }
     }
 
-    /// Takes out the one at this place, where a later one may move up. The last is taken off the end.
+    /// Removes the transaction at this index; later ones may move up. The last is removed from the end.
     #[inline(never)]
     fn remove_later(&mut self, place: usize)
         ensures { self.new ≡ remove self.old place }

@@ -31,7 +31,7 @@ impl View {
     ghost use Rattle.hsms_machine.specs.ViewRules.{view_after, pools_after, phase_after, IsUntil, IsFresh};
     ghost use Rattle.hsms_machine.specs.OpeningOrder.{AreUntil, uses};
 
-    /// The view of an empty log.
+    /// Creates the view of an empty log.
     #[tactic(auto, unfolding(crate::specs::Entry::connection_of))]
     pub fn new(alloc: Global, settings: Settings) -> View
         ensures { result ≡ view_of settings [] }
@@ -48,7 +48,7 @@ impl View {
         }
     }
 
-    /// Takes a lawful entry in.
+    /// Adds a valid entry.
     #[inline(always)]
     pub fn take_in(&mut self, time: u64, act: &Act) -> Result<(), AllocError>
         requires fresh { IsFresh self.old act.now }
@@ -95,7 +95,7 @@ impl View {
         Ok(())
     }
 
-    /// Lets go of everything that is open.
+    /// Drops all open transactions.
     fn close_all(&mut self)
         ensures { self.new ≡ record self.old { sent_data = []; sent_control = []; taken_data = []; taken_control = [] } }
     {
@@ -105,7 +105,7 @@ impl View {
         self.taken_control.clear();
     }
 
-    /// Puts the transaction that the message opens, if it opens one, at the end of its list.
+    /// Appends the transaction that the message opens, if any, to its list.
     #[inline(always)]
     fn open_in(
         primaries: &mut Transactions,
@@ -128,7 +128,7 @@ impl View {
         Ok(())
     }
 
-    /// The transaction that a request opens.
+    /// Returns the transaction that a request opens.
     #[inline(always)]
     fn opened(time: u64, request: Message) -> Transaction
         ensures { result ≡ record { time = time; header = request } }
@@ -139,7 +139,7 @@ impl View {
         }
     }
 
-    /// Takes out what the message, which goes in the other direction, answers or rejects. Most kinds end nothing.
+    /// Removes the transaction that the message, sent in the other direction, answers or rejects. Most kinds end none.
     #[inline(always)]
     fn close_in(primaries: &mut Transactions, requests: &mut Transactions, other: Message)
         ensures data { primaries.new ≡ filter (λ opened. not (is_conclusion opened.header other)) primaries.old }

@@ -1,5 +1,5 @@
-//! Worked sessions, which a tracker judges: tests of `hsms_machine`, in a crate of their own, since a crate is proved once
-//! more with its tests.
+//! Tests of `hsms_machine`: example sessions that a tracker checks. They are a separate crate, because a crate is
+//! proved again with its tests.
 #![tactic(auto)]
 
 #[cfg(test)]

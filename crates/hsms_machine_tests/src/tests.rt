@@ -1,4 +1,4 @@
-//! Worked sessions, as texts: what happens to an end, as its log has it, and what is said of that.
+//! Example sessions, as texts: the events of an endpoint, as in its log, and the expected results.
 
 mod closing;
 mod connections;
@@ -33,7 +33,7 @@ use std::fmt::InlineText;
 use std::process::Abort;
 use timers::TIMERS;
 
-/// Why a test ends: memory was refused twice, or a line can't be read.
+/// Why a test ends: an allocation failed twice, or a line cannot be read.
 #[derive(Clone, Copy, Debug)]
 enum Stop {
     Memory,
@@ -46,11 +46,12 @@ impl From<AllocError> for Stop {
     }
 }
 
-// Sessions are one text, since a constant of many parts takes the check longer, and so does each function that is given
-// one. Each begins with a line of its name. A line `selected`, `connected` or `first` stands for the entries of that
-// name. The others are entries, as a log has them, and what is to be said there: `= ` the rule that the entry before
-// breaks, and how many sent primaries are open; `named_rule` what the readers tell; `data` and `control` the oldest
-// transactions; `used` or `free` system bytes. An entry that breaks a rule is followed by a line that says so.
+// Sessions are one text, because the check of a constant with many parts takes longer. So does the check of each
+// function with such an argument. Each begins with a line with its name. A line `selected`, `connected` or `first`
+// represents the entries of that name. The other lines are entries, as in a log, and the results that are expected
+// there. `= ` gives the rule that the entry before breaks, and how many sent primaries are open. `told` gives what the
+// readers return, `data` and `control` the oldest transactions, `used` or `free` system bytes. An entry that breaks a
+// rule is followed by a line that says so.
 
 /// A host connects.
 const CONNECTED: &str = "0 up
@@ -63,7 +64,7 @@ const SELECTED: &str = "0 up
 5 < ffff0000000200000001
 ";
 
-/// The lines that a line stands for.
+/// Returns the lines that a line represents.
 fn lines_of<'a>(line: &'a str) -> &'a str {
     match line {
         "connected" => CONNECTED,
@@ -78,7 +79,7 @@ fn number_of(digits: &str) -> Result<u64, Stop> {
     u64::try_from(number).ok().ok_or(Stop::Line)
 }
 
-/// The number of digits in hexadecimal.
+/// Returns the number of these hexadecimal digits.
 fn hexadecimal(digits: &str) -> Result<u128, Stop> {
     u128::from_str_radix(digits, 16).ok().ok_or(Stop::Line)
 }
@@ -87,7 +88,7 @@ fn system_of(digits: &str) -> Result<u32, Stop> {
     u32::try_from(hexadecimal(digits)?).ok().ok_or(Stop::Line)
 }
 
-/// The header of 20 digits.
+/// Returns the header of 20 digits.
 fn header_of(digits: &str) -> Result<Header, Stop> {
     let number = hexadecimal(digits)?.to_be_bytes();
     let (_, part) = number.split_at(6);
@@ -96,7 +97,7 @@ fn header_of(digits: &str) -> Result<Header, Stop> {
     Ok(Header::of(octets))
 }
 
-/// One item of binary octets, all zero.
+/// Returns one item of binary bytes, all zero.
 fn zeros(alloc: Global, count: u8) -> Result<Vec<u8>, AllocError> {
     let zeros = [0u8; 255];
     let (zeros, _) = zeros.split_at(usize::from(count));
@@ -105,7 +106,7 @@ fn zeros(alloc: Global, count: u8) -> Result<Vec<u8>, AllocError> {
     Ok(text)
 }
 
-/// The octets of at most 32 digits.
+/// Returns the bytes of at most 32 digits.
 fn octets_of(alloc: Global, digits: &str) -> Result<Vec<u8>, Stop> {
     if digits.is_empty() {
         return Ok(Vec::new(alloc));
@@ -115,7 +116,7 @@ fn octets_of(alloc: Global, digits: &str) -> Result<Vec<u8>, Stop> {
     Ok(Vec::from_slice(alloc, octets)?)
 }
 
-/// The text of digits, or an item of so many zeros.
+/// Returns the text of digits, or an item of this many zeros.
 fn text_of(alloc: Global, text: &str) -> Result<Vec<u8>, Stop> {
     match text.strip_prefix(" zeros ") {
         Some(count) => {
@@ -143,7 +144,7 @@ fn cause_of(word: &str) -> Result<Cause, Stop> {
     }
 }
 
-/// What happened.
+/// Returns the event of a line.
 fn event_of(alloc: Global, word: &str, rest: &str) -> Result<Event, Stop> {
     match word {
         ">" => Ok(Event::Sent(frame_of(alloc, rest)?)),
@@ -165,7 +166,7 @@ fn entry_of(alloc: Global, line: &str) -> Result<Entry, Stop> {
     Ok(Entry { time, event })
 }
 
-/// The entry of a line. Where memory was refused, a second try meets no refusal.
+/// Returns the entry of a line. If an allocation fails, a retry succeeds.
 fn happened(alloc: Global, line: &str) -> Result<Entry, Stop> {
     match entry_of(alloc, line) {
         Err(Stop::Memory) => entry_of(alloc, line),
@@ -185,12 +186,12 @@ fn assert_so(rt: &impl Abort, is_so: bool, name: &str) {
     assert!(rt; is_so, "{name}");
 }
 
-/// What is said is what was to be said.
+/// Asserts that a result is the expected one.
 fn assert_said(rt: &impl Abort, said: InlineText<160>, want: &str, name: &str) {
     assert_so(rt, said.as_str() == want, name);
 }
 
-/// What the readers tell.
+/// What the readers return.
 type SeenState = (Phase, usize, usize, Option<u64>);
 
 fn named_rule(tracker: &Tracker) -> SeenState {
@@ -202,13 +203,13 @@ fn named_rule(tracker: &Tracker) -> SeenState {
     )
 }
 
-/// What is told is what was told before.
+/// Returns whether the readers return what they returned before.
 fn is_reported(tracker: &Tracker, before: SeenState) -> bool {
     named_rule(tracker) == before
 }
 
-/// Takes an entry in. Where memory was refused to an entry that may need some, which breaks no rule, the tracker is as it
-/// was, and a second try meets no refusal.
+/// Adds an entry. An allocation fails only for an entry that may need memory and breaks no rule. Then the tracker is
+/// unchanged, and a retry succeeds.
 fn step(rt: &impl Abort, tracker: &mut Tracker, entry: &Entry) -> Result<Option<Rule>, AllocError> {
     let before = named_rule(tracker);
     let checked = tracker.check(entry);
@@ -227,7 +228,7 @@ fn step(rt: &impl Abort, tracker: &mut Tracker, entry: &Entry) -> Result<Option<
     }
 }
 
-/// Takes the entry of a line in.
+/// Adds the entry of a line.
 fn step_line(
     rt: &impl Abort,
     alloc: Global,
@@ -238,7 +239,7 @@ fn step_line(
     Ok(step(rt, tracker, &entry)?)
 }
 
-/// What a tracker says where a line asks by this word.
+/// Returns what a tracker returns for the keyword of a line.
 fn said(tracker: &Tracker, word: &str) -> InlineText<160> {
     match word {
         "told" => {
@@ -251,7 +252,7 @@ fn said(tracker: &Tracker, word: &str) -> InlineText<160> {
     }
 }
 
-/// What a line says is so, or it is an entry that is taken in. Answers the rule that this one breaks.
+/// Checks what a line states, or adds the entry of the line. Returns the rule that the entry breaks.
 fn check_other(
     rt: &impl Abort,
     alloc: Global,
@@ -269,13 +270,13 @@ fn check_other(
     Ok(None)
 }
 
-/// How an entry is judged.
+/// Returns the result of the check of an entry, as text.
 fn verdict_of(tracker: &Tracker, broken: Option<Rule>) -> InlineText<160> {
     let waiting = tracker.waiting();
     InlineText::of(format_args!("{broken:?}, {waiting} waiting"))
 }
 
-/// Takes a line in, behind an entry that broke a rule or none. Answers the rule that this one breaks.
+/// Processes a line, after an entry that broke a rule or none. Returns the rule that the line's entry breaks.
 fn check_line(
     rt: &impl Abort,
     alloc: Global,
@@ -296,7 +297,7 @@ fn check_line(
     }
 }
 
-/// Takes lines in.
+/// Processes lines.
 fn check_lines(
     rt: &impl Abort,
     alloc: Global,
@@ -325,7 +326,7 @@ fn check_session(
     check_lines(rt, alloc, &mut tracker, lines, name)
 }
 
-/// Each session is as it says.
+/// Checks that each session is as it states.
 fn check_all(
     rt: &impl Abort,
     alloc: Global,
@@ -340,12 +341,12 @@ fn check_all(
     Ok(())
 }
 
-/// Each session of a host that connects.
+/// Checks each session of a host that connects.
 fn check_host(rt: &impl Abort, alloc: Global, sessions: &str) -> Result<(), Stop> {
     check_all(rt, alloc, settings(1_048_576)?, sessions)
 }
 
-/// Each session of a host that connects, where a message has at most 256 octets.
+/// Checks each session of a host that connects, with messages of at most 256 bytes.
 fn check_small(rt: &impl Abort, alloc: Global, sessions: &str) -> Result<(), Stop> {
     check_all(rt, alloc, settings(256)?, sessions)
 }
@@ -415,20 +416,20 @@ fn when_a_tracker_is_due_late(rt: HostRuntime) -> Result<(), Stop> {
     check_small(&rt, rt.alloc(), LATE)
 }
 
-/// An equipment that listens is selected, and tells the host of the two primaries that expired.
+/// Equipment that listens is selected, and reports the two primaries that expired to the host.
 #[test]
 fn an_equipment_that_listens(rt: HostRuntime) -> Result<(), Stop> {
     let settings = settings_of(Role::Equipment, Side::Passive, 1_048_576)?;
     check_all(&rt, rt.alloc(), settings, LISTENING)
 }
 
-/// The readers of what is open: the first of the sent primaries, and the numbers in use.
+/// Checks the readers of open transactions: the first of the sent primaries, and the system bytes in use.
 #[test]
 fn the_oldest_and_what_is_in_use(rt: HostRuntime) -> Result<(), Stop> {
     check_small(&rt, rt.alloc(), IN_USE)
 }
 
-/// Takes a frame without text in, which breaks no rule. Where memory was refused, a second try meets no refusal.
+/// Adds a frame without text, which breaks no rule. If an allocation fails, a retry succeeds.
 fn step_frame(
     rt: &impl Abort,
     tracker: &mut Tracker,
@@ -445,7 +446,7 @@ fn step_frame(
     Ok(())
 }
 
-/// S1F1 W is taken, with each of many system bytes.
+/// Accepts S1F1 W, with each of many system bytes.
 fn take_many(rt: &impl Abort, tracker: &mut Tracker) -> Result<(), Stop> {
     let header = header_of("00008101000000000000")?;
     for system in 0u32..10_000 {
@@ -454,7 +455,7 @@ fn take_many(rt: &impl Abort, tracker: &mut Tracker) -> Result<(), Stop> {
     Ok(())
 }
 
-/// S1F2 is sent to each, the newest first.
+/// Sends S1F2 to each, the newest first.
 fn answer_many(rt: &impl Abort, tracker: &mut Tracker) -> Result<(), Stop> {
     let header = header_of("00000102000000000000")?;
     for system in (0u32..10_000).rev() {
@@ -463,7 +464,7 @@ fn answer_many(rt: &impl Abort, tracker: &mut Tracker) -> Result<(), Stop> {
     Ok(())
 }
 
-/// As many as are open, in any order: each is answered by its own number.
+/// Any number may be open, and be answered in any order: each by its own system bytes.
 #[test]
 fn many_are_answered_from_the_newest(rt: HostRuntime) -> Result<(), Stop> {
     let mut tracker = Tracker::new(rt.alloc(), settings(256)?);

@@ -1,10 +1,10 @@
-//! What is said of attempts to connect that fail and are made again.
+//! The messages on attempts to connect that fail and are repeated.
 
 use crate::error_help::link_words;
 use cli_serve::{Attempts, ConnectError};
 use std::alloc::Global;
 
-/// Writes one line for each kind of failure to standard error, where words are asked for.
+/// Writes one line for each kind of failure to standard error, if errors are explained.
 #[derive(Drop)]
 pub struct FailedAttempts<'a, R: Eprint> {
     alloc: Global,
@@ -12,12 +12,12 @@ pub struct FailedAttempts<'a, R: Eprint> {
     address: &'a str,
     port: u16,
     is_verbose: bool,
-    // What was written.
+    // The kinds of failure that were written.
     written: Vec<ConnectError>,
 }
 
 impl<'a, R: Eprint> FailedAttempts<'a, R> {
-    /// Returns those of a service at this address and port, of which none has failed yet.
+    /// Creates a value for a service at this address and port, without failed attempts.
     pub fn new(
         alloc: Global,
         rt: &'a R,

@@ -1,14 +1,14 @@
-//! A place in a text, for people.
+//! A position in a text, for people.
 
 use std::alloc::{AllocError, Global};
 
-// How many octets of a line are shown at most before the place, and from there on.
+// The maximum number of bytes of a line that are shown before the position, and from it on.
 const BEFORE: usize = 60;
 
 const BEHIND: usize = 40;
 
-/// What is said of the place in a text before which it has so many octets, or of its end: behind the number of its line
-/// and its column, from 1, in octets. Below are the line, and a mark under the place.
+/// Returns a message on the position in a text after the first `at` bytes, or on the text's end. The message follows
+/// the number of its line and its column, from 1, in bytes. Below are the line, and a mark under the position.
 pub fn placed(alloc: Global, text: &[u8], at: usize, said: &str) -> Result<String, AllocError> {
     let (before, subsequent) = text.split_at(at.min(text.len()));
     let line = before.split(is_feed).count();
@@ -19,8 +19,9 @@ pub fn placed(alloc: Global, text: &[u8], at: usize, said: &str) -> Result<Strin
     marked(words, before, subsequent)
 }
 
-/// Appends a line of a text, by what is before a place and from it on, and below it a mark under the place. Of a long line
-/// the part around the place is shown; an octet that is no printable ASCII is shown as `?`, a tab as a space.
+/// Appends a line of a text, from what is before a position and from it on, and below it a mark under the position. Of
+/// a long line the part around the position is shown. A byte that is not printable ASCII is shown as `?`, a tab as a
+/// space.
 pub fn marked(mut words: String, before: &[u8], subsequent: &[u8]) -> Result<String, AllocError> {
     let before = &before[before.len().saturating_sub(BEFORE)..];
     let subsequent = &subsequent[..subsequent.len().min(BEHIND)];

@@ -1,4 +1,4 @@
-//! Words for people: what a fault says, and what to do about it.
+//! Explanations for people: what an error means, and what to do about it.
 
 use crate::caret::placed;
 use cli_options::ToolFault;
@@ -6,22 +6,22 @@ use cli_serve::ConnectError;
 use std::alloc::{AllocError, Global};
 use std::io::{BufRead, ErrorKind};
 
-/// What is known of a fault besides its name.
+/// The context of an error, in addition to its name.
 #[derive(Drop)]
 pub enum Known {
-    /// Nothing more.
+    /// No context.
     Nothing,
-    /// What is to be said of it: what is wrong with the command line, or why there is no connection.
+    /// A message: what is wrong with the command line, or why there is no connection.
     Said(String),
-    /// The input begins as a file of packets does, and isn't to be one.
+    /// The input starts like a file of packets, and should not be one.
     Packets,
-    /// The input, which is to be notation.
+    /// The input, which should be notation.
     Notation(Vec<u8>),
-    /// The input is to be a capture of packets.
+    /// The input should be a capture of packets.
     Capture,
 }
 
-/// Why the command ends before its work is done, and what is known of it.
+/// Why the command ends before its work is done, with the context.
 #[derive(Drop)]
 pub struct Failure {
     pub fault: ToolFault,
@@ -29,12 +29,12 @@ pub struct Failure {
 }
 
 impl Failure {
-    /// A fault, and what is known of it.
+    /// Creates a failure from an error and its context.
     pub fn new(fault: ToolFault, known: Known) -> Failure {
         Failure { fault, known }
     }
 
-    /// A fault, and what is to be said of it, unless memory was wanting for that.
+    /// Creates a failure from an error and its message. Without a message if its allocation failed.
     pub fn said(fault: ToolFault, words: Result<String, AllocError>) -> Failure {
         Failure::new(fault, words.map_or(Known::Nothing, Known::Said))
     }
@@ -52,7 +52,7 @@ impl From<AllocError> for Failure {
     }
 }
 
-// The file of a packet capture begins so: pcap in either order of octets, in micro- and nanoseconds, and pcapng.
+// The first bytes of a packet capture file: pcap in either byte order, with micro- and nanoseconds, and pcapng.
 const CAPTURES: [[u8; 4]; 5] = [
     [0xd4, 0xc3, 0xb2, 0xa1],
     [0xa1, 0xb2, 0xc3, 0xd4],
@@ -61,34 +61,33 @@ const CAPTURES: [[u8; 4]; 5] = [
     [0x0a, 0x0d, 0x0d, 0x0a],
 ];
 
-/// The words for a fault: what happened, and what to do. They may be several lines. Of a notation they begin with the
-/// place, where the fault has one: the line and the column; the line itself follows, with a mark below the place.
+/// Returns the explanation of an error: what happened, and what to do. It may have several lines. For a notation it
+/// starts with the position, if the error has one: the line and the column. The line itself follows, with a mark below
+/// the position.
 pub fn words_for(alloc: Global, failure: &Failure) -> Result<String, AllocError> {
     let name = failure.fault.to_string(alloc)?;
     let name = name.as_str();
     let (name, place) = name.split_once(" at=").unwrap_or((name, ""));
-    let sentence = said_of(name, SENTENCES).unwrap_or("see docs/FORMATS.md");
+    let sentence = said_of(name, SENTENCES).unwrap_or("see docs/CLI.md");
     let said = match &failure.known {
         Known::Said(words) => words.as_str(),
         Known::Notation(input) => match place.parse::<usize>() {
             Ok(at) => return placed(alloc, input, at, sentence),
             Err(_) => sentence,
         },
-        Known::Packets => {
-            "this is a pcap file, a capture of packets: hsms capture reads it, and docs/CAPTURES.md tells more"
-        }
+        Known::Packets => { "this is a packet capture: use hsms capture (docs/CAPTURES.md)" }
         Known::Capture => said_of(name, CAPTURE_SENTENCES).unwrap_or(sentence),
         Known::Nothing => sentence,
     };
     String::from_str(alloc, said)
 }
 
-/// Whether a file of packets begins as this input does, of which nothing was read yet.
+/// Returns true if this input, of which nothing was read yet, starts like a file of packets.
 pub fn begins_as_capture<R: BufRead>(input: &mut R) -> bool {
     input.fill_buf().is_ok_and(|octets| CAPTURES.iter().any(|mark| octets.starts_with(mark)))
 }
 
-/// Why there is no connection.
+/// Returns why there is no connection.
 pub fn link_words(
     alloc: Global,
     address: &str,
@@ -100,71 +99,71 @@ pub fn link_words(
         ConnectError::NoDescriptor => {
             return String::from_str(
                 alloc,
-                "no file descriptor is left for a connection: end what holds them, or allow more (ulimit -n)",
+                "no file descriptor is left: close some, or raise the limit (ulimit -n)",
             );
         }
     };
     match kind {
         ErrorKind::ConnectionRefused => format!(in alloc;
-            "connection refused by {address}:{port}: nobody listens there. Start the other end first, or see --address and --port"
+            "connection refused by {address}:{port}: nothing listens there. Start the other end first, or check --address and --port"
         ),
         ErrorKind::AddrInUse => format!(in alloc;
-            "port {port} is in use: another program listens there. End it, or take another --port"
+            "port {port} is in use: stop the program that uses it, or choose another --port"
         ),
         ErrorKind::Uncategorized | ErrorKind::InvalidInput => format!(in alloc;
-            "no such host: {address}. See --address, an IP address or a name that this machine can look up"
+            "unknown host: {address}. --address takes an IP address or a resolvable host name"
         ),
         ErrorKind::AddrNotAvailable => format!(in alloc;
-            "{address} is no address of this machine, where a passive end listens: see --address"
+            "{address} is not an address of this machine: a passive end cannot listen there. Check --address"
         ),
         ErrorKind::PermissionDenied => format!(in alloc;
-            "the system doesn't allow port {port}: take one from 1024 on"
+            "no permission to use port {port}: choose a port from 1024 up"
         ),
         ErrorKind::TimedOut | ErrorKind::HostUnreachable | ErrorKind::NetworkUnreachable =>
             format!(in alloc;
-                "no answer from {address}:{port}: see --address, the network, and what stands between"
+                "no answer from {address}:{port}: check --address, the network and firewalls"
             ),
-        _ => format!(in alloc; "no connection with {address}:{port}: see --address and --port"),
+        _ => format!(in alloc; "no connection to {address}:{port}: check --address and --port"),
     }
 }
 
-// What a fault of a name says, and what to do. It is the one table of these words.
+// What an error name means, and what to do. It is the only table of these texts.
 const SENTENCES: &str = "\
-    command: see hsms --help, and --help behind a command\n\
-    TooShort: a message's length is below 10, so these aren't HSMS messages, or some octets are missing before it\n\
-    TooLong: a message is longer than --max: give a greater one, or see whether the input is what it should be\n\
-    CutOff: the input ends within a message: its last octets are missing\n\
-    NoHex: this line isn't octets in hexadecimal digits: without --hex the input is read as octets\n\
-    NoMessage: this line isn't one message within --max: lines of a log have no length, and ask for --bare too\n\
-    Input: the input is longer than 67108864 octets: give it in parts\n\
-    Syntax: this can't stand here; a message is S1F1 W <A \"text\"> ., its end is a full stop\n\
-    Number: this is no value of its type, or out of its range\n\
-    Count: the number in these brackets isn't how many values follow\n\
-    Deep: lists are nested deeper here than --depth: give a greater one, or fewer lists\n\
-    TooLarge: a value or a list of a message has more than 16777215 octets or elements\n\
-    Endless: there is more than the command counts: give the input in parts\n\
-    Read: standard input can't be read: see that it is open, and no folder\n\
-    Write: standard output can't be written: see that the disk isn't full, and that its reader goes on\n\
-    Log: the log can't be written: see that standard output is open, the disk isn't full, and its reader goes on\n\
-    Link: the connection broke: the other end reset it, or took nothing for T8. The log tells how far it came\n\
-    Turns: all turns are used, and the connection was up: give more --turns\n\
-    Memory: memory is wanting: give the command more, or a smaller input";
+    command: run hsms --help, or hsms COMMAND --help\n\
+    TooShort: a message length is below 10: this is not HSMS data, or bytes are missing before it\n\
+    TooLong: a message is longer than --max: raise --max, or check that the input is HSMS data\n\
+    CutOff: the input ends inside a message\n\
+    NoHex: this line is not hexadecimal; without --hex the input is read as bytes\n\
+    NoMessage: this line is not exactly one message within --max; lines of a log have no length bytes: add --bare\n\
+    Input: the input is longer than 67108864 bytes: split it\n\
+    Syntax: unexpected token; a message is S1F1 W <A \"text\"> . and ends with a full stop\n\
+    Number: not a value of this type, or out of range\n\
+    Count: the number in brackets does not match the number of values\n\
+    Deep: lists are nested deeper than --depth: raise --depth, or nest fewer lists\n\
+    TooLarge: a value or list has more than 16777215 bytes or elements\n\
+    Endless: the input exceeds the program's counters: split it\n\
+    Read: cannot read standard input: is it open, and not a directory?\n\
+    Write: cannot write standard output: is the disk full, or the pipe closed?\n\
+    Log: cannot write the log: is standard output open, the disk full, or the pipe closed?\n\
+    Link: the connection failed: the peer reset it, or accepted no data for T8. The log shows how far it got\n\
+    Turns: the turn limit was reached while the connection was up: raise --turns\n\
+    Memory: out of memory: provide more, or split the input";
 
-// The same of the faults of a capture, whose words are other ones.
+// The sentences for errors of `capture` that differ from those above, or exist only there.
 const CAPTURE_SENTENCES: &str = "\
-    Lost: this packet shows that octets are missing: capture again at the end itself, whole packets (-s 0), and none dropped\n\
-    Length: a message is shorter than 10 octets or longer than --max: is this the port of HSMS? Else give a greater --max\n\
-    Differs: what this packet brings again isn't what came first: capture nearer to the end, where one device alone sends it\n\
-    Full: too much waits for octets that are missing: capture again at the end itself, whole packets and none dropped\n\
-    CutOff: the capture ends within a packet, or is empty: end the program that writes it first, or see what cut it off\n\
-    Capture: here the file isn't one of pcap or pcapng: give the one that tcpdump, tshark or Wireshark wrote, unpacked\n\
-    Time: this packet has no time, or none that a log can have: capture again with times, or leave the packet out\n\
-    Overlap: here a connection comes up while another one is up, and a log has one at a time: without --log each is judged\n\
-    Peer: this connection is one of other addresses, and a log is of two: say by --with which peer is meant\n\
-    NoConnection: no connection came up at --port: is this the port of HSMS, and does the capture begin before the connection does, or is --joined given?\n\
-    NotJudged: the last line of the output names HSMS that was not judged: give --joined, its --device or its --port";
+    Lost: this packet shows that the capture lost data: capture at the end itself, whole packets (-s 0), without drops\n\
+    Length: a message is shorter than 10 bytes or longer than --max: is this the HSMS port? If so, raise --max\n\
+    Differs: a retransmission carries other data than the original: capture closer to the end, where one device sends it\n\
+    Full: too much data waits for missing packets: capture at the end itself, whole packets, without drops\n\
+    CutOff: the file is empty or ends inside a packet: stop the capturing program first, or check what truncated it\n\
+    Capture: not a valid pcap or pcapng file here: use an uncompressed file from tcpdump, tshark or Wireshark\n\
+    Time: this packet has no usable time stamp: capture with time stamps, or remove the packet\n\
+    Overlap: a connection starts while another is up, and a log holds one at a time: leave out --log to audit each\n\
+    Peer: this connection has other addresses, and a log holds one pair of addresses: choose one with --peer\n\
+    NoConnection: no connection came up at --port: check the port; if the capture starts inside a session, add --midstream\n\
+    NotJudged: the last line of the output names HSMS data that was not audited: add --midstream, its --device or its --port";
 
-// What a table says of the first word of a fault, which may have its place behind that.
+// Returns the text in a table for the first word of an error. Its position may follow that word.
 fn said_of(name: &str, table: &'static str) -> Option<&'static str> {
     let (word, _) = name.split_once(' ').unwrap_or((name, ""));
     table

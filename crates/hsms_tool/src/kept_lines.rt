@@ -1,4 +1,4 @@
-//! The last lines of a log that is read in blocks, for what is said of a line that cannot be read.
+//! The last lines of a log that is read in blocks, for the message on an unreadable line.
 
 use crate::caret::marked;
 use hsms_frame::drop_front;
@@ -10,7 +10,7 @@ use std::alloc::{AllocError, Global};
 use std::io;
 use std::io::Read;
 
-// How many octets of the first line are kept at most: those that it may have, and what is shown past them.
+// The maximum number of bytes of the first line that are kept: those that it may have, and what is shown past them.
 const FIRST: usize = 300;
 
 /// A reader that keeps the first line, and the lines of which a part was in the last block.
@@ -19,16 +19,16 @@ pub struct KeptLines<R> {
     inner: R,
     first: Vec<u8>,
     last: Vec<u8>,
-    // How many octets of these are of lines that have ended.
+    // The number of these bytes in lines that have ended.
     ended: usize,
-    // Whether these begin with the first line.
+    // True if these start with the first line.
     has_first: bool,
-    // Whether memory was refused: no more is kept then.
+    // True if an allocation failed: nothing more is kept then.
     is_refused: bool,
 }
 
 impl<R: Read> KeptLines<R> {
-    /// A reader of which nothing was read.
+    /// Creates a reader of which nothing was read.
     pub fn new(alloc: Global, inner: R) -> KeptLines<R> {
         KeptLines {
             inner,
@@ -40,8 +40,8 @@ impl<R: Read> KeptLines<R> {
         }
     }
 
-    /// Returns why the line that fails cannot be read, and the line itself, with a mark. `None` if the line fails for
-    /// another reason, or memory was refused.
+    /// Returns why the failing line cannot be read, and the line itself, with a mark. Returns `None` if the line fails
+    /// for another reason, or an allocation failed.
     pub fn words_for(&self, alloc: Global, verdict: Verdict) -> Option<String> {
         match verdict {
             Verdict::Fail { line, why } if why == Why::Unreadable && !self.is_refused => {
@@ -68,7 +68,8 @@ impl<R: Read> KeptLines<R> {
         marked(words, before, subsequent)
     }
 
-    // The first line that cannot be read, but for the line of the settings. An audit has read all lines before it.
+    // Returns the first line that cannot be read, except for the line of the settings. An audit has read all lines
+    // before it.
     fn unreadable_line(&self, alloc: Global, max: u32) -> Result<(&[u8], Unreadable), AllocError> {
         let skipped = usize::from(self.has_first);
         for line in self.last.split(is_feed).skip(skipped) {
@@ -82,7 +83,7 @@ impl<R: Read> KeptLines<R> {
         Err(AllocError)
     }
 
-    // Keeps a block after the line that it goes on with.
+    // Keeps a block, after the line that it continues.
     fn keep(&mut self, block: &[u8]) -> Result<(), AllocError> {
         let missing = FIRST.saturating_sub(self.first.len()).min(block.len());
         self.first.extend_from_slice(&block[..missing])?;
@@ -111,7 +112,7 @@ impl<R: Read> Read for KeptLines<R> {
     }
 }
 
-// The first line of a text, without its end.
+// Returns the first line of a text, without its end.
 fn line_at_front(text: &[u8]) -> &[u8] {
     let line = text.split(is_feed).next().unwrap_or(text);
     without_carriage_return(line)

@@ -3,13 +3,13 @@
 use cli_options::command;
 use std::alloc::{AllocError, Global};
 
-/// What `clap` says of the words of a command line: the first paragraph of it in one line, and the usage. What the command
-/// refuses besides, `clap` says nothing of.
+/// Returns what `clap` reports of the words of a command line: the first paragraph of it in one line, and the usage.
+/// `clap` reports nothing of what the command itself rejects.
 pub fn refused_words(alloc: Global, words: &[String]) -> Result<String, AllocError> {
     let Err(error) = command(alloc)?.try_get_matches_from(words) else {
         return String::from_str(
             alloc,
-            "--role, --active and --log are host or equipment, --link is active or passive, --with is an IP address, --only is failures, --form is text, json or html, --bare goes with --hex alone, and --once, --connections and --t5 with --again",
+            "--role, --active and --log take host or equipment; --link active or passive; --peer an IP address; --only failures; --format text, json or html; --bare needs --hex; --once, --connections and --t5 need --reconnect",
         );
     };
     let text = error.to_string(alloc)?;
@@ -23,7 +23,7 @@ pub fn refused_words(alloc: Global, words: &[String]) -> Result<String, AllocErr
     Ok(said)
 }
 
-// The first paragraph, in one line, without the word that it begins with.
+// Returns the first paragraph, in one line, without its first word.
 fn first_paragraph(alloc: Global, text: &str) -> Result<String, AllocError> {
     let mut said = String::new(alloc);
     for line in text.lines() {

@@ -1,4 +1,4 @@
--- The values of an item and their octets, one after another.
+-- The values of an item and their bytes, in order.
 use Rattle.std.proofs.Common.{◌≡◌, ℕ, zero, suc, ◌+◌, ◌*◌, ◌/◌, ◌%◌, ◌<◌, ◌≤◌, false, List, [], ◌∷◌, ◌++◌, ◌-◌, length, take, drop, get_or, refl, sym, ap, ◌∙◌, arith, add-zero, append_assoc, append-nil}
 use Rattle.std.proofs.lemmas.List.{nil_from_length, length-take, length-drop, length-append, take_at, drop_at, take-append-drop, take_more}
 use Rattle.std.proofs.lemmas.Nat.{div-mul-add, mod-mul-add, div-add-mod'}
@@ -39,7 +39,7 @@ module _ {X : Type 0} (One : X → List ℕ → Type 0) (size : ℕ) (read : Lis
       let rest : length (drop size octets) ≡ n * size = omega (arith, length-drop size octets, len) in
       (take size octets, drop size octets, codec.encoded_bytes (take size octets) first (IsOctets-take size octets h), in_order_encoded n (drop size octets) rest (IsOctets-drop size octets h), sym (take-append-drop size octets))
 
-  -- what `each` gives is spelled so, and nothing else is
+  -- The values that `each` reads encode to these bytes, and no other values do.
   pub each_encoded : 0 < size → (octets : List ℕ) → length octets % size ≡ 0 → IsOctets octets → InOrder One (each read size octets) octets
   each_encoded some octets whole h =
       in_order_encoded (length octets / size) octets (omega (arith, div-add-mod' (length octets) size, whole)) h
@@ -55,7 +55,7 @@ module _ {X : Type 0} (One : X → List ℕ → Type 0) (size : ℕ) (read : Lis
   pub each_octets : (xs : List X) (octets : List ℕ) → InOrder One xs octets → IsOctets octets
   each_octets = in_order_octets
 
--- ---- octets that stand for themselves
+-- ---- values that are plain bytes
 
 one_octet : (octets : List ℕ) → pieces octet 1 (length octets) octets ≡ octets
 one_octet [] = refl
@@ -68,7 +68,7 @@ pub flat_octets : (octets : List ℕ) → flat_map octet_alone octets ≡ octets
 flat_octets [] = refl
 flat_octets (x ∷ octets) = flat_map-cons octet_alone x octets ∙ ap (λ (xs : List ℕ). x ∷ xs) (flat_octets octets)
 
--- ---- by the format
+-- ---- by format
 
 pub record IsBody (v : Values) (octets : List ℕ) : Type 0 where
   pub whole : length octets % value_size (format_of_values v) ≡ 0
@@ -80,7 +80,7 @@ body_by : {X : Type 0} (One : X → List ℕ → Type 0) (size : ℕ) (read : Li
 body_by One size read make codec some xs octets h =
     (each_whole One size read codec some xs octets h, each_octets One size read codec xs octets h, ap make (each_read One size read codec some xs octets h))
 
--- the octets of values tell the values
+-- The bytes of values determine the values.
 pub body_reads : (v : Values) (octets : List ℕ) → Body v octets → IsBody v octets
 body_reads v octets h =
     let p = by_format v octets h in record { whole = p.0; octets_are = p.1; read_is = p.2 }
@@ -102,7 +102,7 @@ body_reads v octets h =
     by_format (u2 xs) octets h = body_by (Unsigned 2) 2 (big_number 2) u2 (unsigned_codec 2) (omega arith) xs octets h
     by_format (u4 xs) octets h = body_by (Unsigned 4) 4 (big_number 4) u4 (unsigned_codec 4) (omega arith) xs octets h
 
--- whole values spell what is read of them
+-- Bytes of complete values encode the values that are read from them.
 pub body_encoded : (f : Format) (octets : List ℕ) → is_list f ≡ false → length octets % value_size f ≡ 0 → IsOctets octets → Body (values_of f octets) octets × (format_of_values (values_of f octets) ≡ f)
 body_encoded format.List octets lists whole h = absurd cc
 body_encoded format.Binary octets lists whole h = (each_encoded Octet 1 octet octets_codec (omega arith) octets whole h, refl)
@@ -121,7 +121,7 @@ body_encoded format.U1 octets lists whole h = (each_encoded Octet 1 octet octets
 body_encoded format.U2 octets lists whole h = (each_encoded (Unsigned 2) 2 (big_number 2) (unsigned_codec 2) (omega arith) octets whole h, refl)
 body_encoded format.U4 octets lists whole h = (each_encoded (Unsigned 4) 4 (big_number 4) (unsigned_codec 4) (omega arith) octets whole h, refl)
 
--- one more value of a body
+-- One more value of a body is read.
 pub pieces_go_on : {X : Type 0} (one : List ℕ → X) (size count i : ℕ) (read : List X) (rest first after : List ℕ) (x : X) (total : List X) → i < count → first ≡ take size rest → after ≡ drop size rest → x ≡ one first
     → read ++ pieces one size (count - i) rest ≡ total → (read ++ x ∷ []) ++ pieces one size (count - (i + 1)) after ≡ total
 pieces_go_on one size count i read rest first after x total left first_is after_is x_is so_far =
@@ -130,7 +130,7 @@ pieces_go_on one size count i read rest first after x total left first_is after_
     let next : pieces one size (count - i) rest ≡ x ∷ pieces one size (count - (i + 1)) after = rw (k, x_at, after_is) refl in
     append_assoc read (x ∷ []) (pieces one size (count - (i + 1)) after) ∙ ap (λ (ys : List _). read ++ ys) (sym next) ∙ so_far
 
--- all pieces are left
+-- At the start, all chunks remain.
 pub pieces_to_read : {X : Type 0} (one : List ℕ → X) (size by : ℕ) (read : List X) (octets : List ℕ) → by ≡ size → read ≡ [] → read ++ pieces one size (length octets / by - 0) octets ≡ each one size octets
 pieces_to_read one size by read octets is none =
     let all : length octets / by - 0 ≡ length octets / by = omega arith in
@@ -141,13 +141,13 @@ all_left size by len is some whole =
     let all : len / by - 0 ≡ len / by = omega arith in
     rw (all, is) (omega (arith, whole))
 
--- no piece is left
+-- At the end, no chunk remains.
 pub pieces_done : {X : Type 0} (one : List ℕ → X) (size count i : ℕ) (read : List X) (rest : List ℕ) (total : List X) → count ≤ i → read ++ pieces one size (count - i) rest ≡ total → read ≡ total
 pieces_done one size count i read rest total le so_far =
     let none : count - i ≡ 0 = omega arith in
     sym (append-nil read) ∙ rw none at so_far
 
--- one piece at least is left
+-- At least one chunk remains.
 pub piece_there : (size count i left : ℕ) → i < count → left ≡ (count - i) * size → size ≤ left
 piece_there size count i left lt is =
     let k : count - i ≡ suc (count - (i + 1)) = omega arith in
@@ -156,7 +156,7 @@ piece_there size count i left lt is =
     step : (k : ℕ) → left ≡ suc k * size → size ≤ left
     step k g = omega (arith, g)
 
--- what is left behind one piece
+-- The bytes that remain after one chunk.
 pub remains_after : (size count i before after : ℕ) → i < count → before ≡ (count - i) * size → after + size ≡ before → after ≡ (count - (i + 1)) * size
 remains_after size count i before after left is e =
     let k : count - i ≡ suc (count - (i + 1)) = omega arith in
@@ -166,7 +166,7 @@ remains_after size count i before after left is e =
     step : (k : ℕ) → before ≡ suc k * size → after ≡ k * size
     step k g = omega (arith, g, e)
 
--- one value more is added
+-- One more value is appended.
 pub next_pushed : {X : Type 0} (f : X → List ℕ) (xs : List X) (i : ℕ) (x : X) (before now new : List ℕ) → i < length xs → x ≡ get_or xs i x → now ≡ before ++ flat_map f (take i xs) → new ≡ now ++ f x → new ≡ before ++ flat_map f (take (i + 1) xs)
 next_pushed f xs i x before now new lt is so_far pushed =
     let more : flat_map f (take (i + 1) xs) ≡ flat_map f (take i xs) ++ f x =

@@ -1,4 +1,4 @@
--- Building the elements of a list one after another.
+-- Building of the elements of a list, one by one.
 use Rattle.std.proofs.Common.{◌≡◌, ℕ, suc, ◌+◌, ◌-◌, ◌<◌, ◌≤◌, List, [], ◌∷◌, ◌++◌, length, drop, Result, Ok, Err, refl, sym, ap, ◌∙◌, arith, zero-add}
 use Rattle.std.specs.Prelude.{IsOk}
 use Rattle.std.proofs.lemmas.List.{length-append, length-drop, drop-drop}
@@ -9,7 +9,7 @@ use Rattle.secs_item.specs.Measure.{EndsAt}
 use Rattle.secs_item.proofs.Octets.{IsOctets-drop}
 use Rattle.secs_item.proofs.Items.{item_found, bind_ok, subsequent_ok}
 
--- the values, and then more elements
+-- The values, and then more elements.
 abbrev pub joined : List Value → Elements → Elements
 joined [] es = es
 joined (v ∷ vs) es = element v (joined vs es)
@@ -22,7 +22,7 @@ joined_push : (vs : List Value) (v : Value) (es : Elements) → joined (vs ++ v 
 joined_push [] v es = refl
 joined_push (w ∷ vs) v es = ap (element w) (joined_push vs v es)
 
--- i of the elements are built
+-- Loop invariant: `i` of the elements are built.
 pub record IsBuilding (one : List ℕ → Result (Value × ℕ) Fault) (octets : List ℕ) (place number i end : ℕ) (built : List Value) : Type 0 where
   pub left : Elements
   pub size : ℕ
@@ -49,7 +49,7 @@ starts_building one octets place number within h =
       whole = rw none (p.1 ∙ ap (λ (n : ℕ). Ok (p.0.0, n)) (sym (zero-add p.0.1)));
     }
 
--- the next element, and those behind it
+-- The next element, and the elements after it.
 record IsNext (one : List ℕ → Result (Value × ℕ) Fault) (octets : List ℕ) (n : ℕ) (es : Elements) (size : ℕ) : Type 0 where
   pub first : Value × ℕ
   pub others : Elements × ℕ
@@ -78,11 +78,11 @@ next_of one octets place number i end built lt b =
     let k : number - i ≡ suc (number - (i + 1)) = omega arith in
     next_is one (drop end octets) (number - (i + 1)) b.left b.size (ap (λ (n : ℕ). elements_by one n (drop end octets)) (sym k) ∙ b.left_is)
 
--- the next element is there
+-- The next element exists.
 pub next_measured : (one : List ℕ → Result (Value × ℕ) Fault) (octets : List ℕ) (place number i end : ℕ) (built : List Value) → i < number → IsBuilding one octets place number i end built → IsOk (one (drop end octets))
 next_measured one octets place number i end built lt b = rw (next_of one octets place number i end built lt b).first_is refl
 
--- one more element is built
+-- One more element is built.
 pub continues_building : (depth : ℕ) (octets : List ℕ) (place number i end after : ℕ) (built : List Value) (v : Value) → IsOctets octets → i < number → IsBuilding (item_at depth) octets place number i end built
     → EndsAt end (item_at depth (drop end octets)) v after → IsBuilding (item_at depth) octets place number (i + 1) after (built ++ v ∷ [])
 continues_building depth octets place number i end after built v h lt b ends =
@@ -105,7 +105,7 @@ continues_building depth octets place number i end after built v h lt b ends =
           ∙ ap (λ (n : ℕ). Ok (joined (built ++ v ∷ []) next.others.0, n)) (omega (arith, next.size_is, n_is, ends.2, b.from_place));
     }
 
--- all elements are built
+-- All elements are built.
 pub ends_building : (one : List ℕ → Result (Value × ℕ) Fault) (octets : List ℕ) (place number i end : ℕ) (built : List Value) → number ≤ i → IsBuilding one octets place number i end built → EndsAt place (elements_by one number (drop place octets)) (elements_of built) end
 unfolding elements_by
 ends_building one octets place number i end built le b =

@@ -1,4 +1,4 @@
--- Each kind of value: its octets have one size, and tell the value.
+-- The codecs of the kinds of values: the bytes of a value have one size and determine the value.
 use Rattle.std.proofs.Common.{◌≡◌, ℕ, ◌^◌, ◌<◌, List, [], ◌∷◌, length, get_or, refl, sym, ap, ◌∙◌, arith}
 use Rattle.std.specs.Int.{Width, byte_len, cast_signed, cast_unsigned}
 use mir.Val.{bits}
@@ -58,7 +58,7 @@ unread_codec size = record {
   encoded_bytes = λ o len h. (len, h, refl);
 }
 
--- at a width whose numbers are those of its octets
+-- The signed codec of a width, if the numbers of the width are those of its bytes.
 pub signed_codec : (width : Width) → 2 ^ bits width ≡ 256 ^ byte_len width → IsCodec (Signed width) (byte_len width) (signed width)
 signed_codec width same = record {
   length_is = λ z o one. rw one.1 (length-bytes_high_first (byte_len width) (cast_unsigned width z));

@@ -1,4 +1,4 @@
--- What is spelled is read again, whatever follows.
+-- Decoding of an encoding, whatever bytes follow.
 use Rattle.std.proofs.Common.{◌≡◌, ℕ, zero, suc, ◌+◌, ◌<◌, ◌≤◌, true, false, List, ◌++◌, length, drop, Result, Ok, refl, sym, ap, ◌∙◌, subst, arith, append_assoc}
 use Rattle.std.proofs.lemmas.List.{length-append, take_at, drop_at}
 use Rattle.byteorder.specs.Numbers.{length-bytes_high_first}
@@ -31,7 +31,7 @@ not_list (u1 xs) = refl
 not_list (u2 xs) = refl
 not_list (u4 xs) = refl
 
--- a header with its body stands in front of more
+-- A header with its body, followed by more bytes.
 framed_front : (f : Format) (number : ℕ) (body octets rest : List ℕ) (framed : Framed f number body octets) → octets ++ rest ≡ header f framed.field number ++ (body ++ rest)
 framed_front f number body octets rest framed =
     ap (λ (o : List ℕ). o ++ rest) framed.parts ∙ append_assoc (header f framed.field number) body rest
@@ -71,7 +71,7 @@ list_by inner depth es body octets rest deep framed read =
     let size : 1 + framed.field + length body ≡ length octets = sym (ap length framed.parts ∙ framed_length format.List framed.field n body) in
     rw (header_read, left, read, size) refl
 
--- the elements before more octets
+-- The elements, followed by more bytes.
 element_by : (one : List ℕ → Result (Value × ℕ) Fault) (v : Value) (es : Elements) (first others rest : List ℕ) → one (first ++ (others ++ rest)) ≡ Ok (v, length first)
     → elements_by one (count es) (others ++ rest) ≡ Ok (es, length others) → elements_by one (count (element v es)) ((first ++ others) ++ rest) ≡ Ok (element v es, length (first ++ others))
 unfolding elements_by

@@ -1,4 +1,4 @@
--- The fault that is read is the one that the octets have, and no other.
+-- Errors: reading returns exactly the error that the bytes have.
 use Rattle.std.proofs.Common.{◌≡◌, ℕ, zero, suc, ◌+◌, ◌<◌, ◌≤◌, Bool, true, false, List, [], ◌++◌, length, drop, Result, Ok, Err, refl, sym, ap, ◌∙◌, subst, arith, append_assoc, inl, inr}
 use Rattle.std.specs.Prelude.{◌⊎◌}
 use Rattle.std.proofs.lemmas.List.{length-append, drop_at}
@@ -16,9 +16,9 @@ use Rattle.secs_item.proofs.Determinism.{item_reads}
 abbrev pub fault : ℕ → Reason → Fault
 fault at reason = record { at = at; reason = reason }
 
--- ---- the fault that was read
+-- ---- the error that reading returns
 
--- elements, and then one at fault
+-- Valid elements, and then one with an error.
 record IsElementFault (depth number : ℕ) (octets : List ℕ) (f : Fault) : Type 0 where
   pub before : Elements
   pub fewer : count before < number
@@ -39,7 +39,7 @@ bind_err : {A B : Type 0} (r : Result A Fault) (next : A → Result B Fault) (f 
 bind_err (Ok x) next f e = inr (x, refl, e)
 bind_err (Err g) next f e = inl cc
 
--- an element was read, and then those behind it
+-- The result of reading an element and then the elements after it.
 abbrev and_others : Value × ℕ → Result (Elements × ℕ) Fault → Result (Elements × ℕ) Fault
 and_others x read = subsequent x.1 read >>= λ others. Ok (element x.0 others.0, x.1 + others.1)
 
@@ -84,7 +84,7 @@ header_fault depth octets reason f is e =
     let made : fault 0 reason ≡ f = cc in
     subst (λ (g : Fault). FaultsInHeader depth octets g.at g.reason) made (refl, is)
 
--- an item's fault is its header's, or comes from its elements
+-- The error of an item is its header's, or comes from its elements.
 item_fault : (inner : ℕ → List ℕ → Result (Elements × ℕ) Fault) (depth : ℕ) (octets : List ℕ) (r : Result Head Reason) (f : Fault) → header_at depth octets ≡ r → item_by inner octets r ≡ Err f
     → FaultsInHeader depth octets f.at f.reason ⊎ ((head : Head) × (r ≡ Ok head) × (is_list head.format ≡ true) × (subsequent head.size (inner head.length (drop head.size octets)) ≡ Err f))
 unfolding item_by
@@ -137,7 +137,7 @@ fault_found (suc depth) octets f h e =
           fault = again inner.rest (record { at = inner.at_in_element; reason = g.0.reason }) rest_h inner.read;
         })
 
--- ---- a fault that the octets have is read
+-- ---- reading returns the error that the bytes have
 
 fault_after : (depth : ℕ) (before : Elements) (number : ℕ) (encoded_bytes rest : List ℕ) (at : ℕ) (reason : Reason) → count before < number → AllEncoded before encoded_bytes → nest_of_elements before ≤ depth
     → item_at depth rest ≡ Err (fault at reason) → elements_by (item_at depth) number (encoded_bytes ++ rest) ≡ Err (fault (length encoded_bytes + at) reason)

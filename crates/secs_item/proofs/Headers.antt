@@ -1,4 +1,4 @@
--- A header that is read is spelled so, and one that is spelled is read.
+-- Headers: reading and encoding are inverse.
 use Rattle.std.proofs.Common.{◌≡◌, ℕ, zero, suc, ◌+◌, ◌-◌, ◌*◌, ◌/◌, ◌%◌, ◌^◌, ◌<◌, ◌≤◌, Bool, true, false, cond, not, eqb, ltb, List, [], ◌∷◌, ◌++◌, length, take, drop, Option, Some, None, Result, Ok, Err, refl, sym, ap, ◌∙◌, arith, inl, inr, one-add, eq-eqb}
 use Rattle.std.specs.Prelude.{◌⊎◌, ◌&&◌}
 use Rattle.std.proofs.Math.Dec.{eqb-suc-zero}
@@ -13,7 +13,7 @@ use Rattle.secs_item.specs.Header.{Reason, no_length, deep, ragged, truncated, H
 use Rattle.secs_item.specs.Encoding.{IsOctets, header}
 use Rattle.secs_item.proofs.Octets.{IsOctets-take, IsOctets-tail, big_bytes-big_number}
 
--- ---- tests that did not fail
+-- ---- checks that passed
 
 guard_ok : {A : Type 0} (b : Bool) (reason : Reason) (r : Result A Reason) (y : A) → cond b (Err reason) r ≡ Ok y → (b ≡ false) × (r ≡ Ok y)
 guard_ok true reason r y e = absurd cc
@@ -71,7 +71,7 @@ code_is code f e = code_among all_formats code f e
 
 -- ---- headers
 
--- what is known of octets whose header was read
+-- The properties of bytes whose header was read.
 pub record IsHeader (depth : ℕ) (octets : List ℕ) (head : Head) : Type 0 where
   pub field : ℕ
   pub one_at_least : 1 ≤ field
@@ -139,7 +139,7 @@ is_deep false depth h = refl
 is_deep true zero h = absurd (omega (arith, h refl))
 is_deep true (suc depth) h = eqb-suc-zero depth
 
--- what is spelled is read, whatever follows
+-- An encoded header is read back, whatever follows it.
 pub header_reads : (depth : ℕ) (f : Format) (field number : ℕ) (rest : List ℕ) → 1 ≤ field → field ≤ 3 → number < 256 ^ field → (is_list f ≡ true → 0 < depth)
     → (is_list f ≡ false → (number % value_size f ≡ 0) × (number ≤ length rest)) → header_at depth (header f field number ++ rest) ≡ Ok (record { format = f; size = 1 + field; length = number })
 unfolding header_at
@@ -157,7 +157,7 @@ header_reads depth f field number rest some few fits deep_enough whole =
     rw (low, high, there, format_with_code-code_of f, allowed, long, value, left)
     (ok_body (is_list f) (eqb (number % value_size f) 0) (ltb (length rest) number) (record { format = f; size = 1 + field; length = number }) (λ lists. (eq-eqb _ 0 (whole lists).0, le-ltb _ _ (whole lists).1)))
 
--- a list whose length octet is missing
+-- A list whose length byte is missing.
 pub short_list_cut : (depth : ℕ) (rest : List ℕ) → length rest < 1 → 0 < depth → header_at depth (1 ∷ rest) ≡ Err truncated
 unfolding header_at
 short_list_cut depth [] none some = rw (code_of_list, is_deep true depth (λ e. some)) refl

@@ -1,4 +1,4 @@
--- What is read is spelled so, and what is spelled is read.
+-- Items: reading and encoding are inverse.
 use Rattle.std.proofs.Common.{◌≡◌, ℕ, zero, suc, ◌+◌, ◌-◌, ◌%◌, ◌<◌, ◌≤◌, Bool, true, false, List, [], ◌++◌, length, take, drop, Result, Ok, Err, refl, sym, ap, ◌∙◌, subst, arith, append_assoc}
 use Rattle.std.proofs.lemmas.List.{length-append, length-take, drop_at, take-append-drop}
 use Rattle.byteorder.specs.Endian.{big_bytes}
@@ -14,7 +14,7 @@ use Rattle.secs_item.proofs.Octets.{IsOctets-drop, IsOctets-rest, IsOctets-take}
 use Rattle.secs_item.proofs.Bodies.{body_encoded}
 use Rattle.secs_item.proofs.Headers.{IsHeader, header_is}
 
--- ---- steps that did not fail
+-- ---- steps that succeeded
 
 pub bind_ok : {A B : Type 0} (r : Result A Fault) (f : A → Result B Fault) (y : B) → (r >>= f) ≡ Ok y → (x : A) × (r ≡ Ok x) × (f x ≡ Ok y)
 bind_ok (Ok x) f y e = (x, refl, e)
@@ -24,7 +24,7 @@ pub subsequent_ok : {A : Type 0} (size : ℕ) (r : Result A Fault) (y : A) → s
 subsequent_ok size (Ok x) y e = e
 subsequent_ok size (Err d) y e = absurd cc
 
--- ---- what was read from the front
+-- ---- the result of reading from the start
 
 pub record IsItem (depth : ℕ) (octets : List ℕ) (v : Value) (n : ℕ) : Type 0 where
   pub encoded_bytes : List ℕ
@@ -72,7 +72,7 @@ elements_found depth one found (suc number) octets x h e =
       nesting = omega (arith, first.nesting, others.nesting);
     })
 
--- the octets of a header and a body
+-- The length of a header and a body in bytes.
 pub framed_length : (f : Format) (field number : ℕ) (body : List ℕ) → length (header f field number ++ body) ≡ 1 + field + length body
 framed_length f field number body = omega (arith, length-append (big_bytes field number) body, length-bytes_high_first field number)
 
@@ -142,7 +142,7 @@ by_found depth inner found octets x (Ok head) h is e = by_kind (is_list head.for
         let made : ◌≡◌ {A = Value × ℕ} (values (values_of head.format (take head.length (drop head.size octets))), head.size + head.length) x = cc in
         subst (λ (y : Value × ℕ). IsItem depth octets y.0 y.1) made (values_found depth octets head h known lists)
 
--- what is read from the front is spelled there
+-- An item that is read from the start is encoded there.
 pub item_found : (depth : ℕ) (octets : List ℕ) (x : Value × ℕ) → IsOctets octets → item_at depth octets ≡ Ok x → IsItem depth octets x.0 x.1
 unfolding item_at
 item_found zero octets x h e = by_found 0 (λ n rest. Ok (no_elements, 0)) (λ lt. absurd (omega arith)) octets x (header_at 0 octets) h refl e

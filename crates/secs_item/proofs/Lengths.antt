@@ -1,4 +1,4 @@
--- Reading behind a place: the lengths and faults of items one after another.
+-- Reading from an offset: the lengths and errors of consecutive items.
 use Rattle.std.proofs.Common.{◌≡◌, ℕ, zero, suc, ◌+◌, ◌-◌, ◌≤◌, ◌<◌, true, false, List, take, drop, Result, Ok, Err, refl, sym, ap, ◌∙◌, arith, add_assoc, add-zero}
 use Rattle.std.specs.Prelude.{IsOk}
 use Rattle.std.proofs.lemmas.List.{drop-drop}
@@ -13,7 +13,7 @@ use Rattle.secs_item.specs.Fault.{fault_at}
 
 -- ---- elements
 
--- an element, and what is read behind it
+-- An element, and the result of reading after it.
 subsequent_element : (place size : ℕ) (v : Value) (others : Result (Elements × ℕ) Fault)
     → end_from place (subsequent size others >>= λ o. Ok (element v o.0, size + o.1)) ≡ end_from (place + size) others
 subsequent_element place size v (Ok o) = ap (λ (n : ℕ). Ok n) (sym (add_assoc place size o.1))
@@ -34,21 +34,21 @@ unfolding elements_by
 first_fails one place n octets (Ok x) e ended is = absurd cc
 first_fails one place n octets (Err f) e ended is = rw is (sym ended)
 
--- one more of the elements that are left
+-- One more of the remaining elements is read.
 pub elements_go_on : (one : List ℕ → Result (Value × ℕ) Fault) (octets : List ℕ) (count i place end : ℕ) (total : Result ℕ ItemFault) → i < count → Ok end ≡ end_from place (one (drop place octets))
     → end_from place (elements_by one (count - i) (drop place octets)) ≡ total → end_from end (elements_by one (count - (i + 1)) (drop end octets)) ≡ total
 elements_go_on one octets count i place end total left ended so_far =
     let k : count - i ≡ suc (count - (i + 1)) = omega arith in
     sym (ap (λ (n : ℕ). end_from place (elements_by one n (drop place octets))) k ∙ first_is one place (count - (i + 1)) octets (one (drop place octets)) end ended refl) ∙ so_far
 
--- the next of the elements that are left is at fault
+-- The next of the remaining elements has an error.
 pub elements_fail : (one : List ℕ → Result (Value × ℕ) Fault) (octets : List ℕ) (count i place : ℕ) (e : ItemFault) (total : Result ℕ ItemFault) → i < count → Err e ≡ end_from place (one (drop place octets))
     → end_from place (elements_by one (count - i) (drop place octets)) ≡ total → Err e ≡ total
 elements_fail one octets count i place e total left ended so_far =
     let k : count - i ≡ suc (count - (i + 1)) = omega arith in
     sym (ap (λ (n : ℕ). end_from place (elements_by one n (drop place octets))) k ∙ first_fails one place (count - (i + 1)) octets (one (drop place octets)) e ended refl) ∙ so_far
 
--- no elements are left
+-- No elements remain.
 pub elements_done : (one : List ℕ → Result (Value × ℕ) Fault) (octets : List ℕ) (count i place : ℕ) (total : Result ℕ ItemFault) → count ≤ i
     → end_from place (elements_by one (count - i) (drop place octets)) ≡ total → Ok place ≡ total
 unfolding elements_by
@@ -59,7 +59,7 @@ elements_done one octets count i place total none so_far =
 
 -- ---- items
 
--- the header that a place has, and what is read behind it
+-- The header at an offset, and the result of reading after it.
 list_by : (inner : ℕ → List ℕ → Result (Elements × ℕ) Fault) (place : ℕ) (octets : List ℕ) (head : Head) → is_list head.format ≡ true
     → end_from place (item_by inner (drop place octets) (Ok head)) ≡ end_from (place + head.size) (inner head.length (drop (place + head.size) octets))
 unfolding item_by
@@ -84,18 +84,18 @@ fails_by inner place octets (Err reason) e is =
     let same : e ≡ fault_at place reason = cc in
     ap (λ (x : ItemFault). Err x) same ∙ ap (λ (n : ℕ). Err (fault_at n reason)) (sym (add-zero place))
 
--- what holds however elements are read holds of an item
+-- A property that holds for every way to read elements holds of an item.
 pub at_any_depth : (P : Result (Value × ℕ) Fault → Type 0) (depth : ℕ) (octets : List ℕ) → ((inner : ℕ → List ℕ → Result (Elements × ℕ) Fault) → P (item_by inner octets (header_at depth octets))) → P (item_at depth octets)
 unfolding item_at
 at_any_depth P zero octets all = all (λ n rest. Ok (no_elements, 0))
 at_any_depth P (suc depth) octets all = all (elements_by (item_at depth))
 
--- an item whose header is at fault
+-- An item whose header has an error.
 pub item_fails : (place depth : ℕ) (octets : List ℕ) (e : ItemFault) → Err e ≡ header_from place (header_at depth (drop place octets)) → Err e ≡ end_from place (item_at depth (drop place octets))
 item_fails place depth octets e is =
     at_any_depth (λ (r : Result (Value × ℕ) Fault). Err e ≡ end_from place r) depth (drop place octets) (λ inner. fails_by inner place octets (header_at depth (drop place octets)) e is)
 
--- a header that was read, in place
+-- The header that was read, with offsets.
 same_header : (place : ℕ) (head : Head) (h : Header) → Ok h ≡ header_from place (Ok head) → h ≡ record { format = head.format; body = place + head.size; length = head.length }
 same_header place head h is = cc
 
@@ -113,14 +113,14 @@ elements_end inner place octets (Ok head) h is lists =
     ap (λ (x : Header). end_from x.body (inner x.length (drop x.body octets))) same ∙ sym (list_by inner place octets head (sym (ap (λ (x : Header). is_list x.format) same) ∙ lists))
 elements_end inner place octets (Err reason) h is lists = absurd cc
 
--- an item of values ends where its body does
+-- An item of values ends with its body.
 pub item_of_values : (place depth : ℕ) (octets : List ℕ) (h : Header) → Ok h ≡ header_from place (header_at depth (drop place octets)) → is_list h.format ≡ false
     → Ok (h.body + h.length) ≡ end_from place (item_at depth (drop place octets))
 item_of_values place depth octets h is lists =
     at_any_depth (λ (r : Result (Value × ℕ) Fault). Ok (h.body + h.length) ≡ end_from place r) depth (drop place octets)
     (λ inner. values_end inner place octets (header_at depth (drop place octets)) h is lists)
 
--- a list ends where its elements do
+-- A list ends with its elements.
 pub item_of_elements : (place depth : ℕ) (octets : List ℕ) (h : Header) → Ok h ≡ header_from place (header_at depth (drop place octets)) → is_list h.format ≡ true → 0 < depth
     → end_from h.body (elements_by (item_at (depth - 1)) h.length (drop h.body octets)) ≡ end_from place (item_at depth (drop place octets))
 unfolding item_at
@@ -129,7 +129,7 @@ item_of_elements place (suc d) octets h is lists deep =
     let less : suc d - 1 ≡ d = omega arith in
     rw less (elements_end (elements_by (item_at d)) place octets (header_at (suc d) (drop place octets)) h is lists)
 
--- an empty list ends behind its header
+-- An empty list ends after its header.
 pub empty_list : (place depth : ℕ) (octets : List ℕ) (h : Header) → Ok h ≡ header_from place (header_at depth (drop place octets)) → is_list h.format ≡ true → h.length ≡ 0
     → Ok h.body ≡ end_from place (item_at depth (drop place octets))
 unfolding item_at elements_by
@@ -139,13 +139,13 @@ empty_list place (suc d) octets h is lists none =
     let ended : end_from h.body (elements_by (item_at d) h.length (drop h.body octets)) ≡ Ok h.body = rw none (ap (λ (n : ℕ). Ok n) (add-zero h.body)) in
     sym ended ∙ elements_end (elements_by (item_at d)) place octets (header_at (suc d) (drop place octets)) h is lists
 
--- ---- what was measured is there
+-- ---- measured items exist
 
 measured_not : {A : Type 0} (r : Result (A × ℕ) Fault) (place : ℕ) (e : ItemFault) → Err e ≡ end_from place r → IsOk r → ⊥
 measured_not (Ok x) place e is h = cc
 measured_not (Err f) place e is h = cc
 
--- an item that was measured has a header
+-- An item that was measured has a header.
 pub header_measured : (place depth : ℕ) (octets : List ℕ) (e : ItemFault) → Err e ≡ header_from place (header_at depth (drop place octets)) → IsOk (item_at depth (drop place octets)) → ⊥
 header_measured place depth octets e is h = measured_not (item_at depth (drop place octets)) place e (item_fails place depth octets e is) h
 
@@ -156,7 +156,7 @@ elements_ok : (size : ℕ) (r : Result (Elements × ℕ) Fault) → IsOk (in_lis
 elements_ok size (Ok x) h = refl
 elements_ok size (Err f) h = cc
 
--- what `h` is read from
+-- The source of `h`.
 module _ (inner : ℕ → List ℕ → Result (Elements × ℕ) Fault) (place : ℕ) (octets : List ℕ) (h : Header) where
   list_measured : (r : Result Head Reason) → Ok h ≡ header_from place r → is_list h.format ≡ true → IsOk (item_by inner (drop place octets) r) → IsOk (inner h.length (drop h.body octets))
   unfolding item_by
@@ -186,7 +186,7 @@ module _ (inner : ℕ → List ℕ → Result (Elements × ℕ) Fault) (place : 
       (head.size + head.length, rw (same, lists', moved) refl, omega (arith, ap (λ (x : Header). x.body) same, ap (λ (x : Header). x.length) same))
   values_ends (Err reason) is lists = absurd cc
 
--- the elements of a list that was measured
+-- The elements of a list that was measured.
 pub elements_measured : (place depth : ℕ) (octets : List ℕ) (h : Header) → Ok h ≡ header_from place (header_at depth (drop place octets)) → is_list h.format ≡ true → 0 < depth
     → IsOk (item_at depth (drop place octets)) → IsOk (elements_by (item_at (depth - 1)) h.length (drop h.body octets))
 unfolding item_at
@@ -195,7 +195,7 @@ elements_measured place (suc d) octets h is lists deep ok =
     let less : suc d - 1 ≡ d = omega arith in
     rw less (list_measured (elements_by (item_at d)) place octets h (header_at (suc d) (drop place octets)) is lists ok)
 
--- a list from its elements
+-- A list, given its elements.
 pub list_is : (place depth : ℕ) (octets : List ℕ) (h : Header) (es : Elements) (end : ℕ) → Ok h ≡ header_from place (header_at depth (drop place octets)) → is_list h.format ≡ true → 0 < depth
     → EndsAt h.body (elements_by (item_at (depth - 1)) h.length (drop h.body octets)) es end → EndsAt place (item_at depth (drop place octets)) (list es) end
 unfolding item_at
@@ -204,7 +204,7 @@ list_is place (suc d) octets h es end is lists deep ends =
     let less : suc d - 1 ≡ d = omega arith in
     list_ends (elements_by (item_at d)) place octets h (header_at (suc d) (drop place octets)) es end is lists (rw less at ends)
 
--- an item of values from its body
+-- An item of values, given its body.
 pub values_are : (place depth : ℕ) (octets : List ℕ) (h : Header) → Ok h ≡ header_from place (header_at depth (drop place octets)) → is_list h.format ≡ false
     → EndsAt place (item_at depth (drop place octets)) (values (values_of h.format (take h.length (drop h.body octets)))) (h.body + h.length)
 values_are place depth octets h is lists =

@@ -1,4 +1,4 @@
--- Octets, and numbers in them.
+-- Bytes, and the numbers in them.
 use Rattle.std.proofs.Common.{◌≡◌, ℕ, zero, suc, ◌+◌, ◌*◌, ◌^◌, ◌<◌, List, [], ◌∷◌, ◌++◌, length, take, drop, refl, sym, ap, ◌∙◌, subst, arith, inl, inr}
 use Rattle.std.proofs.lemmas.Bool.{cases_lt}
 use Rattle.std.proofs.lemmas.List.{append-nil, drop_at, nil_from_length, length-take, get_or-drop, get_or-take, get_or_past}
@@ -36,7 +36,7 @@ pub IsOctets-append : (xs ys : List ℕ) → IsOctets xs → IsOctets ys → IsO
 IsOctets-append [] ys h k = k
 IsOctets-append (x ∷ xs) ys h k = IsOctets-cons x (xs ++ ys) (h 0) (IsOctets-append xs ys (IsOctets-tail x xs h) k)
 
--- ---- numbers, the most significant octet first
+-- ---- numbers, most significant byte first
 
 pub IsOctets-big_bytes : (size n : ℕ) → IsOctets (big_bytes size n)
 IsOctets-big_bytes zero n = IsOctets-nil
@@ -46,7 +46,7 @@ IsOctets-big_bytes (suc size) n = IsOctets-cons (byte_at size n) (big_bytes size
     byte_below zero n = omega arith
     byte_below (suc size) n = omega arith
 
--- the octets of a number are told by the number
+-- The number determines its bytes.
 same_octets : (size : ℕ) (xs ys : List ℕ) → length xs ≡ size → length ys ≡ size → IsOctets xs → IsOctets ys → big_number size xs ≡ big_number size ys → xs ≡ ys
 same_octets zero xs ys lx ly hx hy e = nil_from_length xs lx ∙ sym (nil_from_length ys ly)
 same_octets (suc size) [] ys lx ly hx hy e = absurd (omega arith)
@@ -60,7 +60,7 @@ same_octets (suc size) (x ∷ xs) (y ∷ ys) lx ly hx hy e =
     let rest : xs ≡ ys = same_octets size xs ys (omega arith) (omega arith) tx ty p.1 in
     cc
 
--- what was read is written as it stood
+-- Writing a number that was read reproduces its bytes.
 pub big_bytes-big_number : (size : ℕ) (octets : List ℕ) → length octets ≡ size → IsOctets octets → big_bytes size (big_number size octets) ≡ octets
 big_bytes-big_number size octets len h =
     let n = big_number size octets in

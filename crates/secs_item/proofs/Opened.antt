@@ -1,4 +1,4 @@
--- Measuring lists that stand open, one element after another.
+-- Measuring of unfinished lists, element by element.
 use Rattle.std.proofs.Common.{◌≡◌, ℕ, zero, suc, ◌+◌, ◌-◌, ◌<◌, Bool, true, false, List, length, drop, get_or, Result, Ok, Err, refl, sym, ap, ◌∙◌, arith, inl, inr, add-zero, ◌≢◌}
 use Rattle.std.specs.Prelude.{◌⊎◌}
 use Rattle.std.proofs.Math.ListN.{set}
@@ -16,7 +16,7 @@ use Rattle.secs_item.proofs.Lengths.{first_is, first_fails, item_fails, item_of_
 
 -- ---- parts as headers
 
--- the header that a part is read from
+-- The header that a part is read from.
 abbrev pub IsPartOf : Header → Part → Type 0
 IsPartOf h p = ((is_list h.format ≡ true) × (p.end ≡ h.body) × (p.elements ≡ h.length)) ⊎ ((is_list h.format ≡ false) × (p.end ≡ h.body + h.length) × (p.elements ≡ 0))
 
@@ -38,11 +38,11 @@ same_fault : (place : ℕ) (r : Result Head Reason) (e : ItemFault) → Err e �
 same_fault place (Ok head) e is = absurd cc
 same_fault place (Err reason) e is = let same : e ≡ fault_at place reason = cc in ap (λ (f : ItemFault). Err f) same
 
--- an item whose header is at fault
+-- An item whose header has an error.
 pub part_fails : (place depth : ℕ) (octets : List ℕ) (e : ItemFault) → Err e ≡ part_from place (header_at depth (drop place octets)) → Err e ≡ end_from place (item_at depth (drop place octets))
 part_fails place depth octets e is = item_fails place depth octets e (same_fault place (header_at depth (drop place octets)) e is)
 
--- an item of values, or an empty list, is a part
+-- An item of values, or an empty list, is one part.
 pub part_is_whole : (place depth : ℕ) (octets : List ℕ) (p : Part) → Ok p ≡ part_from place (header_at depth (drop place octets)) → p.elements ≡ 0 → Ok p.end ≡ end_from place (item_at depth (drop place octets))
 part_is_whole place depth octets p is none =
     let x = header_of place (header_at depth (drop place octets)) p is in
@@ -51,7 +51,7 @@ part_is_whole place depth octets p is none =
       | inr k ↦ ap (λ (n : ℕ). Ok n) k.1 ∙ item_of_values place depth octets x.0 x.1 k.0
     ]
 
--- a list ends where its elements do
+-- A list ends with its elements.
 pub part_of_list : (place depth : ℕ) (octets : List ℕ) (p : Part) → Ok p ≡ part_from place (header_at depth (drop place octets)) → 0 < p.elements → 0 < depth
     → end_from p.end (elements_by (item_at (depth - 1)) p.elements (drop p.end octets)) ≡ end_from place (item_at depth (drop place octets))
 part_of_list place depth octets p is some deep =
@@ -63,7 +63,7 @@ part_of_list place depth octets p is some deep =
       | inr k ↦ absurd (omega (arith, k.2, some))
     ]
 
--- ---- lists that stand open
+-- ---- unfinished lists
 
 nothing_more : (r : Result ℕ ItemFault) → and_from_there r (λ end. Ok end) ≡ r
 nothing_more (Ok end) = refl
@@ -73,7 +73,7 @@ one_after_another : (r : Result ℕ ItemFault) (f g : ℕ → Result ℕ ItemFau
 one_after_another (Ok end) f g = refl
 one_after_another (Err e) f g = refl
 
--- an element, and the others from its end on
+-- An element, and the others from its end on.
 elements_then : (one : List ℕ → Result (Value × ℕ) Fault) (octets : List ℕ) (place n : ℕ)
     → end_from place (elements_by one (suc n) (drop place octets)) ≡ and_from_there (end_from place (one (drop place octets))) (λ end. end_from end (elements_by one n (drop end octets)))
 elements_then one octets place n = by_end (end_from place (one (drop place octets))) refl
@@ -86,7 +86,7 @@ same_after : (r : Result ℕ ItemFault) (f g : ℕ → Result ℕ ItemFault) →
 same_after (Ok end) f g same = same end
 same_after (Err e) f g same = refl
 
--- counts further in say nothing of the lists further out
+-- Setting the count of an inner list does not change the result for the outer lists.
 further_in : (counts : List ℕ) (depth : ℕ) (octets : List ℕ) (lists i count place : ℕ) → i + lists < depth → end_of_lists (set counts i count) depth octets lists place ≡ end_of_lists counts depth octets lists place
 unfolding end_of_lists
 further_in counts depth octets zero i count place less = refl
@@ -98,9 +98,9 @@ further_in counts depth octets (suc lists) i count place less =
     ∙ same_after (end_from place (elements_by (item_at at) (get_or counts at 0) (drop place octets))) (end_of_lists (set counts i count) depth octets lists) (end_of_lists counts depth octets lists)
     (λ end. further_in counts depth octets lists i count end (omega arith))
 
--- ---- the steps of the loop; `total` is what all of it gives
+-- ---- the steps of the loop; `total` is the final result
 
--- one list is open
+-- At the start there is one unfinished list.
 pub list_opened : (counts : List ℕ) (depth : ℕ) (octets : List ℕ) (count place : ℕ) → end_of_open counts depth octets (depth - 1) count place ≡ end_from place (elements_by (item_at (depth - 1)) count (drop place octets))
 unfolding end_of_lists
 list_opened counts depth octets count place =
@@ -108,19 +108,19 @@ list_opened counts depth octets count place =
     ap (λ (n : ℕ). and_from_there (end_from place (elements_by (item_at (depth - 1)) count (drop place octets))) (end_of_lists counts depth octets n)) none
     ∙ nothing_more (end_from place (elements_by (item_at (depth - 1)) count (drop place octets)))
 
--- the innermost list has no element left
+-- The innermost list has no elements left.
 module _ (counts : List ℕ) (depth : ℕ) (octets : List ℕ) (inside left place : ℕ) (total : Result ℕ ItemFault) (none : left ≡ 0) (so_far : end_of_open counts depth octets inside left place ≡ total) where
   ended : end_of_lists counts depth octets (depth - 1 - inside) place ≡ total
   unfolding elements_by
   ended = sym (ap (end_of_lists counts depth octets (depth - 1 - inside)) (add-zero place)) ∙ rw none at so_far
 
-  -- and there is no other
+  -- There is no other unfinished list.
   pub all_closed : inside ≡ depth - 1 → Ok place ≡ total
   unfolding end_of_lists
   all_closed last =
       let no_list : depth - 1 - inside ≡ 0 = omega arith in rw no_list at ended
 
-  -- and there is one around it
+  -- There is an enclosing list.
   pub list_closes : (j : ℕ) → j ≡ inside + 1 → j < depth → end_of_open counts depth octets j (get_or counts j 0) place ≡ total
   unfolding end_of_lists
   list_closes j j_is less =
@@ -129,7 +129,7 @@ module _ (counts : List ℕ) (depth : ℕ) (octets : List ℕ) (inside left plac
       ap (λ (n : ℕ). and_from_there (end_from place (elements_by (item_at n) (get_or counts n 0) (drop place octets))) (end_of_lists counts depth octets (depth - 1 - j))) (sym at)
       ∙ rw lists at ended
 
--- the next element is read
+-- The next element is read.
 module _ (counts : List ℕ) (depth : ℕ) (octets : List ℕ) (inside left place : ℕ) (total : Result ℕ ItemFault) (some : left ≡ 0 → ⊥) (so_far : end_of_open counts depth octets inside left place ≡ total) where
   element_next : and_from_there (end_from place (item_at inside (drop place octets))) (λ end. end_of_open counts depth octets inside (left - 1) end) ≡ total
   element_next =

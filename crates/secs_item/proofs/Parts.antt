@@ -1,4 +1,4 @@
--- Parts: what the table of masks says, and headers that have no fault.
+-- Parts: the table of masks, and headers without errors.
 use Rattle.std.proofs.Common.{◌≡◌, ℕ, ◌+◌, ◌-◌, ◌/◌, ◌%◌, ◌<◌, ◌≤◌, Bool, true, false, eqb, ltb, List, ◌∷◌, length, drop, get_or, bit_and, Option, Some, None, Result, Ok, refl, sym, ap, ◌∙◌, arith}
 use Rattle.std.specs.Prelude.{◌&&◌}
 use Rattle.std.proofs.lemmas.Bool.{eqb-true, le-ltb, ne_eqb, eq-eqb, agree_below_at}
@@ -21,13 +21,13 @@ pub masks_right : (first : ℕ) → first < 256 → get_or MASKS first 0 ≡ mas
 unfolding format_with_code
 masks_right first lt = eqb-true _ _ (agree_below_at (λ k. eqb (get_or MASKS k 0) (mask_for (short_format k))) (λ k. true) 256 first refl lt)
 
--- one octet alone begins a list with one length octet
+-- Only one byte begins a list with one length byte.
 pub list_mask : (first : ℕ) → first < 256 → get_or MASKS first 0 ≡ 8 → first ≡ 1
 list_mask first lt is =
     let same = agree_below_at (λ k. eqb (get_or MASKS k 0) 8) (λ k. eqb k 1) 256 first refl lt in
     eqb-true first 1 (sym same ∙ eq-eqb _ _ is)
 
--- one length octet follows where the mask is that of values
+-- If the mask is that of values, one length byte follows.
 short_mask : (first mask : ℕ) → mask ≡ mask_for (short_format first) → mask < 8 → (first % 4 ≡ 1) × (mask ≡ mask_for (format_with_code (first / 4)))
 short_mask first mask is low = by_test (eqb (first % 4) 1) refl
   where
@@ -35,7 +35,7 @@ short_mask first mask is low = by_test (eqb (first % 4) 1) refl
     by_test true e = (eqb-true _ _ e, is ∙ rw e refl)
     by_test false e = let m : mask ≡ 0x2E = is ∙ rw e refl in absurd (omega arith)
 
--- where a number has none of the bits of a format's mask, it is a number of whole values
+-- A number with none of the bits of a format's mask is a multiple of the size of a value.
 mask_is_size : (f : Format) (n : ℕ) → bit_and n (value_size f - 1) ≡ n % value_size f
 mask_is_size format.List n = and_mask n 0
 mask_is_size format.Binary n = and_mask n 0
@@ -54,7 +54,7 @@ mask_is_size format.U1 n = and_mask n 0
 mask_is_size format.U2 n = and_mask n 1
 mask_is_size format.U4 n = and_mask n 2
 
--- ---- headers that have no fault
+-- ---- headers without errors
 
 faultless : (depth first : ℕ) (rest : List ℕ) (f : Format) → (first % 4 ≡ 0 → ⊥) → first % 4 ≤ length rest → format_with_code (first / 4) ≡ Some f → (is_list f ≡ true → 0 < depth)
     → (is_list f ≡ false → (big_number (first % 4) rest % value_size f ≡ 0) × (big_number (first % 4) rest ≤ length rest - first % 4))
@@ -77,12 +77,12 @@ from_list place r head is lists = rw (is, lists) refl
 same_part : (x y n m : ℕ) → x ≡ y → n ≡ m → ◌≡◌ {A = Result Part ItemFault} (Ok (record { end = x; elements = n })) (Ok (record { end = y; elements = m }))
 same_part x y n m xs ns = cc
 
--- the number in one length octet
+-- The number in one length byte.
 one_octet : (place number : ℕ) (octets : List ℕ) → place + 2 ≤ length octets → number ≡ get_or octets (place + 1) 0 → number ≡ big_number 1 (drop (place + 1) octets)
 one_octet place number octets room is =
     let next = ap (λ xs. get_or xs 0 0) (drop_more octets (place + 1) 0 (omega arith)) in omega (arith, is, next)
 
--- a list with one length octet
+-- A list with one length byte.
 pub list_read : (depth place number : ℕ) (octets : List ℕ) → place + 2 ≤ length octets → get_or octets place 0 ≡ 1 → number ≡ get_or octets (place + 1) 0 → 0 < depth
     → ◌≡◌ {A = Result Part ItemFault} (Ok (record { end = place + 2; elements = number })) (part_from place (header_at depth (drop place octets)))
 unfolding format_with_code
@@ -94,7 +94,7 @@ list_read depth place number octets room first is deep =
     ∙ from_list place (header_at depth (drop place octets)) (record { format = format.List; size = 2; length = big_number 1 rest })
     (ap (header_at depth) front ∙ faultless depth 1 rest format.List (λ e. absurd cc) long refl (λ lists. deep) (λ lists. absurd cc)) refl
 
--- the format with this code has this mask
+-- The format with this code has this mask.
 values_with : (o : Option Format) (mask : ℕ) → mask ≡ mask_for o → mask < 8 → (f : Format) × (o ≡ Some f) × (is_list f ≡ false) × (mask ≡ value_size f - 1)
 values_with None mask is low = absurd (omega arith)
 values_with (Some f) mask is low = by_kind (is_list f) refl
@@ -103,7 +103,7 @@ values_with (Some f) mask is low = by_kind (is_list f) refl
     by_kind true lists = let m : mask ≡ 8 = is ∙ rw lists refl in absurd (omega arith)
     by_kind false lists = (f, refl, lists, is ∙ rw lists refl)
 
--- a header of values
+-- A header of values.
 values_of_field : (depth place first number field : ℕ) (octets rest : List ℕ) (mask : ℕ) → drop place octets ≡ first ∷ rest → field ≡ first % 4 → (field ≡ 0 → ⊥) → field ≤ length rest → mask ≡ mask_for (format_with_code (first / 4)) → mask < 8
     → number ≡ big_number field rest → bit_and number mask ≡ 0 → number ≤ length rest - field
     → ◌≡◌ {A = Result Part ItemFault} (Ok (record { end = place + 1 + field + number; elements = 0 })) (part_from place (header_at depth (drop place octets)))
@@ -115,7 +115,7 @@ values_of_field depth place first number field octets rest mask front field_is s
     same_part (place + 1 + field + number) (place + (1 + first % 4) + big_number (first % 4) rest) 0 0 (omega (arith, field_is, same)) refl
     ∙ from_values place (header_at depth (drop place octets)) (record { format = p.0; size = 1 + first % 4; length = big_number (first % 4) rest }) (ap (header_at depth) front ∙ read) p.2
 
--- the same with one length octet
+-- A header of values with one length byte.
 pub values_read : (depth place number mask : ℕ) (octets : List ℕ) → place + 2 ≤ length octets → mask ≡ mask_for (short_format (get_or octets place 0)) → mask < 8
     → number ≡ get_or octets (place + 1) 0 → bit_and number mask ≡ 0 → place + 2 + number ≤ length octets
     → ◌≡◌ {A = Result Part ItemFault} (Ok (record { end = place + 2 + number; elements = 0 })) (part_from place (header_at depth (drop place octets)))

@@ -1,4 +1,4 @@
--- What reading from the front gives, as the definitions say it.
+-- Results of reading from the start, in the terms of the definitions.
 use Rattle.std.proofs.Common.{◌≡◌, ℕ, ◌<◌, ◌≤◌, List, length, take, drop, Result, Ok, Err, refl, sym, ap, ◌∙◌, arith, zero-add, inl, inr}
 use Rattle.std.specs.Prelude.{IfOk, IfErr, IsOk, Option, Some, None}
 use Rattle.std.proofs.lemmas.List.{length-append, length-take, length-drop, take_at, take_all, take-append-drop}
@@ -54,7 +54,7 @@ measure_ok_where depth octets v n is = ap (end_from 0) (front_read depth octets 
 pub measure_err_where : (depth : ℕ) (octets : List ℕ) (at : ℕ) (reason : Reason) → Faults depth octets at reason → end_from 0 (item_at depth octets) ≡ Err (fault_at at reason)
 measure_err_where depth octets at reason h = ap (end_from 0) (fault_read depth octets at reason h) ∙ ap (λ (k : ℕ). Err (fault_at k reason)) (zero-add at)
 
--- ---- octets behind the item
+-- ---- bytes after the item
 
 pub has_trailing : (depth : ℕ) (octets : List ℕ) (v : Value) (n : ℕ) → IsAtFront depth octets v n → n < length octets → HasTrailing depth octets n
 has_trailing depth octets v n is lt = record {
@@ -80,15 +80,15 @@ trailing_front depth octets at has =
 pub trailing_within : (depth : ℕ) (octets : List ℕ) (at : ℕ) → HasTrailing depth octets at → at < length octets
 trailing_within depth octets at has = omega (arith, ap length has.parts, length-append has.encoded_bytes has.rest, has.place, has.follows)
 
--- ---- which fault a text has, from what the measure of its front was
+-- ---- the error of a text, given the result of measuring its start
 
--- a fault of the front passes on
+-- An error at the start is also the text's error.
 pub text_fails : (depth : ℕ) (octets : List ℕ) (f : ItemFault) → ((at : ℕ) (reason : Reason) → Faults depth octets at reason → ◌≡◌ {A = Result ℕ ItemFault} (Err f) (Err (fault_at at reason)))
     → ((v : Value) (n : ℕ) → IsAtFront depth octets v n → ◌≡◌ {A = Result ℕ ItemFault} (Err f) (Ok n)) → (at : ℕ) (reason : Reason) → TextFaults depth octets at reason → f ≡ fault_at at reason
 text_fails depth octets f faults fronts at reason (some, inl h) = let e = faults at reason h in cc
 text_fails depth octets f faults fronts at reason (some, inr h) = let e = fronts h.1.value at (trailing_front depth octets at h.1) in absurd cc
 
--- an item stands at the front
+-- The text starts with an item.
 pub text_trails : (depth : ℕ) (octets : List ℕ) (end : ℕ) → ((at : ℕ) (reason : Reason) → Faults depth octets at reason → ◌≡◌ {A = Result ℕ ItemFault} (Ok end) (Err (fault_at at reason)))
     → ((v : Value) (n : ℕ) → IsAtFront depth octets v n → ◌≡◌ {A = Result ℕ ItemFault} (Ok end) (Ok n)) → (at : ℕ) (reason : Reason) → TextFaults depth octets at reason → (end ≡ at) × (reason ≡ trailing) × (at < length octets)
 text_trails depth octets end faults fronts at reason (some, inl h) = let e = faults at reason h in absurd cc
@@ -96,22 +96,22 @@ text_trails depth octets end faults fronts at reason (some, inr h) =
     let e = fronts h.1.value at (trailing_front depth octets at h.1) in
     (cc, h.0, trailing_within depth octets at h.1)
 
--- an item at the front is read
+-- An item at the start is read.
 pub front_measured : (depth : ℕ) (octets : List ℕ) (v : Value) (n : ℕ) → IsAtFront depth octets v n → IsOk (item_at depth octets)
 front_measured depth octets v n is = rw (front_read depth octets v n is) refl
 
--- what is built from the front
+-- The item that is built from the start.
 pub front_built : (depth : ℕ) (octets : List ℕ) (v : Value) (end : ℕ) → IsOctets octets → EndsAt 0 (item_at depth octets) v end → IsAtFront depth octets v end
 front_built depth octets v end h ends = rw (ends.2, zero-add ends.0) (front_found depth octets v ends.0 h ends.1)
 
--- there is one item at the front
+-- There is only one item at the start.
 pub front_one : (depth : ℕ) (octets : List ℕ) (v w : Value) (n m : ℕ) → IsAtFront depth octets v n → IsAtFront depth octets w m → (v ≡ w) × (n ≡ m)
 front_one depth octets v w n m a b =
     let same : ◌≡◌ {A = Result (Value × ℕ) Fault} (Ok (v, n)) (Ok (w, m)) = sym (front_read depth octets v n a) ∙ front_read depth octets w m b in
     let pair : ◌≡◌ {A = Value × ℕ} (v, n) (w, m) = cc in
     (ap (λ (x : Value × ℕ). x.0) pair, ap (λ (x : Value × ℕ). x.1) pair)
 
--- ---- whole texts
+-- ---- complete texts
 
 framed_some : (f : Format) (number : ℕ) (body octets : List ℕ) → Framed f number body octets → 0 < length octets
 framed_some f number body octets framed = omega (arith, ap length framed.parts, framed_length f framed.field number body)
@@ -126,12 +126,12 @@ whole_front depth octets v h = record { within = omega arith; encodes_to = rw (t
 pub front_whole : (depth : ℕ) (octets : List ℕ) (v : Value) (n : ℕ) → IsAtFront depth octets v n → length octets ≤ n → IsWhole depth octets v
 front_whole depth octets v n is le = (rw (take_all n octets le) at is.encodes_to, is.nesting)
 
--- some octets are a text only as an item
+-- A text that is not empty is an item.
 pub text_item : (depth : ℕ) (octets : List ℕ) (text : Option Value) → 0 < length octets → IsTextOf depth octets text → (v : Value) × (text ≡ Some v) × IsWhole depth octets v
 text_item depth octets None some h = absurd (omega (arith, ap length h))
 text_item depth octets (Some v) some h = (v, refl, h)
 
--- no octets are no item
+-- An empty text has no item.
 pub text_none : (depth : ℕ) (octets : List ℕ) (text : Option Value) → length octets ≡ 0 → IsTextOf depth octets text → None ≡ text
 text_none depth octets None none h = refl
 text_none depth octets (Some v) none h = let some = encoded_some v octets h.0 in absurd (omega arith)
@@ -141,7 +141,7 @@ text_measured depth octets some h =
     let p = text_item depth octets h.0 some h.1 in
     front_measured depth octets p.0 (length octets) (whole_front depth octets p.0 p.2)
 
--- what is built of a text is its item
+-- The value built from a text is its item.
 pub text_built : (depth : ℕ) (octets : List ℕ) (w : Value) (end : ℕ) (text : Option Value) → IsOctets octets → 0 < length octets → EndsAt 0 (item_at depth octets) w end → IsTextOf depth octets text → (Some w ≡ text) × IsWhole depth octets w
 text_built depth octets w end text h some ends t =
     let p = text_item depth octets text some t in

@@ -1,4 +1,4 @@
--- No spelling is shorter than the shortest one.
+-- No encoding is shorter than the shortest one.
 use Rattle.std.proofs.Common.{◌≡◌, ℕ, zero, suc, ◌*◌, ◌^◌, ◌<◌, ◌≤◌, Bool, true, false, cond, ltb, List, [], ◌∷◌, ◌++◌, length, Some, refl, sym, ap, ◌∙◌, arith}
 use Rattle.std.specs.Prelude.{option_and_then}
 use Rattle.std.specs.List.{AllByRecursion}
@@ -20,7 +20,7 @@ use Rattle.secs_item.proofs.Items.{framed_length}
 use Rattle.secs_item.proofs.Octets.{IsOctets-tail}
 use Rattle.secs_item.proofs.Uniqueness.{body_short}
 
--- ---- what is spelled is in range
+-- ---- encoded values are in range
 
 all_in_order : {X : Type 0} {One : X → List ℕ → Type 0} {Fits : X → Type 0} → ((x : X) (octets : List ℕ) → One x octets → Fits x) → (xs : List X) (octets : List ℕ) → InOrder One xs octets → AllByRecursion Fits xs
 all_in_order fits [] octets h = tt
@@ -78,7 +78,7 @@ body_length (u1 xs) octets h = in_order_length Octet 1 octet octets_codec xs oct
 body_length (u2 xs) octets h = in_order_length (Unsigned 2) 2 (big_number 2) (unsigned_codec 2) xs octets h
 body_length (u4 xs) octets h = in_order_length (Unsigned 4) 4 (big_number 4) (unsigned_codec 4) xs octets h
 
--- ---- the fewest length octets
+-- ---- the fewest length bytes
 
 field_by : (number field : ℕ) (one two : Bool) → ltb number 256 ≡ one → ltb number (256 ^ 2) ≡ two → 1 ≤ field → number < 256 ^ field → cond one 1 (cond two 2 3) ≤ field
 field_by number field true two e f some fits = some
@@ -102,7 +102,7 @@ within_three number (suc (suc (suc (suc field)))) few fits = absurd (omega arith
 framed_there : (f : Format) (number : ℕ) (body : List ℕ) → number < 256 ^ 3 → framed f number body ≡ Some (header f (field_of number) number ++ body)
 framed_there f number body lt = let small : ltb number (256 ^ 3) ≡ true = lt-ltb number (256 ^ 3) lt in rw small refl
 
--- a body that is no longer, under the same number
+-- A body that is not longer, with the same number in its header.
 framed_shorter : (f : Format) (number : ℕ) (body octets least : List ℕ) → Framed f number body octets → length least ≤ length body
     → (short : List ℕ) × (framed f number least ≡ Some short) × (length short ≤ length octets)
 framed_shorter f number body octets least framed le = (

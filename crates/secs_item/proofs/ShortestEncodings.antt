@@ -1,4 +1,4 @@
--- The shortest spelling, element by element.
+-- The shortest encoding, element by element.
 use Rattle.std.proofs.Common.{◌≡◌, ℕ, suc, ◌+◌, ◌*◌, ◌^◌, ◌<◌, ◌≤◌, Bool, true, false, ltb, List, [], ◌∷◌, ◌++◌, length, drop, get_or, Option, Some, None, refl, sym, ap, ◌∙◌, append_assoc, append-nil, arith, inl, inr}
 use Rattle.std.specs.Prelude.{is_some, option_and_then, option_map}
 use Rattle.std.proofs.lemmas.Bool.{cases_lt, le-ltb, lt-ltb}
@@ -15,7 +15,7 @@ pub count-views : (items : List Item) → count (views items) ≡ length items
 count-views [] = refl
 count-views (x ∷ items) = ap suc (count-views items)
 
--- the spelling of a list from its elements'
+-- The encoding of a list, given its elements'.
 abbrev in_list : ℕ → Option (List ℕ) → Option (List ℕ)
 in_list number body = option_and_then (λ b. framed format.List number b) body
 
@@ -66,7 +66,7 @@ values_some (list es) h lt = absurd cc
 values_some (values v) h lt =
     let small : ltb (number_of (values v)) (256 ^ 3) ≡ true = lt-ltb (number_of (values v)) (256 ^ 3) lt in rw small refl
 
--- the body of values is written behind their header
+-- The body of values is written after their header.
 pub values_written : (v : Value) (old headed now : List ℕ) → is_list (format_of v) ≡ false → is_some (short v) ≡ true → headed ≡ old ++ front_of v → now ≡ headed ++ body_of v → Appends (short v) old now
 values_written (list es) old headed now h some front body = absurd cc
 values_written (values v) old headed now h some front body = (
@@ -79,7 +79,7 @@ pub values_in_range : (v : Value) → is_list (format_of v) ≡ false → IsBody
 values_in_range (list es) h is = absurd cc
 values_in_range (values v) h is = is.1
 
--- the body of values that are in their range
+-- The body of values that are in range.
 pub is_body : (v : Value) (vs : Values) → v ≡ values vs → ValuesInRange vs → IsBodyOf v (body_of v)
 is_body v vs e h = rw e (refl, h)
 
@@ -112,7 +112,7 @@ list_some es lt h = by_body (short_elements es) h
     by_body None e = absurd cc
     by_body (Some body) e = let small : ltb (count es) (256 ^ 3) ≡ true = lt-ltb (count es) (256 ^ 3) lt in rw small refl
 
--- an element and those behind it
+-- An element and the elements after it.
 abbrev in_front : Option (List ℕ) → Option (List ℕ) → Option (List ℕ)
 in_front first others = option_and_then (λ f. option_map (λ o. f ++ o) others) first
 
@@ -125,7 +125,7 @@ not_first : (first others : Option (List ℕ)) → is_some first ≡ false → i
 not_first None others h = refl
 not_first (Some f) others h = absurd cc
 
--- the elements from a place on
+-- The elements from an index on.
 pub elements_from : (items : List Item) (i : ℕ) (x : Item) → i < length items → x ≡ get_or items i x → short_elements (views (drop i items)) ≡ in_front (short (view x)) (short_elements (views (drop (i + 1) items)))
 elements_from items i x lt is = at_drop_more (λ (xs : List Item). short_elements (views xs)) items i x lt ∙ ap (λ (y : Item). in_front (short (view y)) (short_elements (views (drop (i + 1) items)))) (sym is)
 
@@ -143,7 +143,7 @@ next_some items i x lt is some = sym (ap is_some (elements_from items i x lt is)
 pub none_left : (items : List Item) (i : ℕ) → length items ≤ i → short_elements (views (drop i items)) ≡ Some []
 none_left items i le = at_drop_all (λ (xs : List Item). short_elements (views xs)) items i le
 
--- ---- an answer and a fact about it
+-- ---- a boolean result and its proposition
 
 pub says_no : (b : Bool) → b ≡ false → (◌≡◌ {A = Bool} false true → b ≡ true) × (b ≡ true → ◌≡◌ {A = Bool} false true)
 says_no b e = (λ f. absurd cc, λ h. sym e ∙ h)
@@ -158,9 +158,9 @@ not_true false h = refl
 pub said_no : (b : Bool) → b ≡ false → b ≡ true → ⊥
 said_no b h e = cc
 
--- ---- elements that are being written
+-- ---- writing elements
 
--- what stands behind the header so far, and what is left
+-- Loop invariant: the bytes written after the header so far, and the remaining elements.
 pub record IsWriting (items : List Item) (i : ℕ) (before now : List ℕ) : Type 0 where
   pub body : List ℕ
   pub rest : List ℕ
@@ -173,7 +173,7 @@ starts_writing items before h =
     let p = list_body (views items) h in
     record { body = p.0; rest = p.0; body_is = p.1; rest_is = p.1; so_far = refl }
 
--- the next element has a spelling
+-- The next element has an encoding.
 pub next_short : (items : List Item) (i : ℕ) (before now : List ℕ) (x : Item) → i < length items → x ≡ get_or items i x → IsWriting items i before now → is_some (short (view x)) ≡ true
 next_short items i before now x lt is w =
     let p = both_short (short (view x)) (short_elements (views (drop (i + 1) items))) w.rest (sym (elements_from items i x lt is) ∙ w.rest_is) in

@@ -1,4 +1,4 @@
--- The laws of spellings.
+-- The laws of encodings.
 use Rattle.std.proofs.Common.{◌≡◌, ℕ, ℤ, ◌*◌, ◌^◌, ◌<◌, ◌≤◌, max, Bool, true, false, ltb, cond, List, [], ◌∷◌, ◌++◌, length, take, Option, Some, None, Result, Ok, Err, refl, sym, ap, ◌∙◌, arith, inl, inr}
 use Rattle.std.specs.Prelude.{◌⊎◌, FitsSigned, option_and_then}
 use Rattle.std.specs.List.{flat_map, AllByRecursion}
@@ -25,7 +25,7 @@ use Rattle.secs_item.proofs.Faults.{fault, fault_found, fault_read}
 use Rattle.secs_item.proofs.ShortestEncodings.{both_short}
 use Rattle.secs_item.proofs.Prefixes.{front_found, front_read}
 
--- ---- one spelling
+-- ---- one encoding
 
 pub same_front : (v w : Value) (a b x y : List ℕ) → EncodesTo v a → EncodesTo w b → a ++ x ≡ b ++ y → (v ≡ w) × (a ≡ b)
 same_front v w a b x y sv sw e =
@@ -36,7 +36,7 @@ same_front v w a b x y sv sw e =
     let len : length a ≡ length b = ap (λ (p : Value × ℕ). p.1) pair in
     (ap (λ (p : Value × ℕ). p.0) pair, sym (take_at a x (length a) refl) ∙ ap (take (length a)) e ∙ take_at b y (length a) (sym len))
 
--- ---- one answer
+-- ---- one result
 
 pub some_answer : (depth : ℕ) (octets : List ℕ) → IsOctets octets → ((v : Value) × (n : ℕ) × IsAtFront depth octets v n) ⊎ ((at : ℕ) × (reason : Reason) × Faults depth octets at reason)
 some_answer depth octets h = by_reading (item_at depth octets) refl
@@ -56,7 +56,7 @@ not_both_of depth octets v n at reason a b =
     let same : ◌≡◌ {A = Result (Value × ℕ) Fault} (Ok (v, n)) (Err (fault at reason)) = sym (front_read depth octets v n a) ∙ fault_read depth octets at reason b in
     cc
 
--- ---- the shortest spelling is one
+-- ---- the shortest encoding is an encoding
 
 octet_fits : (n : ℕ) → n < 256 → Octet n (octet_alone n)
 octet_fits n lt = (lt, refl)
@@ -105,7 +105,7 @@ body_short (u8 xs) h = short_values (Unsigned 8) 8 (big_number 8) (big_bytes 8) 
 body_short (f4 xs) h = short_values (Unread 4) 4 unread_of unread (λ float. (length float ≡ 4) × AllByRecursion (λ n. n < 256) float) (unread_codec 4) (unread_fits 4) xs h
 body_short (f8 xs) h = short_values (Unread 8) 8 unread_of unread (λ float. (length float ≡ 8) × AllByRecursion (λ n. n < 256) float) (unread_codec 8) (unread_fits 8) xs h
 
--- the number of length octets that the shortest spelling has
+-- The number of length bytes in the shortest encoding.
 record IsField (number field : ℕ) : Type 0 where
   pub some : 1 ≤ field
   pub few : field ≤ 3

@@ -1,4 +1,4 @@
--- What an item is, by the value that it stands for.
+-- Variants of an item, by the value that it represents.
 use Rattle.std.proofs.Common.{◌≡◌, ℕ, ℤ, Bool, true, false, List, Vec, Global, refl, sym, subst, ◌∙◌, rules}
 use Rattle.secs_item.specs.Format.{is_list}
 use Rattle.secs_item.specs.Item.{Value, list, values, binary, boolean, ascii, jis8, char2, i1, i2, i4, i8, u1, u2, u4, u8, f4, f8, format_of, view}
@@ -6,7 +6,7 @@ use Rattle.secs_item.specs.declared.item.Item.{Item, roll-Item, out-Item, roll-o
 use Rattle.secs_item.specs.declared.item.Item.TheOpen.{Item-F}
 use Rattle.secs_item.proofs.Views.{view-List, view-Binary, view-Boolean, view-Ascii, view-Jis8, view-Char2, view-I1, view-I2, view-I4, view-I8, view-U1, view-U2, view-U4, view-U8, view-F4, view-F8}
 
--- the item was made of elements or of values, as the value was
+-- Holds if the item has the variant that the value's format names.
 abbrev pub Made : Value → Item → Type 0
 Made (list es) item = (v : Vec Item Global) × (item ≡ item_list v)
 Made (values (binary xs)) item = (v : Vec ℕ Global) × (item ≡ item_binary v)
@@ -49,12 +49,12 @@ made_open (Item-F.F8 v) = made_by (roll-Item (Item-F.F8 v)) (item_f8 v) _ (searc
 pub made : (item : Item) → Made (view item) item
 made item = subst (λ (i : Item). Made (view i) i) (roll-out-Item item) (made_open (out-Item item))
 
--- an item of another variant stands for another value
+-- An item of another variant represents another value.
 pub other_variant : {A : Type 0} (make : A → Item) (w : Value) (item other : Item) → (Made w other → (v : A) × (other ≡ make v)) → view item ≡ w → ((v : A) → other ≡ make v → ⊥)
     → (false ≡ true → view item ≡ view other) × (view item ≡ view other → false ≡ true)
 other_variant make w item other is shown not = (λ h. absurd cc, λ e. let p = is (subst (λ (u : Value). Made u other) (sym e ∙ shown) (made other)) in absurd (not p.0 p.1))
 
--- what was made of no elements is no list
+-- An item that is not the variant `List` has no list as its value.
 no_list : (w : Value) (item : Item) → Made w item → ((v : Vec Item Global) → item ≡ item_list v → ⊥) → is_list (format_of w) ≡ false
 no_list (list es) item is not = absurd (not is.0 is.1)
 no_list (values (binary xs)) item is not = refl

@@ -53,7 +53,7 @@ view-F4 v = search (rules, the_lemmas)
 pub view-F8 : (v : Vec (List ℕ) Global) → view (item_f8 v) ≡ values (f8 v.items)
 view-F8 v = search (rules, the_lemmas)
 
--- ---- the elements from a place on
+-- ---- the elements from an index on
 
 pub views_from : (items : List Item) (i : ℕ) (x : Item) → i < length items → x ≡ get_or items i x → views (drop i items) ≡ element (view x) (views (drop (i + 1) items))
 views_from items i x lt is = at_drop_more (λ (xs : List Item). views xs) items i x lt ∙ ap (λ (y : Item). element (view y) (views (drop (i + 1) items))) (sym is)
@@ -61,7 +61,7 @@ views_from items i x lt is = at_drop_more (λ (xs : List Item). views xs) items 
 pub views_done : (items : List Item) (i : ℕ) → length items ≤ i → views (drop i items) ≡ no_elements
 views_done items i le = at_drop_all (λ (xs : List Item). views xs) items i le
 
--- ---- how deep the elements are
+-- ---- the nesting depth of the elements
 
 deeper : (greatest deepest one others all now : ℕ) → all ≡ max one others → now ≡ max deepest (min one greatest) → max now (min others greatest) ≡ max deepest (min all greatest)
 deeper greatest deepest one others all now is now_is = omega arith
@@ -72,7 +72,7 @@ next_nested items i x greatest deepest nested now total lt x_is is now_is so_far
     deeper greatest deepest (nest (view x)) (nest_of_elements (views (drop (i + 1) items))) (nest_of_elements (views (drop i items))) now
     (ap (λ es. nest_of_elements es) (views_from items i x lt x_is)) (now_is ∙ ap (max deepest) is) ∙ so_far
 
--- ---- elements that are copied one after another
+-- ---- copying elements in order
 
 pub next_copied : (copies items now : List Item) (i : ℕ) (copy x : Item) → now ≡ copies ++ copy ∷ [] → view copy ≡ view x → x ≡ get_or items i x → i < length items → map view copies ≡ map view (take i items)
     → map view now ≡ map view (take (i + 1) items)
@@ -84,9 +84,9 @@ next_copied copies items now i copy x now_is same x_is lt before =
 pub all_copied : (copies items : List Item) (i : ℕ) → map view copies ≡ map view (take i items) → length items ≤ i → views copies ≡ views items
 all_copied copies items i same le = ap elements_of same ∙ ap views (take_all i items le)
 
--- ---- items that are made of values
+-- ---- items of values
 
--- what was made stands for the values that it was made of
+-- The item represents the values that it was made of.
 pub made_as : {X E : Type 0} (make : Vec X Global → Item) (form : List X → Values) → ((v : Vec X Global) → view (make v) ≡ values (form v.items))
     → (xs : List X) (w : Value) (read : Result (Vec X Global) E) (made : Result Item E) → w ≡ values (form xs) → IfOk read (λ v. v.items ≡ xs)
     → MatchResult read (λ v. IsOkAnd made (λ item. item ≡ make v)) (λ e. made ≡ Err e) → IfOk made (λ item. view item ≡ w)

@@ -1,5 +1,5 @@
--- What the types of the code hold: how many octets a value has, the value that octets are, the octets of a value, and
--- what holds of each value.
+-- The codecs of the types in the code: the size of a value in bytes, the value of given bytes, the bytes of a value,
+-- and the range of each value.
 use Rattle.std.specs.Prelude.{◌≡◌, ◌<◌, ◌^◌, ℕ, ℤ, Bool, List, length, FitsSigned}
 use Rattle.std.specs.Int.{Width, byte_len}
 use Rattle.std.specs.List.{AllByRecursion}
@@ -27,7 +27,7 @@ of_signed width = record {
 abbrev pub of_unsigned : ℕ → Codec ℕ
 of_unsigned size = record { size = size; value_of = big_number size; octets_of = big_bytes size; fits = λ n. n < 256 ^ size }
 
--- octets that are kept as they stand
+-- The codec of bytes that are kept without interpretation.
 abbrev pub of_unread : ℕ → Codec (List ℕ)
 of_unread size = record {
   size = size;

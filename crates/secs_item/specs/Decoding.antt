@@ -1,4 +1,4 @@
--- Reading an item from the front, from left to right: its value and its length, or the first fault.
+-- Decoding of an item at the start, from left to right: its value and its length, or the first error.
 use Rattle.std.specs.Prelude.{ℕ, ℤ, zero, suc, ◌+◌, ◌/◌, Bool, not, ◌==◌, if◌then◌else◌, List, [], ◌∷◌, length, take, drop, slice_index, Result, Ok, Err}
 use Rattle.std.specs.Int.{Width, w8, w16, w32, w64, byte_len, cast_signed}
 use Rattle.byteorder.specs.Endian.{big_number}
@@ -10,7 +10,7 @@ use Rattle.secs_item.specs.Header.{Reason, Head, header_at}
 
 -- ---- values
 
--- what `one` makes of each piece of `size` octets
+-- The results of `one` for the consecutive chunks of `size` bytes.
 abbrev pub pieces : {X : Type 0} → (List ℕ → X) → ℕ → ℕ → List ℕ → List X
 pieces one size zero octets = []
 pieces one size (suc n) octets = one (take size octets) ∷ pieces one size n (drop size octets)
@@ -59,7 +59,7 @@ abbrev pub ◌>>=◌ : {A B : Type 0} → Result A Fault → (A → Result B Fau
 (Ok x) >>= f = f x
 (Err e) >>= f = Err e
 
--- what is read behind `size` octets
+-- The result of reading after `size` bytes: an error's offset counts these bytes too.
 abbrev pub subsequent : {A : Type 0} → ℕ → Result A Fault → Result A Fault
 subsequent size (Ok x) = Ok x
 subsequent size (Err f) = Err (record { at = size + f.at; reason = f.reason })
@@ -77,7 +77,7 @@ item_by elements octets (Ok head) =
     if is_list head.format then (subsequent head.size (elements head.length (drop head.size octets)) >>= (λ x. Ok (list x.0, head.size + x.1)))
     else Ok (values (values_of head.format (take head.length (drop head.size octets))), head.size + head.length)
 
--- Lists may be nested `depth` deep. With no depth left a list has no header, so there are no elements to read.
+-- Lists may be nested at most `depth` deep. If `depth` is 0, no header is a list's, so there are no elements to read.
 unfoldable pub item_at : ℕ → List ℕ → Result (Value × ℕ) Fault
 item_at zero octets = item_by (λ n rest. Ok (no_elements, 0)) octets (header_at 0 octets)
 item_at (suc depth) octets = item_by (elements_by (item_at depth)) octets (header_at (suc depth) octets)

@@ -1,5 +1,5 @@
--- Which octets spell a value, by SEMI E5 (data structures): a format octet, a length field of one to three octets, and
--- the body. That a text is empty or one item is this project's own.
+-- The encodings of a value by SEMI E5 (data structures): a format byte, a length field of one to three bytes, and the
+-- body. The rule that a text is empty or one item is project-specific.
 use Rattle.std.specs.Prelude.{◌≡◌, ◌≤◌, ◌<◌, ℕ, ℤ, take, ◌+◌, ◌*◌, ◌^◌, Bool, not, ◌==◌, List, [], ◌∷◌, ◌++◌, length, slice_index, Option, Some, None, FitsSigned}
 use Rattle.std.specs.Int.{Width, byte_len, cast_unsigned, w8, w16, w32, w64}
 use Rattle.byteorder.specs.Endian.{big_bytes}
@@ -16,25 +16,25 @@ IsOctets octets = (i : ℕ) → slice_index octets i < 256
 abbrev pub Octet : ℕ → List ℕ → Type 0
 Octet n octets = (n < 256) × (octets ≡ n ∷ [])
 
--- any octet but zero is true
+-- Holds if the byte encodes the truth value: every byte except zero is true.
 abbrev pub Truth : Bool → List ℕ → Type 0
 Truth truth octets = (octet : ℕ) × (octet < 256) × (octets ≡ octet ∷ []) × (truth ≡ not (octet == 0))
 
--- most significant octet first
+-- Holds if the bytes encode the number, most significant byte first.
 abbrev pub Unsigned : ℕ → ℕ → List ℕ → Type 0
 Unsigned size n octets = (n < 256 ^ size) × (octets ≡ big_bytes size n)
 
--- two's complement
+-- Holds if the bytes encode the number in two's complement.
 abbrev pub Signed : Width → ℤ → List ℕ → Type 0
 Signed width z octets = FitsSigned width z × (octets ≡ big_bytes (byte_len width) (cast_unsigned width z))
 
--- a float is kept as it stands
+-- Holds if the bytes are the float's, which is not interpreted.
 abbrev pub Unread : ℕ → List ℕ → List ℕ → Type 0
 Unread size float octets = (length float ≡ size) × IsOctets float × (octets ≡ float)
 
 -- ---- bodies
 
--- the octets of one value after another
+-- Holds if the bytes are those of the values, in order.
 abbrev pub InOrder : {X : Type 0} → (X → List ℕ → Type 0) → List X → List ℕ → Type 0
 InOrder One [] octets = octets ≡ []
 InOrder One (x ∷ xs) octets = (first rest : List ℕ) × One x first × InOrder One xs rest × (octets ≡ first ++ rest)
@@ -58,11 +58,11 @@ Body (u4 xs) octets = InOrder (Unsigned 4) xs octets
 
 -- ---- items
 
--- the format code and the number of length octets, then the length, most significant octet first
+-- The header: the format code and the number of length bytes, then the length, most significant byte first.
 abbrev pub header : Format → ℕ → ℕ → List ℕ
 header format field number = (4 * code_of format + field) ∷ big_bytes field number
 
--- a header whose length field has one to three octets, and then the body
+-- Holds if the bytes are a header whose length field has one to three bytes, and then the body.
 pub record Framed (format : Format) (number : ℕ) (body octets : List ℕ) : Type 0 where
   pub field : ℕ
   pub one_at_least : 1 ≤ field
@@ -75,22 +75,22 @@ abbrev mutual
   EncodesTo (list es) octets = (body : List ℕ) × AllEncoded es body × Framed format.List (count es) body octets
   EncodesTo (values v) octets = (body : List ℕ) × Body v body × Framed (format_of_values v) (length body) body octets
 
-  -- the spellings of the elements in order
+  -- Holds if the bytes are the encodings of the elements, in order.
   pub AllEncoded : Elements → List ℕ → Type 0
   AllEncoded no_elements octets = octets ≡ []
   AllEncoded (element v es) octets = (first rest : List ℕ) × EncodesTo v first × AllEncoded es rest × (octets ≡ first ++ rest)
 
--- the first n octets spell the value, and its lists are nested no deeper than `depth`
+-- Holds if the first `n` bytes encode the value, and its lists are nested at most `depth` deep.
 pub record IsAtFront (depth : ℕ) (octets : List ℕ) (v : Value) (n : ℕ) : Type 0 where
   pub within : n ≤ length octets
   pub encodes_to : EncodesTo v (take n octets)
   pub nesting : nest v ≤ depth
 
--- all octets spell the value within `depth`
+-- Holds if all bytes encode the value, with lists at most `depth` deep.
 abbrev pub IsWhole : ℕ → List ℕ → Value → Type 0
 IsWhole depth octets v = EncodesTo v octets × (nest v ≤ depth)
 
--- a message's text is empty, or one item
+-- Holds if the message text is empty, or is one item.
 abbrev pub IsTextOf : ℕ → List ℕ → Option Value → Type 0
 IsTextOf depth octets None = octets ≡ []
 IsTextOf depth octets (Some v) = IsWhole depth octets v

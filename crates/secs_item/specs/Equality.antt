@@ -1,4 +1,5 @@
--- When two items stand for the same value: they have one format, and the same values or elements in the same order.
+-- Equality of items: two items have the same value if they have the same format, and the same values or elements in the
+-- same order.
 use Rattle.std.specs.Prelude.{◌≡◌, ℕ, Bool, true, false, ◌==◌, ◌&&◌, List, refl}
 use Rattle.std.specs.Bool.{Decides}
 use Rattle.std.specs.Ordering.{int_eq}
@@ -41,7 +42,7 @@ abbrev mutual
   same_elements (element v es) no_elements = false
   same_elements (element v es) (element w fs) = same_value v w && same_elements es fs
 
--- ---- so it is told exactly whether two values are equal
+-- ---- the comparison decides exactly whether two values are equal
 
 pub octets_Decides : (xs ys : List ℕ) → Decides (pointwise ◌==◌ xs ys) (xs ≡ ys)
 octets_Decides xs ys = slice_eq-Decides Decides-eqb xs ys (pointwise ◌==◌ xs ys) refl

@@ -1,4 +1,4 @@
--- The table of item formats of SEMI E5 (data structures): the format codes, and the octets of one value.
+-- The item formats of SEMI E5 (data structures): the format codes, and the size of one value in bytes.
 use Rattle.std.specs.Prelude.{ℕ, List, [], ◌∷◌, Option, Some, None, ◌==◌, if◌then◌else◌, Bool, true, false}
 use Rattle.secs_item.specs.declared.format.Format.{Format}
 use Rattle.secs_item.specs.declared.format.Format.TheVariants as format
@@ -25,7 +25,7 @@ abbrev pub all_formats : List Format
 all_formats =
     format.List ∷ format.Binary ∷ format.Boolean ∷ format.Ascii ∷ format.Jis8 ∷ format.Char2 ∷ format.I8 ∷ format.I1 ∷ format.I2 ∷ format.I4 ∷ format.F8 ∷ format.F4 ∷ format.U8 ∷ format.U1 ∷ format.U2 ∷ format.U4 ∷ []
 
--- the one of these formats with this code
+-- The format among these that has this code.
 abbrev pub format_among : List Format → ℕ → Option Format
 format_among [] code = None
 format_among (f ∷ fs) code = if code == code_of f then Some f else format_among fs code
@@ -33,7 +33,7 @@ format_among (f ∷ fs) code = if code == code_of f then Some f else format_amon
 unfoldable pub format_with_code : ℕ → Option Format
 format_with_code code = format_among all_formats code
 
--- a list counts its elements
+-- The size of one value in bytes; 1 for a list, since a list counts its elements.
 abbrev pub value_size : Format → ℕ
 value_size format.List = 1
 value_size format.Binary = 1

@@ -1,10 +1,10 @@
--- Item headers of SEMI E5 (data structures), and the first fault of one. The order of faults is this project's own.
+-- Item headers of SEMI E5 (data structures), and the first error of a header. The order of errors is project-specific.
 use Rattle.std.specs.Prelude.{ℕ, ◌+◌, ◌-◌, ◌/◌, ◌%◌, ◌&&◌, not, List, [], ◌∷◌, length, Option, Some, None, Result, Ok, Err, nat_lt, ◌==◌, if◌then◌else◌}
 use Rattle.byteorder.specs.Endian.{big_number}
 use Rattle.secs_item.specs.declared.format.Format.{Format}
 use Rattle.secs_item.specs.Format.{format_with_code, value_size, is_list}
 
--- why octets are no item
+-- The reason why bytes are not an item.
 pub data Reason : Type 0 where
   no_length : Reason
   bad_format : Reason
@@ -13,13 +13,13 @@ pub data Reason : Type 0 where
   truncated : Reason
   trailing : Reason
 
--- a header: what the item holds, how many octets the header has, and the number in its length field
+-- A header: the format of the item, the size of the header in bytes, and the number in its length field.
 pub record Head : Type 0 where
   pub format : Format
   pub size : ℕ
   pub length : ℕ
 
--- of values there are the octets of the length, in whole values
+-- Checks a body of values: its length is a multiple of the size of a value, and that number of bytes is present.
 abbrev pub checked_body : Format → ℕ → ℕ → ℕ → Result Head Reason
 checked_body format field number left =
     if is_list format then Ok (record { format = format; size = 1 + field; length = number }) else
@@ -36,8 +36,8 @@ abbrev pub with_format : ℕ → Option Format → ℕ → List ℕ → Result H
 with_format depth None field rest = Err bad_format
 with_format depth (Some format) field rest = checked_field depth format field rest
 
--- The header at the front, or its first fault, where lists may still be nested `depth` deep. Bits 8 to 3 of the first
--- octet are the format code, bits 2 and 1 the number of length octets.
+-- The header at the start, or its first error, where lists may be nested at most `depth` deep. Bits 8 to 3 of the first
+-- byte are the format code, bits 2 and 1 the number of length bytes.
 unfoldable pub header_at : ℕ → List ℕ → Result Head Reason
 header_at depth [] = Err truncated
 header_at depth (first ∷ rest) =

@@ -1,5 +1,5 @@
--- A data item of SEMI E5 (data structures: items and lists): what it holds, apart from where that lies in memory, and
--- the value that an `Item` of the code stands for.
+-- A data item of SEMI E5 (data structures: items and lists), independent of its location in memory, and the value that
+-- an `Item` of the code represents.
 use Rattle.std.specs.Prelude.{◌≡◌, ◌<◌, ◌^◌, ℕ, suc, max, ℤ, Bool, List, [], ◌∷◌, length, map, FitsSigned}
 use Rattle.std.specs.Int.{w8, w16, w32, w64}
 use Rattle.std.specs.List.{AllByRecursion}
@@ -8,7 +8,7 @@ use Rattle.secs_item.specs.declared.format.Format.TheVariants as format
 use Rattle.secs_item.specs.declared.item.Item.{Item, fold-Item}
 use Rattle.secs_item.specs.declared.item.Item.TheOpen.{Item-F}
 
--- the values of an item that is no list: octets, truth values, numbers, or floats unread
+-- The values of an item that is not a list: bytes, truth values, numbers, or uninterpreted floats.
 pub data Values : Type 0 where
   binary : List ℕ → Values
   boolean : List Bool → Values
@@ -39,23 +39,23 @@ abbrev pub count : Elements → ℕ
 count no_elements = 0
 count (element v es) = suc (count es)
 
--- one more element at the end
+-- The elements with one more at the end.
 abbrev pub with_element : Elements → Value → Elements
 with_element no_elements v = element v no_elements
 with_element (element w es) v = element w (with_element es v)
 
--- how deep lists stand in lists
+-- The nesting depth of lists.
 abbrev mutual
   pub nest : Value → ℕ
   nest (list es) = suc (nest_of_elements es)
   nest (values v) = 0
 
-  -- the greatest of the elements
+  -- The maximum of the elements' depths.
   pub nest_of_elements : Elements → ℕ
   nest_of_elements no_elements = 0
   nest_of_elements (element v es) = max (nest v) (nest_of_elements es)
 
--- ---- the format of an item, and how many values or elements it has
+-- ---- the format of an item, and its number of values or elements
 
 abbrev pub format_of_values : Values → Format
 format_of_values (binary xs) = format.Binary
@@ -99,7 +99,7 @@ abbrev pub count_of : Value → ℕ
 count_of (list es) = count es
 count_of (values v) = count_of_values v
 
--- ---- values that the types of the code hold
+-- ---- the values within the ranges of the code's types
 
 abbrev pub ValuesInRange : Values → Type 0
 ValuesInRange (binary xs) = AllByRecursion (λ n. n < 256) xs
@@ -127,13 +127,13 @@ abbrev mutual
   ElementsInRange no_elements = Unit {0}
   ElementsInRange (element v es) = InRange v × ElementsInRange es
 
--- ---- what an `Item` stands for
+-- ---- the value that an `Item` represents
 
 abbrev pub elements_of : List Value → Elements
 elements_of [] = no_elements
 elements_of (v ∷ vs) = element v (elements_of vs)
 
--- one level, with each element already seen as its value
+-- The value of one level, whose elements are values already.
 abbrev pub view_step : Item-F Value → Value
 view_step (Item-F.List v) = list (elements_of v.items)
 view_step (Item-F.Binary v) = values (binary v.items)

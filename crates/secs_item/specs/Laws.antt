@@ -1,4 +1,4 @@
--- What holds of spellings, faults and nesting, whatever the code does.
+-- Laws of encodings, errors and nesting, independent of the code.
 use Rattle.std.specs.Prelude.{◌≡◌, ◌≤◌, ◌⊎◌, ℕ, List, ◌++◌, length, Option, Some}
 use Rattle.secs_item.specs.Item.{Value, nest, InRange}
 use Rattle.secs_item.specs.Header.{Reason}
@@ -6,28 +6,28 @@ use Rattle.secs_item.specs.Encoding.{IsOctets, EncodesTo, IsAtFront, IsTextOf}
 use Rattle.secs_item.specs.ShortestEncoding.{short}
 use Rattle.secs_item.specs.Fault.{Faults, TextFaults}
 
--- No spelling stands at the front of a longer one, and none spells two values.
+-- Holds if no encoding is a prefix of a longer one, and none encodes two values.
 abbrev pub OneEncodingAtStart : Type 0
 OneEncodingAtStart = (v w : Value) (a b x y : List ℕ) → EncodesTo v a → EncodesTo w b → a ++ x ≡ b ++ y → (v ≡ w) × (a ≡ b)
 
--- The shortest spelling is a spelling.
+-- Holds if the shortest encoding is an encoding.
 abbrev pub ShortEncodes : Type 0
 ShortEncodes = (v : Value) (octets : List ℕ) → InRange v → short v ≡ Some octets → EncodesTo v octets
 
--- What has a spelling has a shortest one, and none is shorter.
+-- Holds if each value with an encoding has a shortest one, and no encoding is shorter.
 abbrev pub NoneIsShorter : Type 0
 NoneIsShorter = (v : Value) (octets : List ℕ) → EncodesTo v octets → (least : List ℕ) × (short v ≡ Some least) × (length least ≤ length octets)
 
--- What has a spelling has its numbers in range.
+-- Holds if each value with an encoding has its numbers in range.
 abbrev pub EncodedInRange : Type 0
 EncodedInRange = (v : Value) (octets : List ℕ) → EncodesTo v octets → InRange v
 
--- The shortest spelling is read again as the value, whatever follows it.
+-- Holds if decoding the shortest encoding returns the value, whatever bytes follow it.
 abbrev pub ShortIsReadAgain : Type 0
 ShortIsReadAgain = (v : Value) (octets rest : List ℕ) (depth : ℕ) → InRange v → short v ≡ Some octets → nest v ≤ depth
     → IsAtFront depth (octets ++ rest) v (length octets)
 
--- ---- exactly one answer, of an item at the front
+-- ---- exactly one result for the item at the start
 
 abbrev pub SomeAnswer : Type 0
 SomeAnswer = (depth : ℕ) (octets : List ℕ) → IsOctets octets
@@ -43,7 +43,7 @@ OneFault = (depth : ℕ) (octets : List ℕ) (at place : ℕ) (reason cause : Re
 abbrev pub NotBoth : Type 0
 NotBoth = (depth : ℕ) (octets : List ℕ) (v : Value) (n at : ℕ) (reason : Reason) → IsAtFront depth octets v n → Faults depth octets at reason → ⊥
 
--- ---- and of a whole text
+-- ---- exactly one result for a complete text
 
 abbrev pub SomeTextAnswer : Type 0
 SomeTextAnswer = (depth : ℕ) (octets : List ℕ) → IsOctets octets

@@ -1,4 +1,4 @@
--- What the functions over places give, beside what is read behind the place.
+-- The results of the functions that take offsets, derived from the results for the bytes after the offset.
 use Rattle.std.specs.Prelude.{◌≡◌, ◌==◌, ◌≤◌, ◌<◌, ℕ, zero, suc, ◌+◌, ◌-◌, ◌/◌, ◌%◌, List, slice_index, drop, if◌then◌else◌, Option, Some, None, Result, Ok, Err}
 use Rattle.secs_item.specs.declared.fault.ItemFault.{ItemFault}
 use Rattle.secs_item.specs.declared.format.Format.{Format}
@@ -9,54 +9,55 @@ use Rattle.secs_item.specs.Format.{format_with_code, is_list, value_size}
 use Rattle.secs_item.specs.Header.{Reason, Head}
 use Rattle.secs_item.specs.Decoding.{Fault, elements_by, item_at}
 
--- the header that is read at a place
+-- The header at an offset.
 abbrev pub header_from : ℕ → Result Head Reason → Result Header ItemFault
 header_from place (Ok head) = Ok (record { format = head.format; body = place + head.size; length = head.length })
 header_from place (Err reason) = Err (fault_at place reason)
 
--- the part that is read at a place
+-- The part at an offset.
 abbrev pub part_from : ℕ → Result Head Reason → Result Part ItemFault
 part_from place (Ok head) =
     Ok (if is_list head.format then record { end = place + head.size; elements = head.length } else record { end = place + head.size + head.length; elements = 0 })
 part_from place (Err reason) = Err (fault_at place reason)
 
--- the format that a header's first octet has, where one length octet follows
+-- The format of a header's first byte, if one length byte follows.
 abbrev pub short_format : ℕ → Option Format
 short_format first = if first % 4 == 1 then format_with_code (first / 4) else None
 
--- by format: the octets of one value, less one; 8 for a list, and the code of a point where there is none
+-- For a format: the size of one value in bytes, less one, and 8 for a list. Without a format: the code of a dot.
 abbrev pub mask_for : Option Format → ℕ
 mask_for None = 0x2E
 mask_for (Some format) = if is_list format then 8 else (value_size format - 1)
 
--- what is known of a part that is read at a place of so many octets
+-- The properties of a part that is read at an offset of an input of `octets` bytes.
 pub record LiesIn (depth place octets : ℕ) (part : Part) : Type 0 where
   pub deep_enough : 0 < part.elements → 0 < depth
   pub subsequent : place < part.end
   pub within : part.end ≤ octets
 
--- the place after what is read at a place
+-- The offset after what is read at an offset.
 abbrev pub end_from : {A : Type 0} → ℕ → Result (A × ℕ) Fault → Result ℕ ItemFault
 end_from place (Ok x) = Ok (place + x.1)
 end_from place (Err f) = Err (fault_at (place + f.at) f.reason)
 
--- what follows where an end was found
+-- Continues from the end offset with `next`, or keeps the error.
 abbrev pub and_from_there : Result ℕ ItemFault → (ℕ → Result ℕ ItemFault) → Result ℕ ItemFault
 and_from_there (Ok end) next = next end
 and_from_there (Err fault) next = Err fault
 
--- Where the outermost of `lists` lists that stand open ends. It was allowed `depth`. Each has as many elements still to
--- come as `counts` says at the place of how deep lists may be nested in it.
+-- The offset after the outermost of `lists` unfinished lists. The header of the outermost one was allowed `depth`. A
+-- list in which lists may be nested `d` deep has `counts[d]` elements still to come.
 unfoldable pub end_of_lists : List ℕ → ℕ → List ℕ → ℕ → ℕ → Result ℕ ItemFault
 end_of_lists counts depth octets zero place = Ok place
 end_of_lists counts depth octets (suc lists) place =
     and_from_there (end_from place (elements_by (item_at (depth - suc lists)) (slice_index counts (depth - suc lists)) (drop place octets))) (end_of_lists counts depth octets lists)
 
--- the same where the innermost has `left` elements still to come, and lists may be nested `inside` deep in it
+-- The offset after the outermost unfinished list, if the innermost list has `left` elements still to come. In the
+-- innermost list, lists may be nested `inside` deep.
 abbrev pub end_of_open : List ℕ → ℕ → List ℕ → ℕ → ℕ → ℕ → Result ℕ ItemFault
 end_of_open counts depth octets inside left place =
     and_from_there (end_from place (elements_by (item_at inside) left (drop place octets))) (end_of_lists counts depth octets (depth - 1 - inside))
 
--- what is read at a place is this value, and ends here
+-- Holds if this value is read at the offset, and its encoding ends at `end`.
 abbrev pub EndsAt : {A : Type 0} → ℕ → Result (A × ℕ) Fault → A → ℕ → Type 0
 EndsAt place read v end = (n : ℕ) × (read ≡ Ok (v, n)) × (end ≡ place + n)

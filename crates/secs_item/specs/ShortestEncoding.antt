@@ -1,4 +1,4 @@
--- The shortest spelling of a value, this project's own choice: the fewest length octets, and 1 for true.
+-- The shortest encoding of a value, which is project-specific: the fewest length bytes, and 1 for true.
 use Rattle.std.specs.Prelude.{◌≡◌, ℕ, ℤ, ◌*◌, ◌^◌, Bool, nat_lt, if◌then◌else◌, List, [], ◌∷◌, ◌++◌, Option, Some, None, option_and_then, option_map}
 use Rattle.std.specs.List.{flat_map}
 use Rattle.std.specs.Int.{Width, byte_len, cast_unsigned, w8, w16, w32, w64}
@@ -9,7 +9,7 @@ use Rattle.secs_item.specs.Item.{Value, list, values, Values, binary, boolean, a
 use Rattle.secs_item.specs.Format.{value_size}
 use Rattle.secs_item.specs.Encoding.{header}
 
--- ---- the octets of one value
+-- ---- the bytes of one value
 
 abbrev pub octet_alone : ℕ → List ℕ
 octet_alone n = n ∷ []
@@ -44,11 +44,11 @@ short_body (f8 xs) = flat_map unread xs
 
 -- ---- items
 
--- the fewest length octets that hold the number
+-- The fewest length bytes that hold the number.
 abbrev pub field_of : ℕ → ℕ
 field_of number = if nat_lt number 256 then 1 else (if nat_lt number (256 ^ 2) then 2 else 3)
 
--- there is none past what three length octets hold
+-- The encoding with its header. There is none if three length bytes cannot hold the number.
 abbrev pub framed : Format → ℕ → List ℕ → Option (List ℕ)
 framed format number body = if nat_lt number (256 ^ 3) then Some (header format (field_of number) number ++ body) else None
 
@@ -61,16 +61,16 @@ abbrev mutual
   short_elements no_elements = Some []
   short_elements (element v es) = option_and_then (λ first. option_map (λ others. first ++ others) (short_elements es)) (short v)
 
--- the spelling, if there is one, was written at the end
+-- Holds if there is an encoding, and it was appended.
 abbrev pub Appends : Option (List ℕ) → List ℕ → List ℕ → Type 0
 Appends encoded_form old new = (octets : List ℕ) × (encoded_form ≡ Some octets) × (new ≡ old ++ octets)
 
--- the octets of an item's values; a list has none
+-- The bytes of an item's values; a list has none.
 abbrev pub body_of : Value → List ℕ
 body_of (list es) = []
 body_of (values v) = short_body v
 
--- the octets of an item's values, which are in their range; a list has none
+-- Holds if the bytes are those of an item's values, which are in range; a list has none.
 abbrev pub IsBodyOf : Value → List ℕ → Type 0
 IsBodyOf (list es) octets = octets ≡ []
 IsBodyOf (values v) octets = (octets ≡ short_body v) × ValuesInRange v

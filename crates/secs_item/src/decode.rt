@@ -1,4 +1,4 @@
-//! Decoding: items from their octets.
+//! Decoding of items from bytes.
 
 ghost use Rattle.std.specs.Prelude.{◌≡◌, ◌≤◌, ◌<◌, ◌%◌, ◌⊎◌, ℕ, false, length, drop, IfOk, IfErr, MatchResult, IsOk, Option, Some, None, Ok, [], option_map};
 ghost use Rattle.secs_item.specs.Fault.{Faults, TextFaults, IsReported, fault_at};
@@ -17,7 +17,7 @@ use crate::measure::{measure_front, measure_text};
 use crate::value::Value;
 use std::alloc::{AllocError, Global};
 
-/// The values of a body, each of `size` octets.
+/// Returns the values of a body, each `size` bytes long.
 fn read_values<V: Value>(alloc: Global, body: &[u8], size: usize) -> Result<Vec<V>, AllocError>
     requires size { size ≡ V.codec.size }
     requires some { 0 < V.codec.size }
@@ -35,7 +35,7 @@ fn read_values<V: Value>(alloc: Global, body: &[u8], size: usize) -> Result<Vec<
     Ok(values)
 }
 
-/// The values of a body in which each octet is a value as it stands.
+/// Returns the values of a body whose bytes are the values.
 #[tactic(auto, using(crate::proofs::Bodies::each_octet))]
 fn read_octets(alloc: Global, body: &[u8]) -> Result<Vec<u8>, AllocError>
     ensures { IfOk result (λ v. v.items ≡ each octet 1 body.now) }
@@ -43,8 +43,8 @@ fn read_octets(alloc: Global, body: &[u8]) -> Result<Vec<u8>, AllocError>
     Vec::from_slice(alloc, body)
 }
 
-/// The item of values of this format that has this body. Of an item that was encoded, [`body_octets`](crate::body_octets)
-/// gives the body again.
+/// Returns the item of this format whose body is `body`. For a body from an encoded item,
+/// [`body_octets`](crate::body_octets) returns the same body.
 pub fn item_of_values(alloc: Global, format: Format, body: &[u8]) -> Result<Item, AllocError>
     requires no_list { is_list format ≡ false }
     requires whole { length body.now % value_size format ≡ 0 }
@@ -70,7 +70,7 @@ pub fn item_of_values(alloc: Global, format: Format, body: &[u8]) -> Result<Item
     }
 }
 
-/// The item at `place`, and the place after it. Both were found by measuring, so the item is there whole.
+/// Returns the item at offset `place` and the offset after it. The bytes were measured before, so the item is complete.
 #[cycle(build)]
 fn build_item(
     alloc: Global,
@@ -98,7 +98,7 @@ fn build_item(
     }
 }
 
-/// The `count` items from `place` on, which were measured, and the place after them.
+/// Returns the `count` items from offset `place` on and the offset after them. The bytes were measured before.
 #[cycle(build)]
 fn build_elements(
     alloc: Global,
@@ -121,7 +121,7 @@ fn build_elements(
     Ok((elements, end))
 }
 
-/// The item at the front, which was measured, and how many octets spell it.
+/// Returns the item at the start and the length of its encoding in bytes. The bytes were measured before.
 fn build_front(alloc: Global, octets: &[u8], depth: u8) -> Result<(Item, usize), AllocError>
     requires measured { (v : ItemValue) × (n : ℕ) × IsAtFront depth octets.now v n }
     ensures ok { IfOk result (λ x. IsAtFront depth octets.now (view x.0) x.1) }
@@ -131,7 +131,7 @@ fn build_front(alloc: Global, octets: &[u8], depth: u8) -> Result<(Item, usize),
     Ok((item, end))
 }
 
-/// The item of a text that isn't empty and was measured.
+/// Returns the item of a text that is not empty and was measured before.
 fn build_text(alloc: Global, octets: &[u8], depth: u8) -> Result<Item, AllocError>
     requires some { 0 < length octets.now }
     requires measured { IsText depth octets.now }
@@ -142,12 +142,13 @@ fn build_text(alloc: Global, octets: &[u8], depth: u8) -> Result<Item, AllocErro
     Ok(item)
 }
 
-/// The item at the front of octets, and how many octets spell it. Its lists are nested at most `depth` deep, and the
-/// depth is at most 100. Octets behind the item aren't looked at.
+/// Returns the item at the start of `octets` and the length of its encoding in bytes. Its lists are nested at most
+/// `depth` deep, and `depth` is at most 100. Bytes after the item are not read.
 ///
 /// # Errors
 ///
-/// The first fault, as [`measure_front`] tells it, before any memory is asked for; else `Memory`.
+/// Returns the first error, the same as [`measure_front`], before it allocates; otherwise `Memory` if an allocation
+/// fails.
 pub fn decode_front(alloc: Global, octets: &[u8], depth: u8) -> Result<(Item, usize), ItemFault>
     requires { depth ≤ 100 }
     ensures ok { IfOk result (λ x. IsAtFront depth octets.now (view x.0) x.1) }
@@ -161,13 +162,13 @@ pub fn decode_front(alloc: Global, octets: &[u8], depth: u8) -> Result<(Item, us
     Ok(build_front(alloc, octets, depth)?)
 }
 
-/// The item of a message's text, or None where the text is empty. A text is nothing or one item, whose lists are nested
-/// at most `depth` deep, and the depth is at most 100.
+/// Returns the item of a message text. Returns `None` if the text is empty. A text is empty or one item, whose lists
+/// are nested at most `depth` deep. `depth` is at most 100.
 ///
 /// # Errors
 ///
-/// The first fault, as [`measure_text`] tells it, before any memory is asked for; octets behind the item are
-/// `Trailing`. Else `Memory`.
+/// Returns the first error, the same as [`measure_text`], before it allocates; bytes after the item are `Trailing`.
+/// Otherwise returns `Memory` if an allocation fails.
 pub fn decode_text(alloc: Global, octets: &[u8], depth: u8) -> Result<Option<Item>, ItemFault>
     requires { depth ≤ 100 }
     ensures none { octets.now ≡ [] → result ≡ Ok None }

@@ -1,4 +1,4 @@
-//! Encoding: octets from items.
+//! Encoding of items to bytes.
 
 ghost use Rattle.std.specs.Prelude.{◌≡◌, ◌<◌, ◌^◌, ◌++◌, OnOk, IfOk, IfErr, IsTrue, IsSome, IsNone, IsErrOf, Some, ◌↔◌, ◌⊎◌};
 ghost use Rattle.std.specs.List.{flat_map, AllByRecursion};
@@ -13,10 +13,10 @@ use crate::item::Item;
 use crate::value::{Value, octets_known};
 use std::alloc::{AllocError, Global};
 
-/// The greatest number that three length octets hold.
+/// The maximum number that three length bytes hold.
 pub const MAX_LENGTH: usize = 0xff_ffff;
 
-/// Adds an item's header, with no more length octets than the number needs.
+/// Appends an item's header, with the fewest length bytes that hold the number.
 fn push_header(octets: &mut Vec<u8>, format: Format, number: usize) -> Result<(), AllocError>
     requires { number < 256 ^ 3 }
     ensures { OnOk result (octets.new.items ≡ octets.old.items ++ header format (field_of number) number) }
@@ -28,7 +28,7 @@ fn push_header(octets: &mut Vec<u8>, format: Format, number: usize) -> Result<()
     octets.extend_from_slice(&header_octets(format, field, number)[..1 + field])
 }
 
-/// Adds the octets of these values.
+/// Appends the bytes of these values.
 fn push_values<V: Value>(octets: &mut Vec<u8>, values: &[V]) -> Result<(), AllocError>
     ensures octets { OnOk result (octets.new.items ≡ octets.old.items ++ flat_map V.codec.octets_of values.now) }
     ensures in_range { OnOk result (AllByRecursion V.codec.fits values.now) }
@@ -39,7 +39,7 @@ fn push_values<V: Value>(octets: &mut Vec<u8>, values: &[V]) -> Result<(), Alloc
     Ok(())
 }
 
-/// Adds values that are octets as they stand.
+/// Appends values that are plain bytes.
 fn push_octets(octets: &mut Vec<u8>, values: &[u8]) -> Result<(), AllocError>
     ensures octets { OnOk result (octets.new.items ≡ octets.old.items ++ flat_map octet_alone values.now) }
     ensures in_range { AllByRecursion (λ n. n < 256) values.now }
@@ -48,7 +48,7 @@ fn push_octets(octets: &mut Vec<u8>, values: &[u8]) -> Result<(), AllocError>
     octets.extend_from_slice(values)
 }
 
-/// Adds the octets of the item's values, one behind another. A list has none.
+/// Appends the bytes of the item's values in order. A list has none.
 fn push_body(octets: &mut Vec<u8>, item: &Item) -> Result<(), AllocError>
     ensures octets { OnOk result (octets.new.items ≡ octets.old.items ++ body_of (view item.now)) }
     ensures in_range { OnOk result (IsBodyOf (view item.now) (body_of (view item.now))) }
@@ -73,7 +73,7 @@ fn push_body(octets: &mut Vec<u8>, item: &Item) -> Result<(), AllocError>
     }
 }
 
-/// Whether the item has a spelling: three length octets can count each body and each list of it.
+/// Returns true if the item has an encoding: three length bytes can count each of its bodies and lists.
 fn has_encoding(item: &Item) -> bool
     ensures { IsTrue result ↔ IsSome (short (view item.now)) }
 {
@@ -92,7 +92,7 @@ fn has_encoding(item: &Item) -> bool
     true
 }
 
-/// Adds the shortest spelling of the item.
+/// Appends the shortest encoding of the item.
 fn push_item(octets: &mut Vec<u8>, item: &Item) -> Result<(), AllocError>
     requires { IsSome (short (view item.now)) }
     ensures octets { OnOk result (Appends (short (view item.now)) octets.old.items octets.new.items) }
@@ -109,11 +109,12 @@ fn push_item(octets: &mut Vec<u8>, item: &Item) -> Result<(), AllocError>
     Ok(())
 }
 
-/// The item's shortest octets: the fewest length octets everywhere, and 01 for true.
+/// Returns the shortest encoding of the item: the fewest length bytes everywhere, and 01 for true.
 ///
 /// # Errors
 ///
-/// `TooLarge`, before any memory is asked for, where a body or a list is past 16,777,215; else `Memory`.
+/// Returns `TooLarge`, before it allocates, if the length of a body or a list exceeds 16,777,215. Otherwise returns
+/// `Memory` if an allocation fails.
 #[tactic(auto, using(crate::proofs::Uniqueness::short_encodes))]
 pub fn encode(alloc: Global, item: &Item) -> Result<Vec<u8>, ItemFault>
     ensures ok { IfOk result (λ octets. short (view item.now) ≡ Some octets.items) }
@@ -129,8 +130,8 @@ pub fn encode(alloc: Global, item: &Item) -> Result<Vec<u8>, ItemFault>
     Ok(octets)
 }
 
-/// The octets of the values of an item, one behind another, however many they are: its body, where three length octets
-/// can hold their number. A list has none.
+/// Returns the bytes of the item's values in order, with no limit on their number. They are the item's body if three
+/// length bytes can hold their number. A list has none.
 pub fn body_octets(alloc: Global, item: &Item) -> Result<Vec<u8>, AllocError>
     ensures { IfOk result (λ octets. IsBodyOf (view item.now) octets.items) }
 {

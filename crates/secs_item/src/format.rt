@@ -1,49 +1,49 @@
-//! The table of item formats of SEMI E5: the format code of each, and how many octets one value has.
+//! The item formats of SEMI E5: the format code of each, and the size of one value in bytes.
 
 ghost use Rattle.std.specs.Prelude.{◌≡◌, ◌<◌, ◌%◌, ◌↔◌, IsTrue};
 ghost use Rattle.secs_item.specs.Format.{code_of, format_with_code, is_list, value_size};
 
-/// What an item holds: elements, or values of one kind (SEMI E5, item formats). The number of a variant is its format
+/// The format of an item: elements, or values of one kind (SEMI E5, item formats). A variant's number is its format
 /// code, in octal.
 #[derive(Clone, Copy, Debug, PartialEq, Eq)]
 pub enum Format {
     /// `L`, a list of items.
     List = 0o00,
-    /// `B`, octets of any meaning.
+    /// `B`, bytes of any meaning.
     Binary = 0o10,
-    /// `BOOLEAN`, an octet each, zero for false.
+    /// `BOOLEAN`, one byte each, zero for false.
     Boolean = 0o11,
-    /// `A`, characters of ASCII.
+    /// `A`, ASCII characters.
     Ascii = 0o20,
-    /// `J`, characters of JIS-8.
+    /// `J`, JIS-8 characters.
     Jis8 = 0o21,
-    /// `C2`, two-octet characters, kept octet by octet.
+    /// `C2`, two-byte characters, stored as single bytes.
     Char2 = 0o22,
-    /// `I1`, signed numbers of one octet.
+    /// `I1`, signed numbers of one byte.
     I1 = 0o31,
-    /// `I2`, signed numbers of two octets.
+    /// `I2`, signed numbers of two bytes.
     I2 = 0o32,
-    /// `I4`, signed numbers of four octets.
+    /// `I4`, signed numbers of four bytes.
     I4 = 0o34,
-    /// `I8`, signed numbers of eight octets.
+    /// `I8`, signed numbers of eight bytes.
     I8 = 0o30,
-    /// `U1`, unsigned numbers of one octet.
+    /// `U1`, unsigned numbers of one byte.
     U1 = 0o51,
-    /// `U2`, unsigned numbers of two octets.
+    /// `U2`, unsigned numbers of two bytes.
     U2 = 0o52,
-    /// `U4`, unsigned numbers of four octets.
+    /// `U4`, unsigned numbers of four bytes.
     U4 = 0o54,
-    /// `U8`, unsigned numbers of eight octets.
+    /// `U8`, unsigned numbers of eight bytes.
     U8 = 0o50,
-    /// `F4`, floating point of four octets, kept unread.
+    /// `F4`, floating-point numbers of four bytes, not interpreted.
     F4 = 0o44,
-    /// `F8`, floating point of eight octets, kept unread.
+    /// `F8`, floating-point numbers of eight bytes, not interpreted.
     F8 = 0o40,
 }
 
 impl Format {
-    /// The format with this code, if there is one: the numbers of the variants the other way round. It is written out,
-    /// since each header that is read asks for it, and a search would take longer.
+    /// Returns the format with this code, the inverse of the variants' numbers. Returns `None` if no format has the
+    /// code. The cases are written out, since every header read calls this, and a search would take longer.
     #[tactic(auto, unfolding(crate::specs::Format::format_with_code))]
     pub(crate) fn from_code(code: u8) -> Option<Format>
         ensures { result ≡ format_with_code code }
@@ -69,7 +69,7 @@ impl Format {
         }
     }
 
-    /// The format's code: the six bits of a format octet above the number of length octets.
+    /// Returns the format's code: the six bits of a format byte above the number of length bytes.
     #[inline(always)]
     pub fn code(self) -> u8
         ensures value { result ≡ code_of self }
@@ -78,7 +78,7 @@ impl Format {
         self as u8
     }
 
-    /// How many octets one value has. A list counts its elements.
+    /// Returns the size of one value in bytes. For a list it is 1, since a list counts its elements.
     #[inline(always)]
     pub fn size(self) -> usize
         ensures value { result ≡ value_size self }
@@ -99,7 +99,7 @@ impl Format {
         }
     }
 
-    /// Whether items of this format are lists.
+    /// Returns true if items of this format are lists.
     #[inline(always)]
     pub fn is_list(self) -> bool
         ensures { result ≡ is_list self }
@@ -107,8 +107,8 @@ impl Format {
         matches!(self, Format::List)
     }
 
-    /// Whether a body of this length is whole values. It goes by cases of the size, since a division by a number that
-    /// isn't known takes longer.
+    /// Returns true if the length of a body is a multiple of the size of a value. The sizes are separate cases, since a
+    /// division by a variable takes longer.
     pub(crate) fn is_whole(self, length: usize) -> bool
         ensures { IsTrue result ↔ (length % value_size self ≡ 0) }
     {

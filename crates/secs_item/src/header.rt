@@ -11,21 +11,21 @@ use crate::fault::ItemFault;
 use crate::format::Format;
 use byteorder::{BigEndian, ByteOrder};
 
-/// The first octet of a list's header with one length octet.
+/// The first byte of a list's header with one length byte.
 const SHORT_LIST: u8 = 1;
 
-/// A header that has been read.
+/// A parsed header.
 #[derive(Clone, Copy)]
 pub struct Header {
-    /// What the item holds.
+    /// The format of the item.
     pub format: Format,
-    /// The place of the body's first octet.
+    /// The offset of the body's first byte.
     pub body: usize,
-    /// The octets of the body, or the elements of a list.
+    /// The length of the body in bytes, or the number of elements of a list.
     pub length: usize,
 }
 
-/// The number in a length field of one to three octets.
+/// Returns the number in a length field of one to three bytes.
 fn read_length(octets: &[u8], field: usize) -> usize
     requires one_at_least { 1 ≤ field }
     requires three_at_most { field ≤ 3 }
@@ -39,7 +39,7 @@ fn read_length(octets: &[u8], field: usize) -> usize
     }
 }
 
-/// The octets of a header with this many length octets. They stand first in the array, and zeros behind them.
+/// Returns the bytes of a header with `field` length bytes, at the start of the array. The remaining bytes are zero.
 #[inline(always)]
 pub(crate) fn header_octets(format: Format, field: usize, number: usize) -> [u8; 4]
     requires one_at_least { 1 ≤ field }
@@ -56,12 +56,12 @@ pub(crate) fn header_octets(format: Format, field: usize, number: usize) -> [u8;
     }
 }
 
-/// Reads the header at `place`, where lists may still be nested `depth` deep. The body of an item that isn't a list is
-/// there whole: one that is cut off is a fault.
+/// Reads the header at offset `place`, where lists may be nested at most `depth` deep. The body of an item that is not
+/// a list must be complete.
 ///
 /// # Errors
 ///
-/// The first fault of the header, at `place`.
+/// Returns the first error of the header, with offset `place`.
 #[inline(always)]
 #[tactic(auto, unfolding(crate::specs::Header::header_at), using(crate::proofs::Headers::code_of_list))]
 pub fn read_header(octets: &[u8], place: usize, depth: u8) -> Result<Header, ItemFault>

@@ -1,4 +1,4 @@
-//! Item headers that are written once what stands behind them is known.
+//! Item headers that are written after their bodies, when the length is known.
 
 ghost use Rattle.std.specs.Prelude.{◌≡◌, ◌≤◌, ◌<◌, ◌+◌, ◌^◌, ◌++◌, ◌∷◌, ◌↔◌, IsTrue, length, take, drop, false, Ok, IfOk, OnOk};
 ghost use Rattle.secs_item.specs.ShortestEncoding.{field_of};
@@ -9,7 +9,7 @@ use crate::format::Format;
 use crate::header::header_octets;
 use std::alloc::AllocError;
 
-/// Writes two octets over two that stand there.
+/// Overwrites two bytes.
 fn set_two(out: &mut Vec<u8>, at: usize, first: u8, second: u8)
     requires { at + 2 ≤ length out.old.items }
     ensures { out.new.items ≡ take at out.old.items ++ first ∷ second ∷ drop (at + 2) out.old.items }
@@ -18,7 +18,7 @@ fn set_two(out: &mut Vec<u8>, at: usize, first: u8, second: u8)
     out[at + 1] = second;
 }
 
-/// Writes a header of three or four octets over the two that are kept for it. What stands behind them is moved up.
+/// Writes a header of three or four bytes over the two reserved bytes. The bytes after them move up.
 #[inline(never)]
 fn patch_long_header(
     out: &mut Vec<u8>,
@@ -45,12 +45,13 @@ fn patch_long_header(
     Ok(())
 }
 
-/// Writes the header of an item, with the fewest length octets that hold the number, over the two octets that are kept
-/// for it in front of its body. Says whether three length octets hold the number; else nothing is written.
+/// Writes the header of an item over the two bytes that are reserved for it before its body. It has the fewest length
+/// bytes that hold the number. Returns true if three length bytes hold the number; otherwise writes nothing.
 ///
 /// # Errors
 ///
-/// A header of more than two octets needs memory, and there is none. What `out` holds then isn't said.
+/// Returns an error if a header of more than two bytes needs memory and the allocation fails. The content of `out` is
+/// then unspecified.
 #[inline(always)]
 pub fn patch_header(
     out: &mut Vec<u8>,

@@ -7,11 +7,11 @@ ghost use Rattle.secs_item.specs.Item.{count_of, format_of, nest, view, views};
 use crate::format::Format;
 use std::alloc::{AllocError, Global};
 
-/// A data item (SEMI E5): a list of items, or any number of values of one format, none included.
+/// A data item (SEMI E5): a list of items, or values of one format. Both may be empty.
 ///
-/// Two items are equal exactly where they have one format and the same elements or values in the same order. `Ascii`,
-/// `Jis8` and `Char2` hold octets of any value; `F4` and `F8` hold the octets of each number, most significant first,
-/// unread.
+/// Two items are equal exactly if they have the same format and the same elements or values in the same order. `Ascii`,
+/// `Jis8` and `Char2` hold arbitrary bytes. `F4` and `F8` hold the bytes of each number, most significant byte first,
+/// not interpreted.
 #[derive(Debug, Drop)]
 pub enum Item {
     List(Vec<Item>),
@@ -33,7 +33,7 @@ pub enum Item {
 }
 
 impl Item {
-    /// An equal item, in memory of its own. The only error is want of memory.
+    /// Returns an equal item in memory of its own. The only error is a failed allocation.
     pub fn copy(&self, alloc: Global) -> Result<Item, AllocError>
         ensures { IfOk result (λ item. view item ≡ view self.now) }
     {
@@ -47,7 +47,7 @@ impl Item {
         Ok(Item::List(copies))
     }
 
-    /// What the item holds.
+    /// Returns the format of the item.
     pub fn format(&self) -> Format
         ensures { result ≡ format_of (view self.now) }
     {
@@ -71,7 +71,7 @@ impl Item {
         }
     }
 
-    /// How many elements or values the item has.
+    /// Returns the number of elements or values of the item.
     pub(crate) fn count(&self) -> usize
         ensures { result ≡ count_of (view self.now) }
     {
@@ -96,7 +96,7 @@ impl Item {
     }
 }
 
-/// An equal item of an item that is no list, in memory of its own.
+/// Returns a copy, in memory of its own, of an item that is not a list.
 #[inline(always)]
 fn copy_values(item: &Item, alloc: Global) -> Result<Item, AllocError>
     requires { is_list (format_of (view item.now)) ≡ false }
@@ -122,8 +122,8 @@ fn copy_values(item: &Item, alloc: Global) -> Result<Item, AllocError>
     }
 }
 
-/// How deep lists stand in the item: 0 for an item of values, else one more than the deepest element, and 1 for an
-/// empty list. Where that is past the greatest `usize`, which no item in memory reaches, it is that number.
+/// Returns the nesting depth of lists in the item: 0 for an item of values, 1 for an empty list, and otherwise one more
+/// than the deepest element. It saturates at the maximum `usize`, which no item in memory reaches.
 pub fn nesting(item: &Item) -> usize
     ensures { result ≡ min (nest (view item.now)) usize.MAX }
 {
@@ -163,7 +163,7 @@ impl Eq for Item {
     ghost laws = { on_equiv view (decided same_value same_value-Decides) };
 }
 
-// Whether the other item has this format too, and the same values.
+// Returns true if the other item has the same format and the same values.
 macro_rules! has_values {
     ($other:expr, $format:ident, $values:expr) => {
         match $other {
@@ -173,7 +173,7 @@ macro_rules! has_values {
     };
 }
 
-/// Whether two items stand for the same value.
+/// Returns true if two items have the same value.
 #[cycle(same)]
 fn same_item(item: &Item, other: &Item) -> bool
     ensures { IsTrue result ↔ (view item.now ≡ view other.now) }
@@ -201,7 +201,7 @@ fn same_item(item: &Item, other: &Item) -> bool
     }
 }
 
-/// Whether the items stand for the same values, one after another.
+/// Returns true if the items have the same values, in order.
 #[cycle(same)]
 fn same_items(items: &[Item], others: &[Item]) -> bool
     ensures { IsTrue result ↔ (views items.now ≡ views others.now) }

@@ -1,12 +1,12 @@
-//! Data items of SEMI E5 (SECS-II) and their octets: measured, decoded and encoded.
+//! Data items of SEMI E5 (SECS-II) and their bytes: measuring, decoding and encoding.
 //!
-//! An item is a list of items, or any number of values of one format. Its octets are a format octet, one to three
-//! length octets and the body. [`measure_front`] and [`measure_text`] tell whether octets are an item, and how long it
-//! is, and take no memory; [`decode_front`] and [`decode_text`] measure, and then make the item; [`encode`] gives its
-//! shortest octets. `specs/Encoding.antt` says what spells an item, and `specs/Fault.antt` what is a fault, and where;
-//! [`laws`] has what follows from both.
+//! An item is a list of items, or values of one format. Its encoding is a format byte, one to three length bytes and
+//! the body. [`measure_front`] and [`measure_text`] check whether bytes are an item and how long it is, and do not
+//! allocate. [`decode_front`] and [`decode_text`] measure, and then build the item. [`encode`] returns its shortest
+//! encoding. `specs/Encoding.antt` defines the encodings of an item, and `specs/Fault.antt` the errors and their
+//! offsets. [`laws`] has the consequences of both.
 //!
-//! Octets are measured before they are decoded; what was decoded is encoded again, in its shortest octets:
+//! In this example bytes are measured and decoded; the item is then encoded again, with its shortest encoding:
 //!
 //! ```
 //! let octets = b"\x42\x00\x02AB";

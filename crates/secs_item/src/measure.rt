@@ -1,4 +1,4 @@
-//! The length of an item, measured without making the item.
+//! The length of an item, measured without building the item.
 
 ghost use Rattle.std.specs.Prelude.{◌≡◌, ◌≤◌, ◌<◌, ◌-◌, ℕ, length, drop, IfOk, IfErr, OnOk, IsOk};
 ghost use Rattle.secs_item.specs.Fault.{Faults, TextFaults, IsReported, fault_at};
@@ -11,15 +11,15 @@ ghost use Rattle.secs_item.specs.Item.{Value};
 use crate::fault::ItemFault;
 use crate::measure_step::read_part;
 
-/// How deep lists may be nested at most.
+/// The maximum nesting depth of lists.
 pub const MAX_DEPTH: usize = 100;
 
-/// How deep they may be nested in most sessions: an array of so few counts is cleared without a call.
+/// The maximum nesting depth in most sessions. An array with this number of counts is cleared without a call.
 const USUAL_DEPTH: usize = 32;
 
-/// The place after the `count` elements of a list. Its body begins at `place`, and where its header stands lists may be
-/// nested `depth` deep. `counts[d]` says how many elements are still to come of that list around the innermost one in
-/// which lists may be nested `d` deep.
+/// Returns the offset after the `count` elements of a list. Its body begins at offset `place`, and its header was read
+/// where lists may be nested at most `depth` deep. `counts[d]` is the number of elements still to come in an enclosing
+/// list of the innermost one: the list in which lists may be nested `d` deep.
 fn end_of_elements<const N: usize>(
     octets: &[u8],
     place: usize,
@@ -56,8 +56,8 @@ fn end_of_elements<const N: usize>(
     }
 }
 
-/// The place after the item at the front. Only where that is a list with elements are counts made: a row of no more than
-/// are needed in most sessions, or of all.
+/// Returns the offset after the item at the start. It creates counts only for a list with elements: an array of the
+/// size that most sessions need, or of the full size.
 fn end_of_item(octets: &[u8], depth: u8) -> Result<usize, ItemFault>
     requires { depth ≤ 100 }
     ensures { result ≡ end_from 0 (item_at depth octets.now) }
@@ -73,12 +73,12 @@ fn end_of_item(octets: &[u8], depth: u8) -> Result<usize, ItemFault>
     }
 }
 
-/// How many octets spell the item at the front. Its lists are nested at most `depth` deep, and the depth is at most
-/// 100. Octets behind the item aren't looked at. Takes no memory.
+/// Returns the length in bytes of the item at the start. Its lists are nested at most `depth` deep, and `depth` is at
+/// most 100. Bytes after the item are not read. Does not allocate.
 ///
 /// # Errors
 ///
-/// The first fault of the octets; never `Trailing`, `TooLarge` or `Memory`.
+/// Returns the first error of the bytes; never `Trailing`, `TooLarge` or `Memory`.
 pub fn measure_front(octets: &[u8], depth: u8) -> Result<usize, ItemFault>
     requires { depth ≤ 100 }
     ensures ok { IfOk result (λ n. (v : Value) × IsAtFront depth octets.now v n) }
@@ -90,12 +90,12 @@ pub fn measure_front(octets: &[u8], depth: u8) -> Result<usize, ItemFault>
     end_of_item(octets, depth)
 }
 
-/// Whether the octets are a message's text: nothing, or one item whose lists are nested at most `depth` deep. The depth
-/// is at most 100. Takes no memory.
+/// Checks that the bytes are a message text: empty, or one item whose lists are nested at most `depth` deep. `depth` is
+/// at most 100. Does not allocate.
 ///
 /// # Errors
 ///
-/// The first fault of the octets; `Trailing` where others stand behind an item. Never `TooLarge` or `Memory`.
+/// Returns the first error of the bytes: `Trailing` if bytes follow the item, but never `TooLarge` or `Memory`.
 pub fn measure_text(octets: &[u8], depth: u8) -> Result<(), ItemFault>
     requires { depth ≤ 100 }
     ensures ok { OnOk result (IsText depth octets.now) }

@@ -1,4 +1,4 @@
-//! Values and their octets, of the formats whose values aren't octets as they stand.
+//! Values and their bytes, for the formats whose values are not plain bytes.
 
 ghost use Rattle.std.specs.Prelude.{◌≡◌, ◌++◌, ◌<◌, length, OnOk};
 ghost use Rattle.std.specs.Int.{w8, w16, w32, w64};
@@ -8,17 +8,17 @@ ghost use Rattle.secs_item.specs.Codec.{Codec, of_signed, of_truth, of_unread, o
 use byteorder::{BigEndian, ByteOrder};
 use std::alloc::AllocError;
 
-/// A value that an item's body holds, of as many octets as its format has.
+/// A value in an item's body, with the number of bytes that its format gives.
 pub trait Value: Copy + Drop {
-    /// How many octets a value has, the value of octets, the octets of a value, and what holds of each of the type.
+    /// The size of a value in bytes, the value of given bytes, the bytes of a value, and the range of the type.
     ghost codec: { Codec Self };
 
-    /// The value of these octets.
+    /// Returns the value of these bytes.
     fn from_octets(octets: &[u8]) -> Self
         requires { length octets.now ≡ codec.size }
         ensures { result ≡ codec.value_of octets.now };
 
-    /// Adds the value's octets.
+    /// Appends the value's bytes.
     fn push_octets(self, octets: &mut Vec<u8>) -> Result<(), AllocError>
         ensures octets { OnOk result (octets.new.items ≡ octets.old.items ++ codec.octets_of self) }
         ensures fits { codec.fits self };
@@ -135,7 +135,7 @@ impl<const N: usize> Value for [u8; N] {
     }
 }
 
-/// Says that octets in memory are below 256. Does nothing when it runs.
+/// States for the proof that bytes in memory are below 256. Does nothing at run time.
 pub fn octets_known(octets: &[u8])
     ensures { AllByRecursion (λ n. n < 256) octets.now }
 {}

@@ -6,21 +6,21 @@ use std::alloc::{AllocError, Global};
 use std::fmt::Debug;
 use std::process::Abort;
 
-// An assertion takes its time in the check where it stands, and so both stand here once. What a value is written as tells
-// all of it, and one text is compared in less time than its parts. A constant is followed through the function that names
-// it, and so a table is gone through by another one.
+// An assertion costs proof time in each function that contains it, so both assertions are written here once. The
+// `Debug` text of a value shows all of it, and one text is compared in less time than its parts. The proof follows a
+// constant through the function that names it, so a separate function iterates over each table.
 
-/// Something is so.
+/// Checks a condition.
 fn assert_so(rt: &impl Abort, is_so: bool, what: &str) {
     assert!(rt; is_so, "{what}");
 }
 
-/// What `Debug` writes of a value.
+/// Returns the `Debug` text of a value.
 fn named<T: Debug>(alloc: Global, value: &T) -> Result<String, AllocError> {
     format!(in alloc; "{value:?}")
 }
 
-/// A value is written so by `Debug`.
+/// Checks the `Debug` text of a value.
 fn assert_named<T: Debug>(
     rt: &impl Abort,
     alloc: Global,

@@ -1,4 +1,4 @@
--- Putting octets into a block, one word after another.
+-- Writing of bytes to a block, word by word.
 use Rattle.std.proofs.Common.{◌≡◌, ℕ, zero, suc, ◌+◌, ◌*◌, ◌/◌, ◌%◌, ◌≤◌, ◌<◌, ◌^◌, ◌&&◌, Bool, true, cond, eqb, ltb, lt-ltb, le-ltb, List, [], ◌∷◌, ◌++◌, length, get_or, take, drop, codes, refl, ap, sym, ◌∙◌, arith, append_assoc, append-nil, subst, length-append, length-take-le, take-add, take-take, take_at, drop_at}
 use Rattle.std.specs.Fmt.{decimal}
 use Rattle.std.specs.Cmp.Lexicographic.{pointwise}
@@ -11,7 +11,7 @@ use Rattle.secs_text.specs.BlockOutput.{IsPlace, AppendsText, Puts, two_decimals
 use Rattle.secs_text.specs.Printed.{hexadecimal, two_digits}
 use Rattle.secs_text.proofs.Prefixes.{both}
 
--- a second text begins where the first ended
+-- A second text begins where the first one ended.
 pub appended_then : {a b c xs ys : List ℕ} {i j k : ℕ} → AppendsText a b i xs j → AppendsText b c j ys k → AppendsText a c i (xs ++ ys) k
 appended_then {a} {b} {c} {xs} {ys} {i} p q = record {
   octets = q.octets ∙ ap (λ l. l ++ ys) p.octets ∙ append_assoc (take i a) xs ys;
@@ -25,7 +25,7 @@ appended_nothing block at = record { octets = sym (append-nil (take at block)); 
 pub appended_same : {old now : List ℕ} {at end : ℕ} {xs : List ℕ} (ys : List ℕ) → xs ≡ ys → AppendsText old now at xs end → AppendsText old now at ys end
 appended_same {old} {now} {at} {end} ys same p = subst (λ (o : List ℕ). AppendsText old now at o end) same p
 
--- only the first n octets count
+-- Only the first `n` bytes count.
 pub appended_less : {a b xs : List ℕ} {i j : ℕ} (n : ℕ) → i ≤ length a → n ≤ length xs → AppendsText a b i xs j → AppendsText a b i (take n xs) (i + n)
 appended_less {a} {b} {xs} {i} {j} n within few p =
     let front = length-take-le i a within in
@@ -38,7 +38,7 @@ appended_less {a} {b} {xs} {i} {j} n within few p =
 
 -- ---- the tables
 
--- whether the next rows of a table are right, each of so many octets
+-- True if the next rows of a table are right, each of `size` bytes.
 abbrev rows : ℕ → (ℕ → List ℕ → Bool) → ℕ → ℕ → List ℕ → Bool
 rows size right zero k table = true
 rows size right (suc n) k table = right k table && rows size right n (k + 1) (drop size table)
@@ -62,7 +62,7 @@ pub digits_right : (octet : ℕ) → octet < 256 → take 2 (drop (8 * octet + 3
 digits_right octet lt =
     ap (take 2) (sym (drop-drop 3 (8 * octet) WORDS)) ∙ sym (drop-take 3 2 (drop (8 * octet) WORDS)) ∙ ap (drop 3) (words_right octet lt)
 
--- the digits of a number, at most so many
+-- The last digits of a number, at most the given number of them.
 abbrev by_digits : ℕ → ℕ → List ℕ
 by_digits zero n = []
 by_digits (suc k) n = cond (ltb n 10) ((48 + n) ∷ []) (by_digits k (n / 10) ++ ((48 + n % 10) ∷ []))
@@ -84,7 +84,7 @@ pairs_right n lt =
     ap (take 2) (sym (drop-drop (4 * n) 401 NUMBERS ∙ ap (λ m. drop m NUMBERS) place))
     ∙ (octets_Decides _ _).0 (row_at 4 (λ k pair. pointwise eqb (take 2 pair) (two_decimals k)) 100 0 n n (4 * n) (drop 401 NUMBERS) refl lt (omega arith) refl)
 
--- a number by its hundreds
+-- A number in terms of its hundreds.
 pub decimal_hundreds : (n : ℕ) → 100 ≤ n → n < 2 ^ 64 → decimal (n / 100) ++ two_decimals (n % 100) ≡ decimal n
 decimal_hundreds n enough small =
     let tens : n / 10 / 10 ≡ n / 100 = omega arith in
@@ -94,7 +94,7 @@ decimal_hundreds n enough small =
     let last : decimal n ≡ decimal (n / 10) ++ ((48 + n % 100 % 10) ∷ []) = rw low at (decimal_step n (omega arith) small) in
     sym (last ∙ ap (λ o. o ++ ((48 + n % 100 % 10) ∷ [])) step ∙ append_assoc (decimal (n / 100)) ((48 + n % 100 / 10) ∷ []) ((48 + n % 100 % 10) ∷ []))
 
--- ---- putting them to an output
+-- ---- passing the bytes to an output
 
 pub puts_nothing : (G : List ℕ → Type 0) (block : List ℕ) (at : ℕ) → IsPlace block at → Puts G block at G block at []
 puts_nothing G block at place = record {
@@ -102,14 +102,14 @@ puts_nothing G block at place = record {
   place = place;
 }
 
--- all that stands in the block was given
+-- All bytes before the offset in the block were passed to the output.
 pub puts_given : (G H : List ℕ → Type 0) (block : List ℕ) (at : ℕ) → IsPlace block at → ((given : List ℕ) → G given → H (given ++ take at block)) → Puts G block at H block 0 []
 puts_given G H block at place gives = record {
   octets = λ given h. (given ++ take at block, gives given h, refl);
   place = record { size = place.size; within = omega arith };
 }
 
--- what is laid behind what was put
+-- A text that is written after the earlier texts.
 pub puts_appended : {G H : List ℕ → Type 0} {block now new : List ℕ} {from at end : ℕ} {xs ys : List ℕ} → Puts G block from H now at xs → AppendsText now new at ys end → end ≤ 65536 → Puts G block from H new end (xs ++ ys)
 puts_appended {G} {H} {block} {now} {new} {from} {at} {end} {xs} {ys} p q within = record {
   octets = λ given h.
@@ -118,7 +118,7 @@ puts_appended {G} {H} {block} {now} {new} {from} {at} {end} {xs} {ys} p q within
   place = record { size = q.size ∙ p.place.size; within = within };
 }
 
--- what is put behind what was put
+-- A text that is printed after the earlier texts.
 pub puts_then : {G H K : List ℕ → Type 0} {block now new : List ℕ} {from at end : ℕ} {xs ys : List ℕ} → Puts G block from H now at xs → Puts H now at K new end ys → Puts G block from K new end (xs ++ ys)
 puts_then {G} {H} {K} {block} {now} {new} {from} {at} {end} {xs} {ys} p q = record {
   octets = λ given h.
@@ -128,7 +128,7 @@ puts_then {G} {H} {K} {block} {now} {new} {from} {at} {end} {xs} {ys} p q = reco
   place = q.place;
 }
 
--- room was made behind what was put
+-- Space was made after the earlier texts.
 pub puts_room : {G H K : List ℕ → Type 0} {block now new : List ℕ} {from at end : ℕ} {xs : List ℕ} → Puts G block from H now at xs → Puts H now at K new end [] → Puts G block from K new end xs
 puts_room {G} {H} {K} {block} {now} {new} {from} {at} {end} {xs} p q = rw (append-nil xs) at (puts_then p q)
 

@@ -1,4 +1,4 @@
--- Tokens that stand as a message is printed.
+-- Tokens spaced as in a printed message.
 use Rattle.std.proofs.Common.{◌≡◌, ℕ, suc, ◌+◌, ◌-◌, ◌*◌, ◌^◌, ◌<◌, ◌≤◌, Bool, true, false, ◌||◌, not, List, [], ◌∷◌, ◌++◌, length, take, drop, get_or, refl, sym, ap, subst, ◌∙◌, arith, codes, append_assoc}
 use Rattle.std.specs.Prelude.{Option, Some, Ok, Err, cond, ◌==◌}
 use Rattle.std.specs.List.{find, list_all}
@@ -30,7 +30,7 @@ use Rattle.secs_text.proofs.Numbers.{just, no_number, take_all, value_more, nume
 use Rattle.secs_text.proofs.PrintedWords.{and_true, all_of_word}
 use Rattle.secs_text.proofs.Tokenized.{word_here, prefix_front, take_front, drop_front}
 
--- ---- octets, one by one
+-- ---- single bytes
 
 pub one_of : (o : List ℕ) → 1 ≤ length o → o ≡ get_or o 0 0 ∷ drop 1 o
 one_of o le = drop_more o 0 0 (omega arith)
@@ -58,7 +58,7 @@ symbol_here : (at c : ℕ) (octets : List ℕ) (t : Token) → IsSymbol c t → 
 unfolding tokens_after
 symbol_here at c octets t is = ap (λ f. with_front at f (λ more. tokens_after more (at + 1) octets)) (is.fronts octets)
 
--- what stands behind so many octets
+-- The bytes after the first `k` bytes.
 subsequent : (at k : ℕ) (text octets front rest : List ℕ) → octets ≡ drop at text → octets ≡ front ++ rest → length front ≡ k → drop (at + k) text ≡ rest
 subsequent at k text octets front rest left parts size =
     sym (drop-drop k at text) ∙ ap (λ o. drop k o) (sym left ∙ parts) ∙ ap (λ n. drop n (front ++ rest)) (sym size) ∙ drop_front front rest
@@ -81,7 +81,7 @@ symbol_taken at size text t is =
     length_both [] c = refl
     length_both (x ∷ xs) c = let more = length_both xs c in omega (arith, more)
 
--- a symbol stands here, or behind one space
+-- A symbol occurs here, or after one space.
 pub symbol_first : (o rest : List ℕ) (c : ℕ) (t : Token) → rest ≡ o → 1 ≤ length rest → get_or rest 0 0 ≡ c → IsSymbol c t → IsSymbolAfter 0 t o
 symbol_first o rest c t same some is_c symbol = record {
   octet = c;
@@ -114,7 +114,7 @@ opening_here at w d rest is d_is =
     word_here at w (0x20 ∷ 0x5B ∷ (d ++ 0x5D ∷ rest)) is refl
     ∙ ap (λ ts. record { at = at; token = math.word w } ∷ record { at = n + 1; token = math.bracket } ∷ ts) (word_here (n + 1 + 1) d (0x5D ∷ rest) d_is refl)
 
--- a digit is a number
+-- A digit is a numeral.
 one_digit : (digit : ℕ) → is_digit digit ≡ true → (is_numeral (digit ∷ []) ≡ true) × (digits_value 10 (digit ∷ []) ≡ digit - 48)
 one_digit digit d =
     let numeral : is_numeral (digit ∷ []) ≡ true = and_true _ _ (and_true _ _ d refl) (or_last (not (digit == 0x30))) in
@@ -213,7 +213,8 @@ name_word format.U8 = record { some = omega arith; all = refl }
 name_word format.F4 = record { some = omega arith; all = refl }
 name_word format.F8 = record { some = omega arith; all = refl }
 
--- the first of these formats that has this name, if the first test is so and the rest finds this
+-- The first of these formats that has this name, given the result of the first test and the format that the rest
+-- yields.
 by_first : (f g : Format) (w : List ℕ) (rest : Option Format) (b : Bool) → bytes_eq (type_name g) w ≡ b → ◌≡◌ {A = Option Format} (cond b (Some g) rest) (Some f) → (◌≡◌ {A = Option Format} rest (Some f) → IsWord w) → IsWord w
 by_first f g w rest true is e next = subst IsWord ((bytes_eq-Decides (type_name g) w).0 is) (name_word g)
 by_first f g w rest false is e next = next e
@@ -322,7 +323,7 @@ pub ends_of : (q : List ℕ) → is_of_word (get_or q 0 0) ≡ false → EndsWor
 ends_of [] e = refl
 ends_of (c ∷ q) e = rw e refl
 
--- what stands behind a letter and a number
+-- The bytes after a letter and a number.
 after_lettered : (letter number size : ℕ) (octets : List ℕ) → (h : IsLettered letter number size octets) → drop size octets ≡ h.number_following.rest
 after_lettered letter number size octets h =
     let n = h.number_following in
@@ -368,9 +369,9 @@ head_taken at size stream function text octets before from left h =
           ∙ ap (λ o. record { at = at; token = math.word h.text } ∷ tokens_from (at + size) o) (sym rest_is);
     }
 
--- ---- where they lead
+-- ---- the steps that they lead to
 
--- the type name of an item whose lists may be nested so deep
+-- The type name of an item in which lists may be nested `depth` deep.
 named_leads : (f : Format) (rules : Rules) (b : Before) (opening at depth : ℕ) → length b.lists + depth ≡ rules.depth → (f ≡ format.List → 0 < depth) → after_name rules b opening at (Some f) ≡ Ok (after_type b (nothing_of f))
 named_leads format.List rules b opening at depth e deep = let more = deep refl in rw (lt-ltb (length b.lists) rules.depth (omega (arith, e, more))) refl
 named_leads format.Binary rules b opening at depth e deep = refl

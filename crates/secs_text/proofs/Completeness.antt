@@ -1,4 +1,4 @@
--- Tokens that lead from one place to another, wherever they stand.
+-- Tokens that lead from one parser state to another, at any position.
 use Rattle.std.proofs.Common.{◌≡◌, ℕ, List, [], ◌∷◌, ◌++◌, map, refl, ap, ◌∙◌}
 use Rattle.std.specs.Prelude.{Ok, Err}
 use Rattle.secs_text.specs.Token.{Token, Placed}
@@ -7,7 +7,7 @@ use Rattle.secs_text.specs.ParserStates.{Rules, Place, walk, step, ◌>>=◌}
 abbrev pub token_of : Placed → Token
 token_of p = p.token
 
--- placed tokens are cut where their tokens are
+-- A list of placed tokens splits where the list of their tokens splits.
 pub cut : (ps : List Placed) (xs ys : List Token) → map token_of ps ≡ xs ++ ys → (qs rs : List Placed) × (ps ≡ qs ++ rs) × (map token_of qs ≡ xs) × (map token_of rs ≡ ys)
 cut ps [] ys e = ([], ps, refl, refl, e)
 cut [] (x ∷ xs) ys e = cc
@@ -17,12 +17,12 @@ cut (p ∷ ps) (x ∷ xs) ys e =
     let c = cut ps xs ys rest in
     (p ∷ c.0, c.1, ap (λ o. p ∷ o) c.2, (λ i. first i ∷ c.3 i), c.4)
 
--- walking over tokens one after another
+-- Walking over consecutive tokens.
 pub walk_append : (rules : Rules) (place : Place) (qs rs : List Placed) → walk rules place (qs ++ rs) ≡ walk rules place qs >>= (λ next. walk rules next rs)
 walk_append rules place [] rs = refl
 walk_append rules place (q ∷ qs) rs = elim (step rules place q.at q.token) as (λ r. (r >>= (λ next. walk rules next (qs ++ rs))) ≡ ((r >>= (λ next. walk rules next qs)) >>= (λ next. walk rules next rs))) [ Ok next ↦ walk_append rules next qs rs | Err f ↦ refl ]
 
--- these tokens lead from one place to another
+-- Holds if these tokens lead from one parser state to another.
 pub record Leads (rules : Rules) (from : Place) (ts : List Token) (to : Place) : Type 0 where
   pub walks : (ps : List Placed) → map token_of ps ≡ ts → walk rules from ps ≡ Ok to
 
@@ -30,7 +30,7 @@ walk_none : (rules : Rules) (p : Place) (ps : List Placed) → map token_of ps �
 walk_none rules p [] e = refl
 walk_none rules p (q ∷ ps) e = cc
 
--- no token leads anywhere
+-- No tokens leave the state unchanged.
 pub leads_nowhere : (rules : Rules) (p : Place) → Leads rules p [] p
 leads_nowhere rules p = record { walks = walk_none rules p }
 
@@ -41,7 +41,7 @@ walk_one rules p q t steps (x ∷ []) e =
     ap (λ k. step rules p x.at k >>= (λ next. walk rules next [])) is ∙ ap (λ r. r >>= (λ next. walk rules next [])) (steps x.at)
 walk_one rules p q t steps (x ∷ y ∷ ps) e = cc
 
--- one token that leads there from any place in the text
+-- One token that leads to the state at every position in the text.
 pub leads_by_one : (rules : Rules) (p q : Place) (t : Token) → ((at : ℕ) → step rules p at t ≡ Ok q) → Leads rules p (t ∷ []) q
 leads_by_one rules p q t steps = record { walks = walk_one rules p q t steps }
 
@@ -51,7 +51,7 @@ walk_both rules p q r xs ys first second ps e =
     ap (λ o. walk rules p o) c.2 ∙ walk_append rules p c.0 c.1
     ∙ ap (λ k. k >>= (λ next. walk rules next c.1)) (first.walks c.0 c.3) ∙ second.walks c.1 c.4
 
--- tokens after tokens
+-- Consecutive lists of tokens.
 pub leads_by_both : {rules : Rules} {p q r : Place} {xs ys : List Token} → Leads rules p xs q → Leads rules q ys r → Leads rules p (xs ++ ys) r
 leads_by_both {rules} {p} {q} {r} {xs} {ys} first second = record { walks = walk_both rules p q r xs ys first second }
 

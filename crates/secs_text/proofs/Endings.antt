@@ -1,4 +1,4 @@
--- The last token of a text decides: it leads to the end, or it is at fault.
+-- The last token of a text decides: it leads to the end, or it has the error.
 use Rattle.std.proofs.Common.{◌≡◌, ℕ, zero, suc, ◌+◌, Bool, true, false, ◌||◌, not, List, [], ◌∷◌, refl, if◌then◌else◌}
 use Rattle.std.specs.Prelude.{Ok, Err, None}
 use Rattle.secs_text.specs.declared.fault.TextFault.{TextFault}
@@ -9,7 +9,7 @@ use Rattle.secs_text.specs.Token.{Token, word, quoted, less, greater, bracket, b
 use Rattle.secs_text.specs.TokenView.{is_last}
 use Rattle.secs_text.specs.ParserStates.{Rules, Place, Step, start, after_head, after_wait, type_expected, after_type, count_expected, after_count, in_item, stop_expected, finished, Opened, Before, walk, step, ◌>>=◌, is_empty, at_in_item}
 
--- the last of these tokens has nothing behind it
+-- Holds if the last of these tokens ends the text.
 abbrev pub EndsLast : List Placed → Type 0
 EndsLast [] = ⊥
 EndsLast (p ∷ []) = is_last p.token ≡ true
@@ -38,7 +38,7 @@ abbrev pub IsFinished : Place → Type 0
 IsFinished (finished ms) = Unit {0}
 IsFinished p = ⊥
 
--- where a step leads, if it does
+-- Holds if the step, if it succeeds, leads to the end.
 abbrev Finishes : Step → Type 0
 Finishes (Ok place) = IsFinished place
 Finishes (Err f) = Unit {0}
@@ -108,7 +108,7 @@ walk_finishes rules place [] h = absurd h
 walk_finishes rules place (p ∷ []) h = alone (step rules place p.at p.token) (last_finishes rules place p.at p.token h)
 walk_finishes rules place (p ∷ q ∷ ps) h = then_finishes (step rules place p.at p.token) (λ next. walk rules next (q ∷ ps)) (λ next. walk_finishes rules next (q ∷ ps) h)
 
--- a text is let through to the end, or a token is at fault
+-- The outcome of a text: it is accepted to the end, or a token has an error.
 pub data Outcome (r : Step) : Type 0 where
   through : (ms : List Content) → r ≡ Ok (finished ms) → Outcome r
   at_fault : (f : TextFault) → r ≡ Err f → Outcome r

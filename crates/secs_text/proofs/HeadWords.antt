@@ -19,7 +19,7 @@ numeral_some : (w : List ℕ) → is_numeral w ≡ true → (length w == 0) ≡ 
 numeral_some [] e = cc
 numeral_some (c ∷ w) e = not_empty c w
 
--- both numbers are right
+-- Both numbers are valid.
 both_right : (stream function : List ℕ) (s f : ℕ) → number_below 128 stream ≡ Some s → number_below 256 function ≡ Some f → head s f ≡ head_of_parts stream (70 ∷ function)
 both_right stream function s f is_s is_f =
     let a = numeral_of 128 stream s is_s in
@@ -33,7 +33,7 @@ right_head stream (c ∷ function) s f letter some is_s is_f =
     let all : take (length (c ∷ function) - 1) function ≡ function = take_all function _ (omega arith) in
     rw same (both_right stream function s f is_s (ap (λ o. number_below 256 o) (sym all) ∙ is_f))
 
--- a number is wrong
+-- A number is invalid.
 wrong_numbers : (stream function : List ℕ) (word : HeadWord) → number_below 128 stream ≡ None ⊎ number_below 256 function ≡ None → word ≡ (if not (length stream == 0) && not (length function == 0) && list_all is_digit function then bad_head else no_head)
     → word ≡ head_of_parts stream (70 ∷ function)
 wrong_numbers stream function word (inl none) is = is ∙ rw none refl

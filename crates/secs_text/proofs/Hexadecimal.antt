@@ -1,4 +1,4 @@
--- Octets that words of hexadecimal digits spell.
+-- The bytes that words of hexadecimal digits represent.
 use Rattle.std.proofs.Common.{◌≡◌, ℕ, suc, ◌+◌, ◌*◌, ◌<◌, Bool, true, false, List, [], ◌∷◌, ◌++◌, length, drop, get_or, refl, sym, ap, ◌∙◌, arith, append_assoc, append-nil, if◌then◌else◌}
 use Rattle.std.specs.Prelude.{Option, Some, None, option_map, option_and_then, ◌==◌}
 use Rattle.std.proofs.Math.Seq.{drop-cons, drop-length}
@@ -6,7 +6,7 @@ use Rattle.std.proofs.lemmas.Bool.{eqb-true, eq-eqb, ne_eqb}
 use Rattle.secs_item.specs.ShortestEncoding.{octet_alone}
 use Rattle.secs_text.specs.Words.{octet_of, octets_of, octet_then, octet_of_digits, only, hex_octets, sized, float_of}
 
--- a word that spells one octet spells as many as a float of one octet has
+-- A word represents one byte exactly if it represents a float of one byte.
 pub one_octet : (w : List ℕ) → float_of 1 w ≡ option_map octet_alone (octet_of w)
 unfolding octet_of float_of
 one_octet w = alone (octets_of w)
@@ -37,7 +37,7 @@ none_sized : (size : ℕ) (r : Option (List ℕ)) → ((octets : List ℕ) → r
 none_sized size None other = refl
 none_sized size (Some octets) other = when_sized size octets (length octets == size) refl (other octets refl)
 
--- too few or too many digits
+-- Too few or too many digits.
 pub other_length : (size : ℕ) (digits : List ℕ) → (length digits ≡ 2 * size → ⊥) → option_and_then (sized size) (hex_octets digits) ≡ None
 other_length size digits other = none_sized size (hex_octets digits) (λ octets e all. let long : length digits ≡ 2 * length octets = hex_length digits octets e in other (omega arith))
 
@@ -45,24 +45,24 @@ is_sized : (size : ℕ) (octets : List ℕ) (b : Bool) → (length octets == siz
 is_sized size octets true e all = refl
 is_sized size octets false e all = absurd (let same = eq-eqb (length octets) size all in cc)
 
--- the right number of digits
+-- The right number of digits.
 pub right_length : (size : ℕ) (digits : List ℕ) (r : Option (List ℕ)) → length digits ≡ 2 * size → r ≡ hex_octets digits → r ≡ option_and_then (sized size) (hex_octets digits)
 right_length size digits None long is = ap (λ o. option_and_then (sized size) o) is
 right_length size digits (Some octets) long is =
     let half : length octets ≡ size = omega (arith, hex_length digits octets (sym is)) in
     sym (is_sized size octets (length octets == size) refl half) ∙ ap (λ o. option_and_then (sized size) o) is
 
--- ---- one octet after another
+-- ---- byte by byte
 
 abbrev pub after_octets : List ℕ → Option (List ℕ) → Option (List ℕ)
 after_octets octets rest = option_map (λ more. octets ++ more) rest
 
--- before the first
+-- Before the first byte.
 pub nothing_yet : (rest : Option (List ℕ)) → rest ≡ after_octets [] rest
 nothing_yet None = refl
 nothing_yet (Some more) = refl
 
--- two digits and those after them
+-- Two digits, and those after them.
 digits_at : (digits : List ℕ) (k : ℕ) → k + 1 < length digits → hex_octets (drop k digits) ≡ octet_then (octet_of_digits (get_or digits k 0) (get_or digits (k + 1) 0)) (hex_octets (drop (k + 2) digits))
 digits_at digits k lt =
     let next : suc k ≡ k + 1 = omega arith in
@@ -74,7 +74,7 @@ moved : (octets : List ℕ) (o : ℕ) (rest : Option (List ℕ)) → after_octet
 moved octets o None = refl
 moved octets o (Some rest) = ap (λ k. Some k) (sym (append_assoc octets (o ∷ []) rest))
 
--- the octet of the next two digits
+-- The byte of the next two digits.
 pub octet_continues : (digits octets new : List ℕ) (i o : ℕ) → 2 * i + 1 < length digits → octet_of_digits (get_or digits (2 * i) 0) (get_or digits (2 * i + 1) 0) ≡ Some o → new ≡ octets ++ o ∷ [] → hex_octets digits ≡ after_octets octets (hex_octets (drop (2 * i) digits)) → hex_octets digits ≡ after_octets new (hex_octets (drop (2 * (i + 1)) digits))
 octet_continues digits octets new i o lt is new_is before =
     let place : 2 * i + 2 ≡ 2 * (i + 1) = omega arith in
@@ -83,12 +83,12 @@ octet_continues digits octets new i o lt is new_is before =
     ∙ ap (λ k. after_octets (octets ++ o ∷ []) (hex_octets (drop k digits))) place
     ∙ ap (λ k. after_octets k (hex_octets (drop (2 * (i + 1)) digits))) (sym new_is)
 
--- the next two digits spell none
+-- The next two digits represent no byte.
 pub no_octet : (digits octets : List ℕ) (i : ℕ) → 2 * i + 1 < length digits → octet_of_digits (get_or digits (2 * i) 0) (get_or digits (2 * i + 1) 0) ≡ None → hex_octets digits ≡ after_octets octets (hex_octets (drop (2 * i) digits)) → hex_octets digits ≡ None
 no_octet digits octets i lt is before =
     before ∙ ap (λ r. after_octets octets r) (digits_at digits (2 * i) lt ∙ ap (λ p. octet_then p (hex_octets (drop (2 * i + 2) digits))) is)
 
--- no more digits
+-- No digits remain.
 pub octets_done : (digits octets : List ℕ) (n : ℕ) → length digits ≡ 2 * n → hex_octets digits ≡ after_octets octets (hex_octets (drop (2 * n) digits)) → hex_octets digits ≡ Some octets
 octets_done digits octets n long before =
     before ∙ ap (λ k. after_octets octets (hex_octets (drop k digits))) (sym long) ∙ ap (λ o. after_octets octets (hex_octets o)) (drop-length digits) ∙ ap (λ k. Some k) (append-nil octets)

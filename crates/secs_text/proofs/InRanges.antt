@@ -1,4 +1,4 @@
--- What words spell is in the range of the type that holds it.
+-- The values that words represent are in the range of their types.
 use Rattle.std.proofs.Common.{◌≡◌, ℕ, ◌+◌, ◌-◌, ◌*◌, ◌<◌, ◌^◌, Bool, true, false, List, [], ◌∷◌, ◌++◌, length, refl, sym, ap, ◌∙◌, arith, subst, if◌then◌else◌}
 use Rattle.std.specs.Prelude.{Option, Some, None, option_map, option_and_then, nat_lt, nat_le, ◌==◌, ◌&&◌, ℤ, pos, negsuc, FitsSigned}
 use Rattle.std.specs.List.{AllByRecursion}
@@ -28,7 +28,7 @@ pub number_fits : (limit : ℕ) (w : List ℕ) (n : ℕ) → number_below limit 
 unfolding number_below
 number_fits limit w n e = numeral_some (is_numeral w) limit (digits_value 10 w) n e
 
--- a signed number of this half
+-- Holds if the signed number is at least `-half` and below `half`.
 abbrev pub IsAround : ℕ → ℤ → Type 0
 IsAround half (pos n) = n < half
 IsAround half (negsuc n) = n < half
@@ -76,7 +76,7 @@ fits_w64 : (z : ℤ) → IsAround (2 ^ 63) z → FitsSigned w64 z
 fits_w64 (pos n) lt = grind (arith, lt)
 fits_w64 (negsuc n) lt = grind (arith, lt)
 
--- ---- octets
+-- ---- bytes
 
 digit_last : (b : Bool) (c d : ℕ) → b ≡ (nat_le 0x61 c && nat_le c 0x66) → (if b then Some (c - 0x57) else None) ≡ Some d → d < 16
 digit_last true c d is e = let same : c - 0x57 ≡ d = cc in grind (arith, nat_tests)
@@ -153,13 +153,13 @@ pub float_fits : (size : ℕ) (w float : List ℕ) → float_of size w ≡ Some 
 unfolding float_of
 float_fits size w float e = sized_fits (octets_of w) size float (octets_fit w) e
 
--- ---- one more value in its range
+-- ---- one more value that is in range
 
 all_push : {X : Type 0} (P : X → Type 0) (xs ys : List X) → AllByRecursion P xs → AllByRecursion P ys → AllByRecursion P (xs ++ ys)
 all_push P [] ys h k = k
 all_push P (x ∷ xs) ys h k = (h.0, all_push P xs ys h.1 k)
 
--- where a value is added
+-- A value is appended.
 pushed : {X : Type 0} (P : X → Type 0) (make : List X → Values) (r : Option X) (xs : List X) (more : Values) → ((ys : List X) → AllByRecursion P ys → ValuesInRange (make ys)) → ((x : X) → r ≡ Some x → P x)
     → AllByRecursion P xs → option_map (λ x. make (xs ++ x ∷ [])) r ≡ Some more → ValuesInRange more
 pushed P make None xs more whole fits h e = cc
@@ -184,7 +184,7 @@ word_in_range (u8 xs) more w h e = pushed (λ n. n < 256 ^ 8) u8 (number_below (
 word_in_range (f4 xs) more w h e = pushed _ f4 (float_of 4 w) xs more (λ ys k. k) (float_fits 4 w) h e
 word_in_range (f8 xs) more w h e = pushed _ f8 (float_of 8 w) xs more (λ ys k. k) (float_fits 8 w) h e
 
--- a quoted text is of octets
+-- The bytes of a quoted text are in range.
 pub quoted_in_range : (v more : Values) (text : List ℕ) → AllByRecursion (λ n. n < 256) text → ValuesInRange v → with_quoted v text ≡ Some more → ValuesInRange more
 quoted_in_range (ascii xs) more text octets h e =
     let same : ascii (xs ++ text) ≡ more = cc in

@@ -1,4 +1,4 @@
--- The tokens of an item lead over it.
+-- The tokens of an item lead to the state after it.
 use Rattle.std.proofs.Common.{◌≡◌, ℕ, suc, ◌+◌, ◌<◌, ◌≤◌, Bool, true, false, List, [], ◌∷◌, ◌++◌, length, map, refl, sym, ap, ◌∙◌, append_assoc, append-nil, arith, if◌then◌else◌}
 use Rattle.std.specs.Prelude.{Ok, Err, Option, Some, None, option_map, ◌^◌}
 use Rattle.std.proofs.lemmas.Bool.{lt-ltb, eq-eqb}
@@ -15,7 +15,7 @@ use Rattle.secs_text.proofs.Completeness.{token_of, Leads, leads_nowhere, leads_
 
 -- ---- values
 
--- a format whose words are read one after another
+-- Holds if the words of a format are read one by one.
 pub record IsRead {X : Type 0} (one : List ℕ → Option X) (pack : List X → Values) : Type 0 where
   pub can_continue : (xs : List X) (w : List ℕ) → with_word (pack xs) w ≡ option_map (λ x. pack (xs ++ x ∷ [])) (one w)
 
@@ -73,7 +73,7 @@ values_lead rules b c (u8 xs) ts h = in_words_lead (number_below (2 ^ 64)) u8 (r
 values_lead rules b c (f4 xs) ts h = in_words_lead (float_of 4) f4 (record { can_continue = λ xs w. refl }) rules b c xs ts h
 values_lead rules b c (f8 xs) ts h = in_words_lead (float_of 8) f8 (record { can_continue = λ xs w. refl }) rules b c xs ts h
 
--- ---- what no bracket stands before
+-- ---- token lists that do not begin with a bracket
 
 abbrev is_bracket : Token → Bool
 is_bracket bracket = true
@@ -83,7 +83,7 @@ abbrev begins_with_bracket : List Token → Bool
 begins_with_bracket [] = false
 begins_with_bracket (t ∷ ts) = is_bracket t
 
--- these tokens, and the end of the item
+-- These tokens, and the end of the item.
 abbrev closing : List Token → List Token
 closing ts = ts ++ greater ∷ []
 
@@ -134,7 +134,7 @@ after_type_step b v at stop bare = refl
 after_type_step b v at broken bare = refl
 after_type_step b v at end bare = refl
 
--- where no count is written
+-- No count is written.
 uncounted : (rules : Rules) (b : Before) (v : Value) (q : Place) (ts : List Token) → begins_with_bracket (closing ts) ≡ false → Leads rules (holding b None v) (closing ts) q → (ps : List Placed) → map token_of ps ≡ closing ts → walk rules (after_type b v) ps ≡ Ok q
 uncounted rules b v q [] bare leads [] e = cc
 uncounted rules b v q (t ∷ ts) bare leads [] e = cc
@@ -142,7 +142,7 @@ uncounted rules b v q ts bare leads (p ∷ ps) e =
     let plain : is_bracket p.token ≡ false = ap begins_with_bracket e ∙ bare in
     ap (λ r. r >>= (λ next. walk rules next ps)) (after_type_step b v p.at p.token plain) ∙ leads.walks (p ∷ ps) e
 
--- where a count is written
+-- A count is written.
 counted : (rules : Rules) (b : Before) (v : Value) (q : Place) (ts : List Token) (w : List ℕ) (n : ℕ) → number_below (2 ^ 64) w ≡ Some n → ((at : ℕ) → Leads rules (holding b (Some (record { at = at; number = n })) v) ts q) → (ps : List Placed) → map token_of ps ≡ bracket ∷ word w ∷ bracket_end ∷ ts → walk rules (after_type b v) ps ≡ Ok q
 counted rules b v q ts w n is leads [] e = cc
 counted rules b v q ts w n is leads (x ∷ []) e = cc
@@ -159,11 +159,11 @@ counted rules b v q ts w n is leads (x ∷ y ∷ z ∷ ps) e =
     ∙ ap (λ t. step rules (after_count b v c) z.at t >>= (λ next. walk rules next ps)) third
     ∙ (leads x.at).walks ps rest
 
--- the end of an item whose count is right
+-- The end of an item with the right count.
 closes : (rules : Rules) (b : Before) (c : Option Count) (v : Value) → is_counted c (count_of v) ≡ true → Leads rules (holding b c v) (greater ∷ []) (closed b.lists b v)
 closes rules b c v is = leads_by_one rules _ _ greater (λ at. let r : Step = Ok (closed b.lists b v) in let f : Step = Err (fault.Count (count_place c)) in ap (λ t. if t then r else f) is)
 
--- after the type name
+-- The tokens after the type name.
 counted_or_not : (rules : Rules) (b : Before) (start v : Value) (count inner : List Token) → CountTokens (count_of v) count → begins_with_bracket (closing inner) ≡ false → ((c : Option Count) → Leads rules (holding b c start) inner (holding b c v)) → (ps : List Placed) → map token_of ps ≡ (count ++ inner) ++ greater ∷ [] → walk rules (after_type b start) ps ≡ Ok (closed b.lists b v)
 counted_or_not rules b start v count inner (inl none) bare leads ps e =
     uncounted rules b start _ inner bare (leads_by_both (leads None) (closes rules b None v refl)) ps (e ∙ ap (λ o. (o ++ inner) ++ greater ∷ []) none)
@@ -197,7 +197,7 @@ name_leads rules b (list es) opening at deep =
     let f : Step = Err (fault.Deep opening) in
     ap (λ t. if t then r else f) (lt-ltb (length b.lists) rules.depth lt)
 
--- `<`, the type name, and what follows
+-- `<`, the type name, and the tokens that follow.
 opened : (rules : Rules) (b : Before) (v : Value) (name : List ℕ) (rest : List Token) (q : Place) → format_named name ≡ Some (format_of v) → nest v + length b.lists ≤ rules.depth → (p : Place) → ((at : ℕ) → step rules p at less ≡ Ok (type_expected b at)) → ((ps : List Placed) → map token_of ps ≡ rest → walk rules (after_type b (nothing_of (format_of v))) ps ≡ Ok q) → (ps : List Placed) → map token_of ps ≡ less ∷ word name ∷ rest → walk rules p ps ≡ Ok q
 opened rules b v name rest q named deep p opens more [] e = cc
 opened rules b v name rest q named deep p opens more (x ∷ []) e = cc
@@ -217,7 +217,7 @@ enclosed_leads rules b v inner ts h deep bare leads p opens = record {
   walks = λ ps e. opened rules b v h.name ((h.count ++ inner) ++ greater ∷ []) _ h.named deep p opens (counted_or_not rules b (nothing_of (format_of v)) v h.count inner h.counted bare leads) ps (e ∙ h.parts);
 }
 
--- elements after elements
+-- The elements, followed by more elements.
 joined : Elements → Elements → Elements
 joined before no_elements = before
 joined before (element v es) = joined (with_element before v) es

@@ -1,4 +1,4 @@
--- Steps inside an item let through nothing but the tokens of items.
+-- Steps inside an item accept nothing but the tokens of items.
 use Rattle.std.proofs.Common.{◌≡◌, ℕ, ◌+◌, ◌<◌, ◌≤◌, true, List, [], ◌∷◌, ◌++◌, length, refl, sym, ap, ◌∙◌, subst, append_assoc, arith}
 use Rattle.std.specs.Prelude.{Ok, Option, Some, None, nat_lt, ◌^◌}
 use Rattle.std.proofs.lemmas.Bool.{ltb-true}

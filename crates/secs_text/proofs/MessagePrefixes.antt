@@ -1,4 +1,4 @@
--- The tokens of messages lead over them, and notations are let through.
+-- The tokens of messages lead to the states after them, and notations are accepted.
 use Rattle.std.proofs.Common.{◌≡◌, ℕ, ◌≤◌, Bool, true, false, ◌||◌, not, List, [], ◌∷◌, ◌++◌, refl, sym, ap, ◌∙◌, append_assoc, append-nil, arith, if◌then◌else◌}
 use Rattle.std.specs.Prelude.{Ok, Err, Option, Some, None, MatchOption}
 use Rattle.secs_item.specs.Item.{Value, nest}
@@ -22,7 +22,7 @@ head_leads rules ms stream function name may named = leads_by_one rules _ _ (wor
 stop_leads : (rules : Rules) (ms : List Content) (m : Content) → Leads rules (stop_expected ms m) (stop ∷ []) (start (ms ++ m ∷ []))
 stop_leads rules ms m = leads_by_one rules _ _ stop (λ at. refl)
 
--- what stands behind the head
+-- The tokens after the head.
 rest_leads : (rules : Rules) (ms : List Content) (stream function : ℕ) (wait : Bool) (item : Option Value) (ts : List Token) → OptionalItem item ts → MatchOption item (Unit {0}) (λ v. nest v ≤ rules.depth) → Leads rules (after_head ms (headed stream function false)) ((wait_tokens wait ++ ts) ++ stop ∷ []) (start (ms ++ (record { stream = stream; function = function; wait = wait; item = item }) ∷ []))
 rest_leads rules ms stream function true None ts h deep =
     leads_along (ap (λ o. (word wait_word ∷ o) ++ stop ∷ []) h)
@@ -51,13 +51,13 @@ messages_lead rules (m ∷ ms) before ts several h deep =
 end_leads : (rules : Rules) (ms : List Content) → rules.several || not (is_empty ms) ≡ true → Leads rules (start ms) (end ∷ []) (finished ms)
 end_leads rules ms may = leads_by_one rules _ _ end (λ at. let r : Step = Ok (finished ms) in let f : Step = Err (fault.Syntax at) in ap (λ t. if t then r else f) may)
 
--- the notation of a message within the depth is let through
+-- The notation of a message within the depth is accepted.
 pub let_through : (text : List ℕ) (depth : ℕ) (m : Content) → Notation m text → IsWithin depth m → reading (one_message depth) text ≡ Ok (finished (m ∷ []))
 let_through text depth m h deep =
     let rules : Rules = one_message depth in
     (leads_by_both (message_leads rules [] m h.0 refl h.1 deep) (end_leads rules (m ∷ []) refl)).walks (tokens text) h.2
 
--- so are those of messages one after another
+-- The notation of consecutive messages within the depth is accepted.
 pub all_let_through : (text : List ℕ) (depth : ℕ) (ms : List Content) → Notations ms text → AllWithin depth ms → reading (any_messages depth) text ≡ Ok (finished ms)
 all_let_through text depth ms h deep =
     let rules : Rules = any_messages depth in

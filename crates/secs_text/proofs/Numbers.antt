@@ -1,4 +1,4 @@
--- Numbers that words spell.
+-- The numbers that words represent.
 use Rattle.std.proofs.Common.{◌≡◌, ℕ, zero, suc, ◌+◌, ◌-◌, ◌*◌, ◌%◌, ◌^◌, ◌<◌, ◌≤◌, Bool, true, false, ◌&&◌, List, [], ◌∷◌, length, take, get_or, refl, sym, ap, ◌∙◌, arith, if◌then◌else◌}
 use Rattle.std.specs.Prelude.{Some, None, nat_lt, nat_le, cond, ◌==◌}
 use Rattle.std.specs.List.{list_all, prefix_len}
@@ -31,7 +31,7 @@ digit_is c e =
     let range : IsInRange 48 57 c = (leb-true 48 c parts.0, leb-true c 57 parts.1) in
     omega (arith, digit_value_digit c range)
 
--- one more digit
+-- One more digit.
 pub value_more : (w : List ℕ) (i : ℕ) → is_digit (get_or w i 0) ≡ true → i < length w → digits_value 10 (take (i + 1) w) ≡ digits_value 10 (take i w) * 10 + (get_or w i 0 - 48)
 value_more w i digit lt = digits_value_more 10 w i lt ∙ ap (λ d. digits_value 10 (take i w) * 10 + d) (digit_is (get_or w i 0) digit)
 
@@ -51,7 +51,7 @@ take_all [] (suc k) le = refl
 take_all (c ∷ w) zero le = absurd (omega arith)
 take_all (c ∷ w) (suc k) le = ap (λ o. c ∷ o) (take_all w k (omega arith))
 
--- where the first digits are too many, so are all
+-- If the first digits are too large, the complete word is.
 pub too_large : (limit : ℕ) (w : List ℕ) (k : ℕ) → limit ≤ digits_value 10 (take k w) → number_below limit w ≡ None
 unfolding number_below
 too_large limit w k le =
@@ -67,7 +67,7 @@ just limit w k n numeral done is lt =
     let e : nat_lt (digits_value 10 w) limit ≡ true = lt-ltb (digits_value 10 w) limit small in
     rw (numeral, e) (ap (λ k. Some k) (sym all))
 
--- digits at the front are digits
+-- Digits at the start are digits.
 first_digits : (c n : ℕ) (w : List ℕ) (b : Bool) → is_digit c ≡ b → list_all is_digit (take n w) ≡ true → list_all is_digit (take (cond b (1 + n) 0) (c ∷ w)) ≡ true
 first_digits c n w true is all = let e : 1 + n ≡ suc n = omega arith in rw (e, is) all
 first_digits c n w false is all = refl
@@ -82,7 +82,7 @@ digits_front w front n is e = ap (λ o. list_all is_digit o) (e ∙ ap (λ k. ta
 pub all_digits : (w : List ℕ) → prefix_len is_digit w ≡ length w → list_all is_digit w ≡ true
 all_digits w e = ap (λ o. list_all is_digit o) (sym (take_all w (prefix_len is_digit w) (omega arith))) ∙ digits_before w
 
--- what is no numeral
+-- ---- words that are not numerals
 pub no_octets : (w : List ℕ) → length w < 1 → is_numeral w ≡ false
 no_octets [] lt = refl
 no_octets (c ∷ w) lt = absurd (omega arith)
@@ -111,7 +111,7 @@ pub no_number : (limit : ℕ) (w : List ℕ) → is_numeral w ≡ false → numb
 unfolding number_below
 no_number limit w e = rw e refl
 
--- so few digits that they spell a number below 2^64
+-- Few enough digits for a number below 2^64.
 digits_are : (w : List ℕ) → list_all is_digit w ≡ true → AllDigits 10 w
 digits_are [] all = tt
 digits_are (c ∷ w) all =

@@ -1,4 +1,4 @@
--- Items and the elements of a list, laid onto octets one after another.
+-- Encoding of items and the elements of a list, one by one.
 use Rattle.std.proofs.Common.{◌≡◌, ℕ, suc, ◌+◌, ◌*◌, ◌&&◌, Bool, true, false, List, [], ◌∷◌, ◌++◌, length, take, drop, refl, sym, ap, ◌∙◌, append_assoc, append-nil, length-append, arith, if◌then◌else◌, ◌-◌, ◌<◌, ◌^◌, ◌≤◌}
 use Rattle.std.specs.Prelude.{Ok, Err, Option, Some, None, option_map, option_and_then, nat_lt, IsTrue, ◌↔◌}
 use Rattle.std.proofs.lemmas.Bool.{le-ltb, lt-ltb}
@@ -20,7 +20,7 @@ use Rattle.secs_text.specs.declared.fault.TextFault.TheVariants as fault
 
 -- ---- headers
 
--- what `patch_header` says: whether there is a header, and that it stands over two octets then
+-- The result of `patch_header`: whether there is a header, which then replaces two bytes.
 pub record Patched (f : Format) (number start : ℕ) (old now : List ℕ) (fits : Bool) : Type 0 where
   pub holds : IsTrue fits ↔ (number < 256 ^ 3)
   pub octets : IsTrue fits → now ≡ take start old ++ (header f (field_of number) number ++ drop (start + 2) old)
@@ -39,7 +39,7 @@ patched_appended {f} {number} false front body h is long =
 
 -- ---- items of values
 
--- behind two octets the values were laid, and then the header over these
+-- After two reserved bytes the values were appended, and then the header replaced these bytes.
 pub item_patched : {f : Format} {c : Option Count} {before after : List Placed} (old from mid now : List ℕ) (fits : Bool) (start end : ℕ)
     → Closed f c before after from mid → from ≡ old ++ 0 ∷ 0 ∷ [] → start ≡ length old → end ≡ length mid → Patched f (end - start - 2) start mid now fits
     → Itemized Anywhere (λ b. in_item b (record { count = c; so_far = nothing_of f })) before after fits old now
@@ -56,7 +56,7 @@ item_patched {f} {c} old from mid now fits start end h kept start_is end_is patc
           ∙ ap (λ g. option_map (λ o. old ++ o) (framed g (value_size g * count_of_values h.held) body)) (sym h.form);
     }
 
--- the two octets are there
+-- The two reserved bytes exist.
 pub two_kept : {f : Format} {c : Option Count} {before after : List Placed} (old from mid : List ℕ) (start : ℕ)
     → Closed f c before after from mid → from ≡ old ++ 0 ∷ 0 ∷ [] → start ≡ length old → start + 2 ≤ length mid
 two_kept old from mid start h kept start_is =
@@ -64,7 +64,7 @@ two_kept old from mid start h kept start_is =
 
 -- ---- lists
 
--- elements, to which these tokens lead up to those, inside a list with this count
+-- Elements that lead from the tokens `before` to the tokens `after`, in a list with this count.
 pub record ListedSoFar (depth : ℕ) (c : Option Count) (before after : List Placed) (fits : Bool) (number : ℕ) (old new : List ℕ) : Type 0 where
   pub elements : Elements
   pub leads : (rules : Rules) (b : Before) → Deep (1 + depth) rules b → walk rules (in_item b (record { count = c; so_far = list no_elements })) before ≡ walk rules (in_item b (record { count = c; so_far = list elements })) after
@@ -79,12 +79,12 @@ none_listed depth c before old new is = record {
   appends_bytes = ap (λ o. Some o) (is ∙ sym (append-nil (old ++ 0 ∷ 0 ∷ [])));
 }
 
--- one more element
+-- One more element.
 count-with : (es : Elements) (v : Value) → count (with_element es v) ≡ suc (count es)
 count-with no_elements v = refl
 count-with (element w es) v = ap suc (count-with es v)
 
--- octets behind octets
+-- The bytes of the first, followed by those of the others.
 abbrev subsequent : Option (List ℕ) → Option (List ℕ) → Option (List ℕ)
 subsequent first others = option_and_then (λ f. option_map (λ o. f ++ o) others) first
 
@@ -149,7 +149,7 @@ module _ {depth : ℕ} {c : Option Count} {before after : List Placed} {fits : B
       → Fails f (walk rules (in_item b (record { count = c; so_far = list no_elements })) before)
   list_miscounted f checks rules b deep = rw checks.1 (close rules b false deep checks.0)
 
-  -- some element has no octets
+  -- Some element has no encoding.
   pub list_unfit : (now : List ℕ) → fits ≡ false → is_counted c number ≡ true
       → Itemized (Deep (1 + depth)) (λ b. in_item b (record { count = c; so_far = list no_elements })) before rest false old now
   list_unfit now unfit right = record {
@@ -163,7 +163,7 @@ module _ {depth : ℕ} {c : Option Count} {before after : List Placed} {fits : B
       by_elements None e = refl
       by_elements (Some s) e = cc
 
-  -- behind two octets the elements were laid, and then the header over these
+  -- After two reserved bytes the elements were appended, and then the header replaced these bytes.
   pub list_patched : (done : Bool) (start : ℕ) (now : List ℕ) → fits ≡ true → is_counted c number ≡ true → start ≡ length old → Patched format.List number start new now done
       → Itemized (Deep (1 + depth)) (λ b. in_item b (record { count = c; so_far = list no_elements })) before rest done old now
   list_patched done start now fit right start_is patched = record {

@@ -1,4 +1,4 @@
--- Messages read onto octets, and given to a receiver one after another.
+-- Messages that are encoded to bytes and passed to a receiver, one by one.
 use Rattle.std.proofs.Common.{◌≡◌, ℕ, ◌⊎◌, Bool, List, [], ◌++◌, refl, sym, ap, ◌∙◌}
 use Rattle.std.specs.Prelude.{Ok, Err, Option, Some, None, option_map, Result, IfErr, IsErrAnd, OnOk}
 use Rattle.secs_item.specs.Item.{Value}
@@ -10,7 +10,7 @@ use Rattle.secs_text.specs.declared.fault.TextFault.{TextFault}
 use Rattle.secs_text.specs.declared.fault.TextFault.TheVariants as fault
 use Rattle.secs_text.proofs.Results.{ok_all, ok_where_all, err_all, err_where_all}
 
--- a text as an answer to give
+-- A message text in the form that the receiver gets.
 pub is_encoded : (item : Option Value) (fits : Bool) (old octets : List ℕ) → old ≡ [] → AppendsBytes fits old octets (text_of item) → text_of item ≡ appended_text fits octets
 is_encoded item fits old octets none h = same (text_of item) ∙ ap (λ p. option_map (λ o. p ++ o) (text_of item)) (sym none) ∙ sym h
   where
@@ -18,7 +18,7 @@ is_encoded item fits old octets none h = same (text_of item) ∙ ap (λ p. optio
     same None = refl
     same (Some o) = refl
 
--- ---- answers
+-- ---- results
 
 pub given_ok : {K : Type 0} (depth : ℕ) (r : Result (Unit {0}) TextFault) (text : List ℕ) (Old New : K → List Content → Type 0) → AllGiven depth r text Old New
     → OnOk r ((ms : List Content) × Notations ms text × AllWithin depth ms × ((kept : K) (earlier : List Content) → Old kept earlier → New kept (earlier ++ ms)))

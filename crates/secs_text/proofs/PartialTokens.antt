@@ -1,4 +1,4 @@
--- Tokens of what an item holds, taken one after another.
+-- Tokens of the content of an item, consumed one by one.
 use Rattle.std.proofs.Common.{◌≡◌, ℕ, suc, ◌+◌, ◌≤◌, true, inl, inr, List, [], ◌∷◌, ◌++◌, map, refl, sym, ap, ◌∙◌, subst, append_assoc, append-nil, arith}
 use Rattle.std.specs.Prelude.{Option, Some, None, option_map, ◌^◌}
 use Rattle.std.proofs.lemmas.Bool.{eqb-true}
@@ -24,7 +24,7 @@ pieces_push : (ts : List Token) (t : Token) (octets piece : List ℕ) → InPiec
 pieces_push [] t octets piece h is = (piece, [], is, refl, ap (λ o. o ++ piece) h ∙ sym (append-nil piece))
 pieces_push (u ∷ ts) t octets piece h is = (h.0, h.1 ++ piece, h.2, pieces_push ts t h.1 piece h.3 is, ap (λ o. o ++ piece) h.4 ∙ append_assoc h.0 h.1 piece)
 
--- these values and those so far are of one format, and this is the next token
+-- Holds if these values and the earlier ones have one format, and this is the next token.
 pub record IsNext (v more : Values) (ts : List Token) (t : Token) : Type 0 where
   pub tokens : BodyTokens (body_of more) (ts ++ t ∷ [])
   pub format : format_of_values more ≡ format_of_values v
@@ -36,7 +36,7 @@ mapped None g v e = cc
 next_is : (v more other : Values) (ts : List Token) (t : Token) → other ≡ more → IsNext v other ts t → IsNext v more ts t
 next_is v more other ts t e h = let P : Values → Type 0 = λ o. IsNext v o ts t in subst P e h
 
--- a format whose words are read one after another
+-- Holds if the words of a format are read one by one.
 record IsPacked (s : WordEncoding) (pack : List (IsEncoded s) → Values) : Type 0 where
   can_continue : (xs : List (IsEncoded s)) (w : List ℕ) → with_word (pack xs) w ≡ option_map (λ x. pack (xs ++ x ∷ [])) (encoded_bytes s w)
   body : (xs : List (IsEncoded s)) → body_of (pack xs) ≡ in_words s xs
@@ -50,7 +50,7 @@ next_word s pack packed xs more ts w h e =
     next_is (pack xs) more (pack (xs ++ x.0 ∷ [])) ts (word w) x.2
     (record { tokens = subst Q (sym (packed.body (xs ++ x.0 ∷ []))) (words_push (encoded_bytes s) xs x.0 ts w (subst P (packed.body xs) h) x.1); format = packed.format (xs ++ x.0 ∷ []) xs })
 
--- one more word
+-- One more word.
 pub word_taken : (v more : Values) (ts : List Token) (w : List ℕ) → BodyTokens (body_of v) ts → with_word v w ≡ Some more → IsNext v more ts (word w)
 word_taken (ascii xs) more ts w h e =
     let x = mapped (octet_of w) (λ y. ascii (xs ++ y ∷ [])) more e in
@@ -70,14 +70,14 @@ word_taken (u8 xs) more ts w h e = next_word (unsigned_number (2 ^ 64)) u8 (reco
 word_taken (f4 xs) more ts w h e = next_word (hex_float 4) f4 (record { can_continue = λ ys u. refl; body = λ ys. refl; format = λ ys zs. refl }) xs more ts w h e
 word_taken (f8 xs) more ts w h e = next_word (hex_float 8) f8 (record { can_continue = λ ys u. refl; body = λ ys. refl; format = λ ys zs. refl }) xs more ts w h e
 
--- one more quoted text
+-- One more quoted text.
 pub quoted_taken : (v more : Values) (ts : List Token) (text : List ℕ) → BodyTokens (body_of v) ts → with_quoted v text ≡ Some more → IsNext v more ts (quoted text)
 quoted_taken (ascii xs) more ts text h e =
     let is : ascii (xs ++ text) ≡ more = cc in
     next_is (ascii xs) more (ascii (xs ++ text)) ts (quoted text) is (record { tokens = pieces_push ts (quoted text) xs text h refl; format = refl })
 quoted_taken v more ts text h e = cc
 
--- one more element
+-- One more element.
 elements_push : (es : Elements) (v : Value) (ts us : List Token) → ElementTokens es ts → ItemTokens v us → ElementTokens (with_element es v) (ts ++ us)
 elements_push no_elements v ts us h item = (us, [], item, refl, ap (λ o. o ++ us) h ∙ sym (append-nil us))
 elements_push (element w es) v ts us h item = (h.0, h.1 ++ us, h.2, elements_push es v h.1 us h.3 item, ap (λ o. o ++ us) h.4 ∙ append_assoc h.0 h.1 us)
@@ -86,9 +86,9 @@ nest_push : (es : Elements) (v : Value) (k depth : ℕ) → nest_of_elements es 
 nest_push no_elements v k depth all one = omega arith
 nest_push (element w es) v k depth all one = let rest = nest_push es v k depth (omega arith) one in omega arith
 
--- ---- an item that isn't closed
+-- ---- an unfinished item
 
--- what it holds so far
+-- Holds if these are the tokens of the content so far.
 abbrev pub SoFar : Value → List Token → Type 0
 SoFar (list es) ts = ElementTokens es ts
 SoFar (values v) ts = BodyTokens (body_of v) ts
@@ -137,7 +137,7 @@ value_taken c v more ts t h next = record {
   parts = ap (λ o. o ++ t ∷ []) h.parts ∙ append_assoc (less ∷ word h.name ∷ h.written) h.inner (t ∷ []);
 }
 
--- the count that is written is right
+-- The written count is right.
 right_count : (c : Option Count) (n : ℕ) (ts : List Token) → Counted c ts → is_counted c n ≡ true → CountTokens n ts
 right_count None n ts h e = inl h
 right_count (Some c) n ts h e = inr (h.0, h.1 ∙ ap (λ o. Some o) (eqb-true c.number n e), h.2)
@@ -149,7 +149,7 @@ pub item_closed : (c : Option Count) (v : Value) (ts : List Token) → OpenedTok
 item_closed c (list es) ts h e = (h.inner, h.holds, enclosed c (list es) ts h e)
 item_closed c (values v) ts h e = (h.inner, h.holds, enclosed c (values v) ts h e)
 
--- ---- nothing yet
+-- ---- no content yet
 
 pub format_of_nothing : (f : Format) → format_of (nothing_of f) ≡ f
 format_of_nothing format.List = refl

@@ -1,4 +1,4 @@
--- The octets of one kind at the front of octets.
+-- The bytes of one class at the start.
 use Rattle.std.proofs.Common.{◌≡◌, ℕ, zero, suc, ◌+◌, ◌<◌, ◌≤◌, Bool, true, false, ◌&&◌, List, [], ◌∷◌, length, take, get_or, refl, sym, ap, ◌∙◌, arith}
 use Rattle.std.specs.List.{list_all, prefix_len}
 use Rattle.std.proofs.lemmas.List.{take_all}
@@ -12,7 +12,7 @@ both false b e = cc
 pub prefix_continues : (p : ℕ → Bool) (w : List ℕ) (i : ℕ) → list_all p (take i w) ≡ true → p (get_or w i 0) ≡ true → i < length w → list_all p (take (i + 1) w) ≡ true
 prefix_continues p w i all passes lt = list_all_more p w i 0 lt ∙ rw (all, passes) refl
 
--- where one isn't of the kind
+-- A byte is not of the class.
 pub front_ends : (p : ℕ → Bool) (w : List ℕ) (i : ℕ) → list_all p (take i w) ≡ true → i < length w → p (get_or w i 0) ≡ false → i ≡ prefix_len p w
 front_ends p [] i all lt other = absurd (omega arith)
 front_ends p (c ∷ w) zero all lt other = rw other refl
@@ -28,11 +28,11 @@ whole p (c ∷ w) all =
     let rest = whole p w parts.1 in
     rw parts.0 (omega (arith, rest))
 
--- where all are
+-- All bytes are of the class.
 pub front_is_whole : (p : ℕ → Bool) (w : List ℕ) (i : ℕ) → list_all p (take i w) ≡ true → length w ≤ i → length w ≡ prefix_len p w
 front_is_whole p w i all le = whole p w (ap (λ o. list_all p o) (sym (take_all i w le)) ∙ all)
 
--- the first is of the kind, and the second isn't
+-- The first byte is of the class, and the second one is not.
 pub front_of_one : (p : ℕ → Bool) (w : List ℕ) → 2 ≤ length w → p (get_or w 0 0) ≡ true → p (get_or w 1 0) ≡ false → 1 ≡ prefix_len p w
 front_of_one p [] le first second = absurd (omega arith)
 front_of_one p (a ∷ []) le first second = absurd (omega arith)

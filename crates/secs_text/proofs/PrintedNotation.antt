@@ -24,15 +24,15 @@ use Rattle.secs_text.proofs.CanonicalTokenLists.{name_word}
 use Rattle.secs_text.proofs.PrintedWords.{and_true, all_digits, decimal_digits, decimal_word, number_read, octet_word, octet_is_read, written_word, written_read}
 use Rattle.secs_text.proofs.Tokenized.{Prints, is_low, low_both, low_word, end_kinds, word_kinds, prefix_front, take_front, drop_front, prints_none, prints_along, prints_both, prints_word, prints_opening, prints_count, prints_close, prints_space, prints_stop, prints_quoted}
 
--- ---- octets of text
+-- ---- text bytes
 
--- outside a quoted text
+-- Outside a quoted text.
 record PrintsText (cs : List ℕ) : Type 0 where
   ts : List Token
   prints : Prints (printed_text false cs) ts
   pieces : InPieces ts cs
 
--- inside one, which goes on with the first of these octets
+-- Inside a quoted text, which continues with the first of these bytes.
 record PrintsRest (cs : List ℕ) : Type 0 where
   q : List ℕ
   more : List ℕ
@@ -202,7 +202,7 @@ wait_prints : (b : Bool) → Prints (if b then codes " W" else []) (wait_tokens 
 wait_prints true = prints_word wait_word (record { some = omega arith; all = refl })
 wait_prints false = prints_none
 
--- the head's word
+-- The word of the head.
 abbrev head_text : ℕ → ℕ → List ℕ
 head_text stream function = 0x53 ∷ (decimal stream ++ 0x46 ∷ decimal function)
 
@@ -252,7 +252,7 @@ printed_parts m =
     ap (λ o. w ++ o) (append_assoc wait opt (codes " .")) ∙ sym (append_assoc w wait (opt ++ codes " .")) ∙ sym (append_assoc (w ++ wait) opt (codes " ."))
     ∙ ap (λ o. (((0x53 ∷ o) ++ wait) ++ opt) ++ codes " .") (sym (append_assoc (decimal m.stream) (0x46 ∷ []) (decimal m.function)))
 
--- what is printed has its message's tokens
+-- The printed form has the tokens of its message.
 pub printed_is_notation : (m : Content) → IsHeldMessage m → Notation m (printed m)
 printed_is_notation m h =
     let w = head_text m.stream m.function in
@@ -279,7 +279,7 @@ low_octets [] all (suc k) = omega arith
 low_octets (c ∷ cs) all zero = first_low c (is_low c) (list_all is_low cs) refl all
 low_octets (c ∷ cs) all (suc k) = low_octets cs (others_low (is_low c) (list_all is_low cs) all) k
 
--- what is printed is of ASCII
+-- The printed form is ASCII.
 pub printed_is_ascii : (m : Content) → IsHeldMessage m → IsAscii (printed m)
 printed_is_ascii m h =
     let w = head_text m.stream m.function in

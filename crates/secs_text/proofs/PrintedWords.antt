@@ -1,4 +1,4 @@
--- The words that are printed spell what they are printed for.
+-- Printed words represent the values that they are printed for.
 use Rattle.std.proofs.Common.{◌≡◌, ℕ, ℤ, pos, negsuc, zero, suc, ◌+◌, ◌-◌, ◌*◌, ◌/◌, ◌%◌, ◌^◌, ◌<◌, ◌≤◌, Bool, true, false, ◌&&◌, ◌||◌, not, List, [], ◌∷◌, length, get_or, refl, sym, ap, ◌∙◌, arith, if◌then◌else◌}
 use Rattle.std.specs.Prelude.{Some, option_map, option_and_then, nat_lt, nat_le, ◌==◌}
 use Rattle.std.specs.List.{list_all, flat_map}
@@ -80,7 +80,7 @@ decimal_digits n lt = let d = decimal_is_IsNumeral n lt in (d.0.1, d.0.0)
 pub decimal_word : (n : ℕ) → n < 2 ^ 64 → IsWord (decimal n)
 decimal_word n lt = let d = decimal_digits n lt in record { some = d.1; all = all_of_word (decimal n) (all_digits (decimal n) d.0) }
 
--- the number is read again
+-- Reading returns the printed number.
 pub number_read : (limit n : ℕ) → n < 2 ^ 64 → n < limit → number_below limit (decimal n) ≡ Some n
 number_read limit n fits lt =
     let d = decimal_is_IsNumeral n fits in

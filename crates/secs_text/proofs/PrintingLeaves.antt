@@ -1,4 +1,4 @@
--- Items of values, printed by their octets.
+-- Items of values, printed from their bytes.
 use Rattle.std.proofs.Common.{◌≡◌, ℕ, zero, suc, ◌+◌, ◌/◌, ◌<◌, ◌≤◌, ◌^◌, false, List, [], ◌∷◌, ◌++◌, length, get_or, take, codes, append_assoc, refl, sym, ap, ◌∙◌, subst, arith}
 use Rattle.std.specs.Prelude.{FitsSigned}
 use Rattle.std.specs.List.{AllByRecursion}
@@ -22,7 +22,7 @@ use Rattle.secs_item.specs.declared.item.Item.{Item}
 use Rattle.secs_text.proofs.Views.{count_views, printed_push}
 use Rattle.secs_text.proofs.PrintingItems.{counted, printed_of_values}
 
--- ---- values in their range are held
+-- ---- values in range can be represented by a program
 
 all_as : {X : Type 0} (P Q : X → Type 0) → ((x : X) → P x → Q x) → (xs : List X) → AllByRecursion P xs → AllByRecursion Q xs
 all_as P Q f [] h = tt
@@ -54,7 +54,7 @@ body_held (u8 xs) h = all_as (λ n. n < 256 ^ 8) (Fits (unsigned_number (2 ^ 64)
 body_held (f4 xs) h = all_as _ (Fits (hex_float 4)) (float_held 4) xs h
 body_held (f8 xs) h = all_as _ (Fits (hex_float 8)) (float_held 8) xs h
 
--- ---- an item of values by its octets
+-- ---- an item of values, from its bytes
 
 pub leaf_puts : {G H : List ℕ → Type 0} {block now : List ℕ} {from at : ℕ} (v : Value) (f : Format) (octets : List ℕ) → is_list (format_of v) ≡ false → f ≡ format_of v → IsBodyOf v octets
     → Puts G block from H now at (opening_of f (length octets / value_size f) ++ printed_values (body_of (values_of f octets)) ++ codes ">")
@@ -77,7 +77,7 @@ leaf_held (values v) octets lists h few =
     let size : count_of_values v ≡ length octets / value_size (format_of_values v) = ap count_of_values (sym read) ∙ n.1 in
     (omega (arith, size, few, div-le_self (length octets) (value_size (format_of_values v))), body_held v h.1)
 
--- ---- a list by its elements
+-- ---- a list, from its elements
 
 pub list_continues : {G H K : List ℕ → Type 0} {block mid now : List ℕ} {from at end : ℕ} (items : List Item) (i : ℕ) (item : Item) (opening : List ℕ) → i < length items → item ≡ get_or items i item
     → Puts G block from H mid at (opening ++ printed_elements (views (take i items))) → Puts H mid at K now end (codes " " ++ printed_item (view item))

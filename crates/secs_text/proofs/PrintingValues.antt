@@ -1,4 +1,4 @@
--- The words of octets, one value after another.
+-- The words of bytes, value by value.
 use Rattle.std.proofs.Common.{◌≡◌, ℕ, zero, suc, ◌+◌, ◌*◌, ◌/◌, ◌<◌, ◌≤◌, List, [], ◌++◌, length, take, drop, codes, refl, sym, ap, ◌∙◌, arith, append_assoc, append-nil, length-append, length-take-le}
 use Rattle.std.proofs.Math.Nat.{add-div_right, div-eq_of_lt}
 use Rattle.std.proofs.lemmas.List.{length-drop, nil_from_length, take-append-drop, take-append-le, drop-append-le}
@@ -7,11 +7,11 @@ use Rattle.secs_item.specs.Decoding.{each, unread}
 use Rattle.secs_text.specs.BlockOutput.{AppendsText, Puts, words_of}
 use Rattle.secs_text.proofs.Blocks.{puts_appended, puts_room, puts_same}
 
--- nothing is left of a value
+-- The bytes are fewer than a value has.
 pub words_none : (word : List ℕ → List ℕ) (size : ℕ) (octets : List ℕ) → length octets < size → words_of word size octets ≡ []
 words_none word size octets lt = let none : length octets / size ≡ 0 = div-eq_of_lt lt in rw none refl
 
--- the first value, and the others
+-- The first value, and the others.
 pub words_first : (word : List ℕ → List ℕ) (size : ℕ) (octets : List ℕ) → 1 ≤ size → size ≤ length octets
     → words_of word size octets ≡ (codes " " ++ word (take size octets)) ++ words_of word size (drop size octets)
 words_first word size octets some enough =
@@ -19,7 +19,7 @@ words_first word size octets some enough =
     let count : length octets / size ≡ suc (length (drop size octets) / size) = ap (λ n. n / size) left ∙ add-div_right (length (drop size octets)) some ∙ omega arith in
     rw count (flat_map-cons (λ x. codes " " ++ word x) (take size octets) (each unread size (drop size octets)))
 
--- whole values, and the others
+-- Complete values, and the others.
 pub words_split : (word : List ℕ → List ℕ) (size n : ℕ) (xs ys : List ℕ) → 1 ≤ size → length xs ≡ n * size
     → words_of word size (xs ++ ys) ≡ words_of word size xs ++ words_of word size ys
 words_split word size zero xs ys some len =
@@ -35,16 +35,16 @@ words_split word size (suc n) xs ys some len =
     ∙ sym (append_assoc (codes " " ++ word (take size xs)) (words_of word size (drop size xs)) (words_of word size ys))
     ∙ ap (λ o. o ++ words_of word size ys) (sym (words_first word size xs some enough))
 
--- ---- laying them
+-- ---- appending the words
 
--- how far it came: what is laid, and the words of the octets that are left
+-- Loop invariant: the text appended so far, and the words of the remaining bytes.
 pub record AppendedSoFar (old now : List ℕ) (from at : ℕ) (all left : List ℕ) : Type 0 where
   pub octets : take at now ++ left ≡ take from old ++ all
   pub within : at ≤ length now
   pub size : length now ≡ length old
 
 module _ (word : List ℕ → List ℕ) (size : ℕ) (some : 1 ≤ size) (old : List ℕ) (from : ℕ) (all : List ℕ) where
-  -- one more value
+  -- One more value is appended.
   pub appends_next : (now new : List ℕ) (at end : ℕ) (rest first after : List ℕ) → AppendedSoFar old now from at all (words_of word size rest) → size ≤ length rest → first ≡ take size rest → after ≡ drop size rest
       → AppendsText now new at (codes " " ++ word first) end → end ≤ length now → AppendedSoFar old new from end all (words_of word size after)
   appends_next now new at end rest first after before enough first_is after_is appended_text within = record {
@@ -54,7 +54,7 @@ module _ (word : List ℕ → List ℕ) (size : ℕ) (some : 1 ≤ size) (old : 
     size = appended_text.size ∙ before.size;
   }
 
-  -- nothing is left
+  -- No value remains.
   pub appends_all : (now : List ℕ) (at : ℕ) (rest : List ℕ) → from ≤ length old → AppendedSoFar old now from at all (words_of word size rest) → length rest < size → AppendsText old now from all at
   appends_all now at rest there before done =
       let whole : take at now ≡ take from old ++ all = sym (append-nil (take at now)) ∙ ap (λ o. take at now ++ o) (sym (words_none word size rest done)) ∙ before.octets in
@@ -64,9 +64,9 @@ module _ (word : List ℕ → List ℕ) (size : ℕ) (some : 1 ≤ size) (old : 
         size = before.size;
       }
 
--- ---- to an output
+-- ---- printing to an output
 
--- the words that were put, before those that are left
+-- The printed words, followed by the remaining ones.
 pub record WordsOn (G : List ℕ → Type 0) (block : List ℕ) (from : ℕ) (H : List ℕ → Type 0) (now : List ℕ) (at : ℕ) (left all : List ℕ) : Type 0 where
   pub done : List ℕ
   pub puts : Puts G block from H now at done
@@ -87,7 +87,7 @@ module _ (G : List ℕ → Type 0) (block : List ℕ) (from : ℕ) (all : List �
   pub words_end : (H : List ℕ → Type 0) (now new : List ℕ) (at end : ℕ) (left : List ℕ) → AppendsText now new at left end → end ≤ 65536 → WordsOn G block from H now at left all → Puts G block from H new end all
   words_end H now new at end left appended_text within before = puts_same all before.parts (puts_appended before.puts appended_text within)
 
--- a chunk of 512 octets is whole values
+-- A chunk of 512 bytes consists of complete values.
 pub words_of_chunk : (word : List ℕ → List ℕ) (size n : ℕ) (left chunk after : List ℕ) → 1 ≤ size → 512 ≡ n * size → 512 < length left → chunk ≡ take 512 left → after ≡ drop 512 left
     → words_of word size left ≡ words_of word size chunk ++ words_of word size after
 words_of_chunk word size n left chunk after some whole long chunk_is after_is =

@@ -1,4 +1,4 @@
--- Values whose octets were gathered are read back from them.
+-- Values are read back from the bytes that were collected for them.
 use Rattle.std.proofs.Common.{◌≡◌, ◌∙◌, ℕ, ◌%◌, ◌++◌, List, [], length, ap, sym}
 use Rattle.std.specs.Prelude.{Option}
 use Rattle.secs_item.specs.declared.format.Format.{Format}

@@ -1,4 +1,4 @@
--- No token's fault is want of memory.
+-- The error of a token is never a failed allocation.
 use Rattle.std.proofs.Common.{ℕ, Bool, true, false, ◌||◌, not, ◌⊎◌, inl, inr, List, length, subst, if◌then◌else◌}
 use Rattle.std.specs.Prelude.{Ok, Err, Option, Some, None, nat_lt, ◌^◌}
 use Rattle.secs_item.specs.Item.{Value, list, values, Values, no_elements, count_of}
@@ -12,7 +12,7 @@ use Rattle.secs_text.specs.Words.{HeadWord, head, bad_head, no_head, head_word, 
 use Rattle.secs_text.specs.Fault.{one_message, any_messages, FirstFault, NoteFault, NotesFault}
 use Rattle.secs_text.specs.ParserStates.{Rules, Count, Before, Place, Step, start, after_head, after_wait, type_expected, after_type, count_expected, after_count, in_item, stop_expected, finished, step, is_empty, is_counted, count_place, closed, with_word, with_quoted, or_fault, after_head_word, after_name, after_number, at_in_item}
 
--- where a step leads, or the fault of a token
+-- Holds if the step succeeds or has the error of a token.
 abbrev IsTokenFault : Step → Type 0
 IsTokenFault (Err fault.Memory) = ⊥
 IsTokenFault s = Unit {0}

@@ -1,4 +1,4 @@
--- The laws of reading, and what they say of an answer.
+-- The laws of reading, and their consequences for a result.
 use Rattle.std.proofs.Common.{◌≡◌, ℕ, ◌+◌, ◌≤◌, ◌⊎◌, inl, inr, List, [], ◌∷◌, ◌++◌, refl, sym, ap, ◌∙◌, subst, arith}
 use Rattle.std.specs.Prelude.{Ok, Err, Result, Option, Some, None, MatchOption, MatchResult, IfOk, IfErr, IsErrAnd}
 use Rattle.secs_item.specs.Item.{Value, nest}
@@ -17,9 +17,9 @@ use Rattle.secs_text.proofs.MessagePrefixes.{let_through, all_let_through}
 use Rattle.secs_text.proofs.Soundness.{is_notation, all_are_notations}
 use Rattle.secs_text.proofs.Endings.{Outcome, through, at_fault, reading_outcome}
 
--- ---- faults
+-- ---- errors
 
--- the first token at which walking fails
+-- The first token at which walking fails.
 record Stops (rules : Rules) (place : Place) (ps : List Placed) (f : TextFault) : Type 0 where
   before : List Placed
   stop : Place
@@ -52,7 +52,7 @@ fault_read rules text f h =
     ap (λ o. walk rules (start []) o) h.parts ∙ walk_append rules (start []) h.before rest
     ∙ ap (λ r. r >>= (λ next. walk rules next rest)) h.leads ∙ ap (λ r. r >>= (λ next. walk rules next h.after)) h.faults
 
--- ---- one answer
+-- ---- one result
 
 abbrev depth_of : Option Value → ℕ
 depth_of None = 0
@@ -130,7 +130,7 @@ one_fault_of_all text depth f g h k =
     let second = fault_read (any_messages depth) text g k in
     cc
 
--- ---- answers
+-- ---- results
 
 failed : (f : TextFault) (rules : Rules) (text : List ℕ) → Fails f (reading rules text) → (f ≡ fault.Memory) ⊎ FirstFault rules text f
 failed fault.Memory rules text h = inl refl
@@ -139,7 +139,7 @@ failed (fault.Number at) rules text h = inr (first_fault rules text (fault.Numbe
 failed (fault.Count at) rules text h = inr (first_fault rules text (fault.Count at) h)
 failed (fault.Deep at) rules text h = inr (first_fault rules text (fault.Deep at) h)
 
--- where it leads elsewhere, memory ran out
+-- If the text is accepted, only an allocation can have failed.
 only_memory : (f : TextFault) (s : Step) (place : Place) → Fails f s → s ≡ Ok place → f ≡ fault.Memory
 only_memory fault.Memory s place h e = refl
 only_memory (fault.Syntax at) s place h e = cc
@@ -147,7 +147,7 @@ only_memory (fault.Number at) s place h e = cc
 only_memory (fault.Count at) s place h e = cc
 only_memory (fault.Deep at) s place h e = cc
 
--- where it fails for a reason, that is the answer, unless memory ran out
+-- If the text has an error, this is the result unless an allocation failed.
 this_or_memory : (f g : TextFault) (s : Step) → Fails f s → s ≡ Err g → (f ≡ g) ⊎ (f ≡ fault.Memory)
 this_or_memory fault.Memory g s h e = inr refl
 this_or_memory (fault.Syntax at) g s h e = inl (cc)

@@ -1,4 +1,4 @@
--- Octets of one kind at the front, looked at many at once by a mask of those that are of another kind.
+-- Bytes of one class at the start, checked in chunks with a mask of the bytes of another class.
 use Rattle.std.proofs.Common.{◌≡◌, ℕ, ◌+◌, ◌*◌, ◌%◌, ◌^◌, ◌<◌, ◌≤◌, Bool, true, false, not, cond, eqb, List, [], ◌∷◌, map, length, drop, refl, sym, ap, ap₂, ◌∙◌, arith, Fits, w8}
 use Rattle.std.proofs.lemmas.Bool.{agree_below, agree_below_at, eq-eqb, ne_eqb}
 use Rattle.std.proofs.lemmas.List.{length-drop, length-map}
@@ -12,7 +12,7 @@ use lib.Lanes.{chunk, mask_l, top, Each1}
 pub run_bound : (q : ℕ → Bool) (d : List ℕ) (i : ℕ) → i ≤ length d → i + prefix_len q (drop i d) ≤ length d
 run_bound q d i h = omega (arith, prefix_len-le-length q (drop i d), length-drop i d)
 
--- ---- runs, by the mask of what stops them
+-- ---- runs, from the mask of the bytes that end them
 
 twice_turned : (b : Bool) → b ≡ not (not b)
 twice_turned true = refl
@@ -37,14 +37,14 @@ module _ (q : ℕ → Bool) where
   split : (d : List ℕ) (i n : ℕ) → prefix_len q (drop i d) ≡ cond (eqb (prefix_len q (chunk i n d)) (length (chunk i n d))) (length (chunk i n d) + prefix_len q (drop (i + n) d)) (prefix_len q (chunk i n d))
   split d i n = ap (prefix_len q) (chunk-drop i n d) ∙ prefix_len-append q (chunk i n d) (drop (i + n) d)
 
-  -- all of a chunk are of the kind
+  -- All bytes of a chunk are of the class.
   pub run_through : (d : List ℕ) (i n : ℕ) → i + n ≤ length d → mask_l (map other (chunk i n d)) ≡ 0 → prefix_len q (drop i d) ≡ n + prefix_len q (drop (i + n) d)
   run_through d i n room none =
       let c = chunk i n d in
       split d i n ∙ ap (λ b. cond b (length c + prefix_len q (drop (i + n) d)) (prefix_len q c)) (eq-eqb _ _ (same_run c ∙ leading_from_mask_l other c none))
       ∙ ap (λ k. k + prefix_len q (drop (i + n) d)) (length-chunk i n d room)
 
-  -- one of a chunk isn't
+  -- One byte of a chunk is not of the class.
   pub run_stops : (d : List ℕ) (i n : ℕ) → i + n ≤ length d → n ≤ 64 → 0 < mask_l (map other (chunk i n d)) → prefix_len q (drop i d) ≡ count_trailing_zeros 64 (mask_l (map other (chunk i n d)))
   run_stops d i n room short some =
       let c = chunk i n d in
@@ -60,7 +60,7 @@ each_lane : (f : ℕ → ℕ) (p : ℕ → Bool) → agree_below (λ x. top 7 (f
 each_lane f p all [] fits = refl
 each_lane f p all (x ∷ xs) fits = ap₂ (λ a b. a ∷ b) (agree_below_at (λ x. top 7 (f x)) p 256 x all fits.0.fits) (each_lane f p all xs fits.1)
 
--- what is computed of each octet sets the bits of those that pass, where it does that for each octet that there is
+-- If the computation gives the right bit for every byte value, the mask has the bits of the bytes that pass.
 pub masked : (f : ℕ → ℕ) (p : ℕ → Bool) (v z : List ℕ) → length v ≤ 64 → Each1 (Fits w8) v → z ≡ map f v → agree_below (λ x. top 7 (f x)) p 256 ≡ true
     → mask_l (map (top 7) z) % 2 ^ 64 ≡ mask_l (map p v)
 masked f p v z short fits e all =

@@ -1,4 +1,4 @@
--- Words of values that are single octets, each behind a space, and runs of them.
+-- Words of values that are single bytes, each after a space, and runs of such words.
 use Rattle.std.proofs.Common.{◌≡◌, ℕ, zero, suc, ◌+◌, ◌*◌, ◌/◌, ◌%◌, ◌^◌, ◌<◌, ◌≤◌, Bool, true, false, ◌&&◌, ◌||◌, List, [], ◌∷◌, ◌++◌, length, drop, take, get_or, refl, sym, ap, ◌∙◌, subst, arith, if◌then◌else◌, append_assoc, append-nil, length-append}
 use Rattle.std.specs.Simd.{first_chunks}
 use Rattle.std.specs.Prelude.{Option, Some, None, IfSome, option_map, nat_le, ◌-◌, ◌==◌}
@@ -21,7 +21,7 @@ use Rattle.secs_text.proofs.Prefixes.{both}
 use Rattle.secs_text.proofs.ParsingValues.{word_collected}
 use Rattle.secs_text.proofs.Tokenized.{word_here, drop_front}
 
--- a digit may stand in a word
+-- A byte in a range of upper-case letters is an upper-case letter.
 letter_of : (c first last : ℕ) → 0x41 ≤ first → last ≤ 0x5A → nat_le first c && nat_le c last ≡ true → nat_le 0x41 c && nat_le c 0x5A ≡ true
 letter_of c first last from to e =
     let parts = both (nat_le first c) (nat_le c last) e in
@@ -121,7 +121,8 @@ pub f_encodes : option_map octet_of_truth (truth_of (0x46 ∷ [])) ≡ Some (0 �
 unfolding truth_of
 f_encodes = refl
 
--- four octets of which no more is left than one octet behind the space, the zero and the x
+-- If at most one byte remains of four bytes after the space, the zero and the `x` are subtracted, the first three bytes
+-- are these.
 pub front_of_word : (a b c d n left : ℕ) → a < 256 → b < 256 → c < 256 → d < 256 → n ≡ a * 16777216 + b * 65536 + c * 256 + d → left ≡ (n + (2 ^ 32 - 0x20307800)) % 2 ^ 32 → left ≤ 255
     → (a ≡ 0x20) × (b ≡ 0x30) × (c ≡ 0x78) × (left ≡ d)
 front_of_word a b c d n left first second third fourth is rest small =
@@ -131,7 +132,7 @@ front_of_word a b c d n left first second third fourth is rest small =
     let x_is : c ≡ 0x78 = omega (arith, third, fourth, is, sum, small, space, zero_is) in
     (space, zero_is, x_is, omega (arith, is, sum, space, zero_is, x_is))
 
--- ---- runs of them
+-- ---- runs of words
 
 times_more : (size n : ℕ) → size * suc n ≡ size + size * n
 times_more size n = grind arith
@@ -139,7 +140,7 @@ times_more size n = grind arith
 pub times_next : (size n : ℕ) → size * (n + 1) ≡ size * n + size
 times_next size n = grind arith
 
--- one of the parts of a text that have so many octets each
+-- One of the parts of a text, which have `size` bytes each.
 pub part_at : (size k : ℕ) (text d : List ℕ) (i : ℕ) → i < k → get_or (first_chunks size k text) i d ≡ take size (drop (size * i) text)
 part_at size zero text d i less = absurd (omega arith)
 part_at size (suc k) text d zero less = let none : 0 ≡ size * 0 = omega arith in ap (λ n. take size (drop n text)) none
@@ -147,14 +148,14 @@ part_at size (suc k) text d (suc i) less =
     part_at size k (drop size text) d i (omega arith)
     ∙ ap (take size) (drop-drop (size * i) size text ∙ ap (λ n. drop n text) (sym (times_more size i)))
 
--- a part behind so many of them lies within
+-- The part after `i` parts is within the text.
 pub part_within : (size i n : ℕ) → 0 < size → i < n / size → size * i + size ≤ n
 part_within size i n some less =
     let h : (i + 1) * size ≤ n = (le-div_iff_mul-le some).0 (omega arith) in
     let same : (i + 1) * size ≡ size * i + size = grind arith in
     omega (arith, h, same)
 
--- so many parts lie within
+-- The first `i` parts are within the text.
 pub parts_within : (size i n : ℕ) → 0 < size → i ≤ n / size → size * i ≤ n
 parts_within size i n some less =
     let h : i * size ≤ n = (le-div_iff_mul-le some).0 less in
@@ -162,7 +163,7 @@ parts_within size i n some less =
     omega (arith, h, same)
 
 module _ (reads : List ℕ → Option (List ℕ)) (size : ℕ) where
-  -- one more
+  -- One more word.
   pub words_more : (os : List ℕ) (o : ℕ) (text rest first after : List ℕ) → AreShortWords reads size os text rest → IsShortWord reads o first → length first ≡ size → rest ≡ first ++ after
       → AreShortWords reads size (os ++ o ∷ []) text after
   words_more [] o text rest first after h is sized parts = (first, after, is, sized, h ∙ parts, refl)
@@ -171,12 +172,12 @@ module _ (reads : List ℕ → Option (List ℕ)) (size : ℕ) where
   space_ends : (o : ℕ) (first after text : List ℕ) → IsShortWord reads o first → text ≡ first ++ after → EndsWord text
   space_ends o first after text is parts = subst (λ t. EndsWord t) (sym (parts ∙ ap (λ f. f ++ after) is.parts)) refl
 
-  -- a space stands before each word
+  -- A space precedes each word.
   ends_before : (os text rest : List ℕ) → AreShortWords reads size os text rest → EndsWord rest → EndsWord text
   ends_before [] text rest h ends = subst (λ t. EndsWord t) (sym h) ends
   ends_before (o ∷ os) text rest h ends = space_ends o h.0 h.1 text h.2 h.4
 
-  -- all but the last of them
+  -- All words except the last one.
   pub words_less : (os : List ℕ) (o : ℕ) (text rest : List ℕ) → AreShortWords reads size (os ++ o ∷ []) text rest
       → AreShortWords reads size os text (drop (size * length os) text) × EndsWord (drop (size * length os) text)
   words_less [] o text rest h =
@@ -200,11 +201,11 @@ module _ (reads : List ℕ → Option (List ℕ)) (size : ℕ) where
         subst (λ k. EndsWord (drop (size * k) text)) long less.1,
       )
 
--- no word goes on behind octets, or at a place where none does
+-- A word ends if the bytes end, or if the next byte is not allowed in a word.
 pub ends_at : (text : List ℕ) (at : ℕ) → is_of_word (get_or text at 0) ≡ false → EndsWord (drop at text)
 ends_at text at e = ends_of (drop at text) (ap is_of_word (get_or-drop at text 0 0 ∙ ap (λ k. get_or text k 0) (omega arith)) ∙ e)
 
--- what the words of a run spell is gathered
+-- The values of a run's words are collected.
 pub run_collected : (f : Format) (count : Option Count) (first : List Placed) (old : List ℕ) (reads : List ℕ → Option (List ℕ)) (size : ℕ) → ((w : List ℕ) → word_octets f w ≡ reads w) → value_size f ≡ 1
     → (os : List ℕ) (at : ℕ) (text rest new : List ℕ) → AreShortWords reads size os text rest → EndsWord rest → Collected f count first (tokens_from at text) old new
     → Collected f count first (tokens_from (at + size * length os) rest) old (new ++ os)
@@ -226,7 +227,7 @@ run_collected f count first old reads size encoded_bytes sized (o ∷ os) at tex
     let place : next + size * length os ≡ at + size * suc (length os) = omega (arith, long, times_more size (length os)) in
     subst (λ k. Collected f count first (tokens_from k rest) old (new ++ o ∷ os)) place (subst (λ p. Collected f count first (tokens_from (next + size * length os) rest) old p) (append_assoc new (o ∷ []) os) more)
 
--- a run at a place of a text
+-- A run at an offset of a text.
 pub run_collected_at : (f : Format) (count : Option Count) (first : List Placed) (old : List ℕ) (reads : List ℕ → Option (List ℕ)) (size n place : ℕ) (octets text rest new now : List ℕ) → ((w : List ℕ) → word_octets f w ≡ reads w) → value_size f ≡ 1
     → rest ≡ drop place text → n ≤ length octets → AreShortWords reads size (take n octets) rest (drop (size * n) rest) → EndsWord (drop (size * n) rest) → now ≡ new ++ take n octets → Collected f count first (tokens_from place (drop place text)) old new
     → Collected f count first (tokens_from (place + size * n) (drop (place + size * n) text)) old now

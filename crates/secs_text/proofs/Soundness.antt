@@ -1,4 +1,4 @@
--- What is let through is a notation, and nothing else is.
+-- The texts that are accepted are exactly the notations.
 use Rattle.std.proofs.Common.{◌≡◌, ℕ, ◌≤◌, true, not, List, [], ◌∷◌, ◌++◌, length, map, refl, sym, ap, ◌∙◌, subst, append_assoc, append-nil, arith}
 use Rattle.std.specs.Prelude.{Ok, Err}
 use Rattle.secs_text.specs.Content.{Content, IsWithin, AllWithin}
@@ -47,7 +47,7 @@ invariant_walk rules (p ∷ ps) place next ts h e =
 invariant_finished : (rules : Rules) (text : List ℕ) (ms : List Content) → reading rules text ≡ Ok (finished ms) → Finished rules ms (map token_of (tokens text))
 invariant_finished rules text ms e = invariant_walk rules (tokens text) (start []) (finished ms) [] (record { tokens = refl; within = tt; few = λ one. omega arith }) e
 
--- what is let through are notations of messages within the depth
+-- An accepted text is the notation of messages within the depth.
 pub all_are_notations : (text : List ℕ) (depth : ℕ) (ms : List Content) → reading (any_messages depth) text ≡ Ok (finished ms) → Notations ms text × AllWithin depth ms
 all_are_notations text depth ms e =
     let f = invariant_finished (any_messages depth) text ms e in
@@ -67,7 +67,7 @@ one_notation text depth ms m before is tokens within has =
     let whole : before ≡ own.0 = own.4 ∙ ap (λ o. own.0 ++ o) own.3 ∙ append-nil own.0 in
     ((before, subst R (sym whole) own.2, has), (subst Q is within).0)
 
--- what is let through as one message is the notation of one within the depth
+-- A text that is accepted as one message is the notation of one message within the depth.
 pub is_notation : (text : List ℕ) (depth : ℕ) (ms : List Content) → reading (one_message depth) text ≡ Ok (finished ms) → (m : Content) × (ms ≡ m ∷ []) × Notation m text × IsWithin depth m
 is_notation text depth ms e =
     let f = invariant_finished (one_message depth) text ms e in

@@ -1,4 +1,4 @@
--- The tokens of texts that are put together.
+-- The tokens of concatenated texts.
 use Rattle.std.proofs.Common.{◌≡◌, ℕ, suc, ◌+◌, ◌≤◌, Bool, true, false, ◌&&◌, List, [], ◌∷◌, ◌++◌, length, take, drop, map, refl, sym, ap, ◌∙◌, subst, append_assoc, arith, codes, cond}
 use Rattle.std.specs.Prelude.{◌==◌, slice_index, nat_lt}
 use Rattle.std.specs.List.{list_all, prefix_len}
@@ -11,7 +11,7 @@ use Rattle.secs_text.specs.Token.{Token, word, quoted, less, greater, bracket, b
 use Rattle.secs_text.proofs.Completeness.{token_of}
 use Rattle.secs_text.proofs.TokenLists.{skipped}
 
--- the octets have these tokens, from wherever they stand
+-- Holds if the bytes have these tokens, at every offset.
 pub record HasKinds (octets : List ℕ) (ts : List Token) : Type 0 where
   pub kinds : (at : ℕ) → map token_of (tokens_from at octets) ≡ ts
 
@@ -29,7 +29,7 @@ end_kinds = record { kinds = λ at. refl }
 white_kinds : (octets : List ℕ) (ts : List Token) → HasKinds octets ts → HasKinds (0x20 ∷ octets) ts
 white_kinds octets ts h = record { kinds = λ at. ap (λ o. map token_of o) (front_step at 0x20 octets) ∙ h.kinds (at + 1) }
 
--- a whole token, and the tokens after it
+-- A complete token, and the tokens after it.
 whole_kinds : (c n : ℕ) (octets rest : List ℕ) (t : Token) (ts : List Token) → front c octets ≡ whole t n → n ≤ length octets → drop n octets ≡ rest → HasKinds rest ts → HasKinds (c ∷ octets) (t ∷ ts)
 whole_kinds c n octets rest t ts e le left h = record {
   kinds = λ at. ap (λ o. map token_of o) (front_step at c octets)
@@ -38,7 +38,7 @@ whole_kinds c n octets rest t ts e le left h = record {
       ∙ ap (λ o. t ∷ o) (h.kinds (at + 1 + n));
 }
 
--- ---- fronts
+-- ---- tokens at the start
 
 prefix_by_first : (p : ℕ → Bool) (c : ℕ) (cs rest : List ℕ) (b : Bool) → p c ≡ b → b && list_all p cs ≡ true → (list_all p cs ≡ true → prefix_len p (cs ++ rest) ≡ length cs) → cond (p c) (1 + prefix_len p (cs ++ rest)) 0 ≡ suc (length cs)
 prefix_by_first p c cs rest true is all more = let n = more all in let one : 1 + prefix_len p (cs ++ rest) ≡ suc (length cs) = omega arith in rw is one
@@ -90,7 +90,7 @@ first_of_word : (c : ℕ) (cs : List ℕ) (b : Bool) → is_of_word c ≡ b → 
 first_of_word c cs true is e = (is, e)
 first_of_word c cs false is e = cc
 
--- a word, and the tokens after it
+-- A word, and the tokens after it.
 pub word_here : (at : ℕ) (w rest : List ℕ) → IsWord w → EndsWord rest → tokens_from at (w ++ rest) ≡ record { at = at; token = word w } ∷ tokens_from (at + length w) rest
 word_here at [] rest is ends = absurd (let some = is.some in omega arith)
 word_here at (c ∷ cs) rest is ends =
@@ -128,7 +128,7 @@ quoted_kinds q rest ts all h =
     ap (λ k. quoted_front octets k) n ∙ rw closes (ap (λ o. whole (quoted o) (length q + 1)) (take_front q (0x22 ∷ rest))) in
     whole_kinds 0x22 (length q + 1) octets rest (quoted q) ts fronted (quote_within q rest 0x22) (after_quote q rest 0x22) h
 
--- ---- what is of ASCII
+-- ---- ASCII texts
 
 abbrev pub is_low : ℕ → Bool
 is_low c = nat_lt c 128
@@ -159,9 +159,9 @@ low_word w all = all_low is_of_word word_low w all
 pub low_both : (a b : List ℕ) → list_all is_low a ≡ true → list_all is_low b ≡ true → list_all is_low (a ++ b) ≡ true
 low_both a b first second = list_all-append is_low a b ∙ both_true _ _ first second
 
--- ---- what is put together
+-- ---- concatenated texts
 
--- the octets are of ASCII, and printed of these tokens, wherever no word goes on behind them
+-- Holds if the bytes are ASCII and have these tokens, provided that no byte of a word follows them.
 pub record Prints (octets : List ℕ) (ps : List Token) : Type 0 where
   pub low : list_all is_low octets ≡ true
   pub starts : (rest : List ℕ) → EndsWord rest → EndsWord (octets ++ rest)
@@ -180,7 +180,7 @@ prints_both {a} {b} {ps} {qs} first second = record {
   printed = λ rest ts e h. moved (a ++ (b ++ rest)) ((a ++ b) ++ rest) (ps ++ (qs ++ ts)) ((ps ++ qs) ++ ts) (sym (append_assoc a b rest)) (sym (append_assoc ps qs ts)) (first.printed (b ++ rest) (qs ++ ts) (second.starts rest e) (second.printed rest ts e h));
 }
 
--- a word after a space
+-- A word after a space.
 pub prints_word : (w : List ℕ) → IsWord w → Prints (codes " " ++ w) (word w ∷ [])
 prints_word w is = record { low = low_word w is.all; starts = λ rest e. refl; printed = λ rest ts e h. white_kinds (w ++ rest) (word w ∷ ts) (word_kinds w rest ts is e h) }
 

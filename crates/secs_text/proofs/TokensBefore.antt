@@ -1,4 +1,4 @@
--- What the tokens up to a place are: the place lets through nothing but notations.
+-- The tokens before a parser state: the state accepts nothing but notations.
 use Rattle.std.proofs.Common.{◌≡◌, ℕ, ◌+◌, ◌≤◌, Bool, true, false, ◌||◌, not, List, [], ◌∷◌, ◌++◌, length, refl, sym, ap, ◌∙◌, subst, append_assoc, append-nil, arith, if◌then◌else◌}
 use Rattle.std.specs.Prelude.{Ok, Err, Option, Some, None, MatchOption, ◌^◌}
 use Rattle.std.proofs.lemmas.Bool.{eqb-true}
@@ -13,19 +13,19 @@ use Rattle.secs_text.specs.Notation.{ItemTokens, OptionalItem, wait_word, wait_t
 use Rattle.secs_text.specs.ParserStates.{Rules, Count, Opened, Before, Place, Step, start, after_head, after_wait, type_expected, after_type, count_expected, after_count, in_item, stop_expected, finished, step, is_empty, after_head_word, at_after_wait}
 use Rattle.secs_text.proofs.PartialTokens.{SoFar, OpenedTokens, IsList}
 
--- ---- what the tokens before a place are
+-- ---- the tokens before a parser state
 
--- at most one message, unless several are wanted
+-- Holds if there is at most one message, unless the rules allow several.
 abbrev pub Few : Rules → List Content → Type 0
 Few rules ms = rules.several ≡ false → length ms ≤ 1
 
--- whole messages, after which one more may stand
+-- Complete messages, which one more may follow.
 pub record Whole (rules : Rules) (ms : List Content) (ts : List Token) : Type 0 where
   pub tokens : MessagesTokens ms ts
   pub within : AllWithin rules.depth ms
   pub few : Few rules ms
 
--- whole messages, a head, and `W` if it is set
+-- Complete messages, a head, and `W` if it is set.
 pub record Headed (rules : Rules) (ms : List Content) (stream function : ℕ) (wait : Bool) (ts : List Token) : Type 0 where
   pub before : List Token
   pub messages : MessagesTokens ms before
@@ -35,12 +35,12 @@ pub record Headed (rules : Rules) (ms : List Content) (stream function : ℕ) (w
   pub named : head_word name ≡ head stream function
   pub parts : ts ≡ before ++ (word name ∷ wait_tokens wait)
 
--- and the lists around
+-- The tokens of complete messages and a head, and then those of the enclosing lists.
 abbrev pub Surrounded : Rules → List Content → Content → List Opened → List Token → Type 0
 Surrounded rules ms m [] ts = Headed rules ms m.stream m.function m.wait ts
 Surrounded rules ms m (o ∷ os) ts = (outer inner : List Token) × Surrounded rules ms m os outer × OpenedTokens o.count o.so_far inner × IsList o.so_far × (nest o.so_far + length os ≤ rules.depth) × (ts ≡ outer ++ inner)
 
--- and `<`, a type name, and these
+-- The tokens up to the enclosing lists, and then `<`, a type name, and the given tokens.
 pub record Named (rules : Rules) (b : Before) (v : Value) (more ts : List Token) : Type 0 where
   pub outer : List Token
   pub around : Surrounded rules b.messages b.message b.lists outer
@@ -50,7 +50,7 @@ pub record Named (rules : Rules) (b : Before) (v : Value) (more ts : List Token)
   pub shallow : nest v + length b.lists ≤ rules.depth
   pub parts : ts ≡ outer ++ (less ∷ word name ∷ more)
 
--- and an item that isn't closed
+-- The tokens up to the enclosing lists, and then those of an unfinished item.
 pub record InItem (rules : Rules) (b : Before) (c : Option Count) (v : Value) (ts : List Token) : Type 0 where
   pub outer : List Token
   pub around : Surrounded rules b.messages b.message b.lists outer
@@ -59,7 +59,7 @@ pub record InItem (rules : Rules) (b : Before) (c : Option Count) (v : Value) (t
   pub shallow : nest v + length b.lists ≤ rules.depth
   pub parts : ts ≡ outer ++ inner
 
--- and a message's item
+-- Complete messages, a head, and the message's item.
 pub record Held (rules : Rules) (ms : List Content) (m : Content) (ts : List Token) : Type 0 where
   pub outer : List Token
   pub headed : Headed rules ms m.stream m.function m.wait outer
@@ -113,7 +113,7 @@ pub few_push : (rules : Rules) (ms : List Content) (m : Content) → rules.sever
 few_push rules [] m may one = omega arith
 few_push rules (n ∷ ms) m may one = absurd (let same : rules.several || false ≡ true = may in let no_other : false || false ≡ true = subst (λ b. b || false ≡ true) one same in cc)
 
--- the end of a message
+-- The end of a message.
 pub message_ends : (rules : Rules) (ms : List Content) (m : Content) (outer inner : List Token) → (h : Headed rules ms m.stream m.function m.wait outer) → OptionalItem m.item inner → IsWithin rules.depth m → Whole rules (ms ++ m ∷ []) ((outer ++ inner) ++ stop ∷ [])
 message_ends rules ms m outer inner h item shallow =
     let own = (word h.name ∷ wait_tokens m.wait) ++ inner in

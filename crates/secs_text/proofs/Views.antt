@@ -12,7 +12,7 @@ pub count_views : (items : List Item) → count (views items) ≡ length items
 count_views [] = refl
 count_views (i ∷ items) = ap suc (count_views items)
 
--- printing one more element
+-- The printed form of one more element.
 pub printed_push : (items : List Item) (item : Item) → printed_elements (views (items ++ item ∷ [])) ≡ printed_elements (views items) ++ (codes " " ++ printed_item (view item))
 printed_push [] item = ap (λ o. codes " " ++ o) (append-nil (printed_item (view item)))
 printed_push (i ∷ items) item = ap (λ o. codes " " ++ printed_item (view i) ++ o) (printed_push items item) ∙ sym (append_assoc (codes " " ++ printed_item (view i)) (printed_elements (views items)) _)

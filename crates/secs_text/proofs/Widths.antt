@@ -1,4 +1,4 @@
--- Numbers of one, two, four and eight octets.
+-- Numbers of one, two, four and eight bytes.
 use Rattle.std.proofs.Common.{◌≡◌, ℕ, ◌+◌, ◌-◌, ◌*◌, ◌/◌, ◌%◌, ◌^◌, ◌<◌, ◌≤◌, Bool, true, false, List, [], ◌∷◌, ◌++◌, length, drop, refl, sym, ap, ◌∙◌, subst, arith, append-nil, of_z, to_z}
 use Rattle.std.specs.Prelude.{◌==◌, ◌||◌, ℤ, pos, negsuc, Option, Some, None, option_map}
 use Rattle.std.specs.Int.Signed.{mag}
@@ -19,7 +19,7 @@ module _ (P : ℕ → Type 0) (one : P 1) (two : P 2) (four : P 4) (eight : P 8)
   by_tests n false false false true e f g h is = subst P (sym (eqb-true n 8 h)) eight
   by_tests n false false false false e f g h is = cc
 
-  -- what holds of each width
+  -- A property that holds for each width holds for `n`.
   pub by_width : (n : ℕ) → is_width n ≡ true → P n
   by_width n is = by_tests n (n == 1) (n == 2) (n == 4) (n == 8) refl refl refl refl is
 
@@ -29,11 +29,11 @@ width_some n is = by_width (λ k. 1 ≤ k) (omega arith) (omega arith) (omega ar
 pub width_most : (n : ℕ) → is_width n ≡ true → n ≤ 8
 width_most n is = by_width (λ k. k ≤ 8) (omega arith) (omega arith) (omega arith) (omega arith) n is
 
--- a chunk of 512 octets is whole values
+-- A chunk of 512 bytes consists of complete values.
 pub width_chunk : (n : ℕ) → is_width n ≡ true → (k : ℕ) × (512 ≡ k * n)
 width_chunk n is = by_width (λ m. (k : ℕ) × (512 ≡ k * m)) (512, refl) (256, refl) (128, refl) (64, refl) n is
 
--- the greatest numbers
+-- The maximum numbers.
 pub most_unsigned : (n : ℕ) → is_width n ≡ true → 18446744073709551615 / 2 ^ (64 - 8 * n) + 1 ≡ 2 ^ (8 * n)
 most_unsigned n is = by_width (λ m. 18446744073709551615 / 2 ^ (64 - 8 * m) + 1 ≡ 2 ^ (8 * m)) refl refl refl refl n is
 
@@ -43,7 +43,7 @@ most_signed n is = by_width (λ m. 18446744073709551615 / 2 ^ (65 - 8 * m) + 1 �
 pub width_range : (n : ℕ) → is_width n ≡ true → 2 ^ (8 * n) ≡ 256 ^ n
 width_range n is = by_width (λ m. 2 ^ (8 * m) ≡ 256 ^ m) refl refl refl refl n is
 
--- ---- numbers that aren't negative
+-- ---- numbers that are not negative
 
 pub unsigned_is : (n : ℕ) (o : List ℕ) → is_width n ≡ true → big_number n o ≡ unsigned n o
 unsigned_is n o is = by_width (λ m. big_number m o ≡ unsigned m o) (omega arith) refl refl refl n is
@@ -67,7 +67,7 @@ signed_octets : (n : ℕ) (z : ℤ) → is_width n ≡ true → mag z < 2 ^ (8 *
 signed_octets n z is small = ap (big_bytes n) (low_is n z is small) ∙ length_is n is (cast_unsigned (width_of n) z)
 
 module _ (n most : ℕ) (w : List ℕ) (greatest : most + 1 ≡ 2 ^ (8 * n - 1)) where
-  -- the octets of a number that a word spells
+  -- The bytes of a number that a word represents.
   pub signed_encoded : (z : ℤ) (zeros octets : List ℕ) → is_width n ≡ true → Some z ≡ signed_below (most + 1) w → mag z ≤ most → length zeros ≡ n → octets ≡ big_bytes n (low_bytes w64 n (to_z w64 (of_z w64 z))) ++ drop n zeros
       → Some octets ≡ option_map (octets_of_signed (width_of n)) (signed_below (2 ^ (8 * n - 1)) w)
   signed_encoded z zeros octets is encoded_bytes within long appended_text =

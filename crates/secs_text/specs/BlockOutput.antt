@@ -1,4 +1,4 @@
--- What is put into a block of octets.
+-- Output to a block of bytes.
 use Rattle.std.specs.Prelude.{◌≡◌, ◌≤◌, ℕ, zero, suc, ◌+◌, ◌/◌, ◌%◌, drop, refl, List, [], ◌∷◌, ◌++◌, length, take, codes}
 use Rattle.std.specs.Fmt.{decimal}
 use Rattle.std.proofs.Common.{ap, sym, ◌∙◌}
@@ -8,42 +8,42 @@ use Rattle.secs_text.specs.TypeName.{type_name}
 use Rattle.secs_item.specs.Decoding.{pieces, each, unread}
 use Rattle.secs_text.specs.Printed.{spaced}
 
--- in a block a text stands behind what stood up to a place, and it ends here
+-- Holds if the block up to `end` is the old block up to `from`, followed by the text.
 pub record AppendsText (old new : List ℕ) (from : ℕ) (text : List ℕ) (end : ℕ) : Type 0 where
   pub octets : take end new ≡ take from old ++ text
   pub moved : end ≡ from + length text
   pub size : length new ≡ length old
 
--- the words of values of so many octets, each after a space; what is left over behind whole values has none
+-- The words of values of `size` bytes, each after a space. Bytes after the last complete value have no word.
 abbrev pub words_of : (List ℕ → List ℕ) → ℕ → List ℕ → List ℕ
 words_of word size octets = spaced word (each unread size octets)
 
--- a place in a block, which has 65,536 octets
+-- Holds if `at` is an offset in a block of 65,536 bytes.
 pub record IsPlace (block : List ℕ) (at : ℕ) : Type 0 where
   pub size : length block ≡ 65536
   pub within : at ≤ 65536
 
--- The octets that an output was given, and those that stand in its block up to a place, grew by a text. Which octets an
--- output was given is told by a predicate, since it may not tell them.
+-- Holds if the output's bytes, followed by the block's bytes up to an offset, grew by a text. A predicate gives the
+-- bytes that were passed to the output, since the output need not record them.
 pub record Puts (Given : List ℕ → Type 0) (block : List ℕ) (from : ℕ) (GivenNow : List ℕ → Type 0) (block_now : List ℕ) (at : ℕ) (text : List ℕ) : Type 0 where
   pub octets : (given : List ℕ) → Given given → (now : List ℕ) × GivenNow now × (now ++ take at block_now ≡ given ++ take from block ++ text)
   pub place : IsPlace block_now at
 
--- The octets that an output was given, and those that its block holds, grew by a text: the text stands behind them, and
--- nothing else changed.
+-- Holds if the output's bytes, followed by the block's bytes, grew by a text: the text was appended, and nothing else
+-- changed.
 abbrev pub AppendsBytes : (List ℕ → Type 0) → List ℕ → (List ℕ → Type 0) → List ℕ → List ℕ → Type 0
 AppendsBytes Given held GivenNow held_now text =
     (given : List ℕ) → Given given → (now : List ℕ) × GivenNow now × (now ++ held_now ≡ given ++ held ++ text)
 
--- the two digits of a number below 100
+-- The two digits of a number below 100.
 abbrev pub two_decimals : ℕ → List ℕ
 two_decimals n = (48 + n / 10) ∷ (48 + n % 10) ∷ []
 
--- the opening of an item with a count, after a space
+-- The opening of an item with a count, after a space.
 abbrev pub opening_of : Format → ℕ → List ℕ
 opening_of f count = codes " <" ++ type_name f ++ codes " [" ++ decimal count ++ codes "]"
 
--- ---- the words of values, told by their octets, are the words of the values
+-- ---- the words printed from the bytes of values are the words of the values
 
 pieces_words : {X : Type 0} (one : X → List ℕ) (read : List ℕ → X) (size n : ℕ) (octets : List ℕ)
     → spaced (λ o. one (read o)) (pieces unread size n octets) ≡ spaced one (pieces read size n octets)

@@ -1,22 +1,22 @@
--- The values of an item, by how words spell them (this project's own notation).
+-- The values of an item, by the way that words represent them (project-specific notation).
 use Rattle.std.specs.Prelude.{ℕ, ℤ, ◌^◌, Bool, List, [], Option}
 use Rattle.secs_item.specs.declared.format.Format.{Format}
 use Rattle.secs_item.specs.declared.format.Format.TheVariants as format
 use Rattle.secs_item.specs.Item.{Value, list, values, Values, binary, boolean, ascii, jis8, char2, i1, i2, i4, i8, u1, u2, u4, u8, f4, f8, no_elements}
 use Rattle.secs_text.specs.Words.{number_below, signed_below, octet_of, float_of, truth_of}
 
--- how a word spells a value
+-- The way that a word represents a value.
 pub data WordEncoding : Type 0 where
   hex_octet : WordEncoding
   truth_letter : WordEncoding
-  -- at least `-half`, and below `half`
+  -- A number that is at least `-half` and below `half`.
   signed_number : ℕ → WordEncoding
-  -- below a limit
+  -- A number below a limit.
   unsigned_number : ℕ → WordEncoding
-  -- of so many octets
+  -- A float with the given number of bytes.
   hex_float : ℕ → WordEncoding
 
--- what such a word spells
+-- The type of the values that such a word represents.
 abbrev pub IsEncoded : WordEncoding → Type 0
 IsEncoded hex_octet = ℕ
 IsEncoded truth_letter = Bool
@@ -24,7 +24,7 @@ IsEncoded (signed_number half) = ℤ
 IsEncoded (unsigned_number limit) = ℕ
 IsEncoded (hex_float size) = List ℕ
 
--- the value that a word spells, if it is one
+-- The value that a word represents, if it represents one.
 abbrev pub encoded_bytes : (s : WordEncoding) → List ℕ → Option (IsEncoded s)
 encoded_bytes hex_octet w = octet_of w
 encoded_bytes truth_letter w = truth_of w
@@ -32,7 +32,7 @@ encoded_bytes (signed_number half) w = signed_below half w
 encoded_bytes (unsigned_number limit) w = number_below limit w
 encoded_bytes (hex_float size) w = float_of size w
 
--- octets of text, or values each of which is one word
+-- The body of an item: text bytes, or values that are one word each.
 pub data Body : Type 0 where
   in_text : List ℕ → Body
   in_words : (s : WordEncoding) → List (IsEncoded s) → Body
@@ -54,7 +54,7 @@ body_of (u8 xs) = in_words (unsigned_number (2 ^ 64)) xs
 body_of (f4 xs) = in_words (hex_float 4) xs
 body_of (f8 xs) = in_words (hex_float 8) xs
 
--- nothing yet of a format
+-- The empty item of a format.
 abbrev pub nothing_of : Format → Value
 nothing_of format.List = list no_elements
 nothing_of format.Binary = values (binary [])

@@ -1,4 +1,4 @@
--- Tokens that stand as a message is printed (this project's own notation).
+-- Tokens spaced as in a printed message (project-specific notation).
 use Rattle.std.specs.Prelude.{◌≡◌, ◌^◌, ◌<◌, ◌-◌, ℕ, true, false, List, ◌∷◌, ◌++◌, length, codes, Some}
 use Rattle.std.specs.List.{list_all, prefix_len}
 use Rattle.std.specs.Str.Parse.{digits_value}
@@ -12,23 +12,23 @@ use Rattle.secs_text.specs.Token.{Placed, Front, whole, front}
 use Rattle.secs_text.specs.TypeName.{format_named}
 use Rattle.secs_text.specs.Words.{is_numeral, number_below, head, head_word}
 
--- no word goes on here
+-- Holds if a word ends here: the rest does not begin with a byte of a word.
 abbrev pub EndsWord : List ℕ → Type 0
 EndsWord rest = prefix_len is_of_word rest ≡ 0
 
--- one octet or more, each of which may stand in a word
+-- Holds if these are one or more bytes, each of which is allowed in a word.
 pub record IsWord (w : List ℕ) : Type 0 where
   pub some : 0 < length w
   pub all : list_all is_of_word w ≡ true
 
--- ---- at the front of octets
+-- ---- at the start of bytes
 
--- the octet is this token, whatever stands behind it
+-- Holds if the byte is this token, whatever follows it.
 pub record IsSymbol (c : ℕ) (t : Token) : Type 0 where
   pub fronts : (octets : List ℕ) → front c octets ≡ whole (seen t) 0
   pub can_continue : is_last (seen t) ≡ false
 
--- this token, which is one octet, stands behind so many octets of white space
+-- Holds if this token, which is one byte, follows `size` bytes of white space.
 pub record IsSymbolAfter (size : ℕ) (t : Token) (octets : List ℕ) : Type 0 where
   pub octet : ℕ
   pub spaces : List ℕ
@@ -38,7 +38,7 @@ pub record IsSymbolAfter (size : ℕ) (t : Token) (octets : List ℕ) : Type 0 w
   pub sized : length spaces ≡ size
   pub parts : octets ≡ spaces ++ octet ∷ rest
 
--- a type name of so many octets, and a space and a `[` behind it
+-- Holds if the bytes begin with a type name of `size` bytes, and a space and a `[` follow it.
 pub record NamesType (f : Format) (size : ℕ) (octets : List ℕ) : Type 0 where
   pub name : List ℕ
   pub rest : List ℕ
@@ -47,7 +47,7 @@ pub record NamesType (f : Format) (size : ℕ) (octets : List ℕ) : Type 0 wher
   pub sized : length name ≡ size
   pub parts : octets ≡ name ++ (codes " [" ++ rest)
 
--- a number in so many digits, and a `]` behind it
+-- Holds if the bytes begin with a number of `size` digits, and a `]` follows it.
 pub record IsCounted (number size : ℕ) (octets : List ℕ) : Type 0 where
   pub digits : List ℕ
   pub rest : List ℕ
@@ -56,7 +56,7 @@ pub record IsCounted (number size : ℕ) (octets : List ℕ) : Type 0 where
   pub sized : length digits ≡ size
   pub parts : octets ≡ digits ++ 0x5D ∷ rest
 
--- a number in so many digits, below 100
+-- Holds if the bytes begin with a number of `count` digits that is below 100.
 pub record IsSmall (number count : ℕ) (octets : List ℕ) : Type 0 where
   pub digits : List ℕ
   pub rest : List ℕ
@@ -67,14 +67,14 @@ pub record IsSmall (number count : ℕ) (octets : List ℕ) : Type 0 where
   pub ends : prefix_len is_digit rest ≡ 0
   pub parts : octets ≡ digits ++ rest
 
--- a letter, and a number in one or two digits: so many octets
+-- Holds if the bytes begin with a letter and a number of one or two digits, `size` bytes in all.
 pub record IsLettered (letter number size : ℕ) (octets : List ℕ) : Type 0 where
   pub rest : List ℕ
   pub number_following : IsSmall number (size - 1) rest
   pub some : 0 < size
   pub parts : octets ≡ letter ∷ rest
 
--- a head of so many octets
+-- Holds if the bytes begin with a head of `size` bytes.
 pub record IsHeaded (stream function size : ℕ) (octets : List ℕ) : Type 0 where
   pub text : List ℕ
   pub rest : List ℕ
@@ -86,7 +86,7 @@ pub record IsHeaded (stream function size : ℕ) (octets : List ℕ) : Type 0 wh
 
 -- ---- among tokens
 
--- the first of these tokens name a format and its count, and those are behind them
+-- Holds if the first tokens name a format and its count, and `after` are the tokens that follow.
 pub record IsOpening (f : Format) (count : Count) (before after : List Placed) : Type 0 where
   pub at : ℕ
   pub name : List ℕ
@@ -97,12 +97,12 @@ pub record IsOpening (f : Format) (count : Count) (before after : List Placed) :
   pub end_at : ℕ
   pub parts : before ≡ record { at = at; token = math.word name } ∷ record { at = count.at; token = math.bracket } ∷ record { at = number_at; token = math.word number } ∷ record { at = end_at; token = math.bracket_end } ∷ after
 
--- the first of these tokens is a `W`, and those are behind it
+-- Holds if the first token is a `W`, and `after` are the tokens that follow.
 pub record IsWait (before after : List Placed) : Type 0 where
   pub at : ℕ
   pub parts : before ≡ record { at = at; token = math.word (codes "W") } ∷ after
 
--- the first of these tokens names a stream and a function, and those are behind it
+-- Holds if the first token names a stream and a function, and `after` are the tokens that follow.
 pub record IsHead (stream function : ℕ) (before after : List Placed) : Type 0 where
   pub at : ℕ
   pub text : List ℕ

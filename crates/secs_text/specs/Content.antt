@@ -1,4 +1,4 @@
--- A message of SEMI E5 (message naming: stream, function, W), apart from where its item lies in memory.
+-- A message of SEMI E5 (message naming: stream, function, W), independent of its item's location in memory.
 use Rattle.std.specs.Prelude.{ℕ, Bool, List, [], ◌∷◌, Option, MatchOption, ◌≤◌}
 use Rattle.secs_item.specs.Item.{Value, nest}
 
@@ -8,7 +8,7 @@ pub record Content : Type 0 where
   pub wait : Bool
   pub item : Option Value
 
--- lists stand in lists at most so deep
+-- Holds if lists are nested at most `depth` deep.
 abbrev pub IsWithin : ℕ → Content → Type 0
 IsWithin depth m = MatchOption m.item (Unit {0}) (λ v. nest v ≤ depth)
 

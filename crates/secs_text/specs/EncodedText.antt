@@ -1,5 +1,5 @@
--- What reading a part of a text onto octets means: what was read is spelled behind what stood there, as shortly as can be
--- (SEMI E5; the notation is this project's own).
+-- Encoding of a part of a text to bytes: the shortest encoding of what was read is appended (SEMI E5; the notation is
+-- project-specific).
 use Rattle.std.specs.Prelude.{◌≡◌, ◌^◌, ◌*◌, ◌+◌, ℕ, Bool, true, false, List, [], ◌∷◌, ◌++◌, length, Option, Some, None, option_map, Result, Ok, Err}
 use Rattle.std.specs.Int.{w8, w16, w32, w64}
 use Rattle.byteorder.specs.Endian.{big_bytes}
@@ -19,7 +19,7 @@ use Rattle.secs_text.specs.Token.{Placed}
 use Rattle.secs_text.specs.Words.{number_below, signed_below, octet_of, float_of, truth_of}
 use Rattle.secs_text.specs.declared.fault.TextFault.{TextFault}
 
--- the octets of the value that a word spells, in an item of this format
+-- The bytes of the value that a word represents in an item of this format.
 abbrev pub word_octets : Format → List ℕ → Option (List ℕ)
 word_octets format.List w = None
 word_octets format.Binary w = option_map octet_alone (octet_of w)
@@ -38,18 +38,18 @@ word_octets format.U8 w = option_map (big_bytes 8) (number_below (2 ^ 64) w)
 word_octets format.F4 w = float_of 4 w
 word_octets format.F8 w = float_of 8 w
 
--- octets that were laid, if they could be
+-- The appended bytes, if appending succeeded.
 abbrev pub appended_text : Bool → List ℕ → Option (List ℕ)
 appended_text true octets = Some octets
 appended_text false octets = None
 
--- where there is a spelling, it stands behind what stood there, and that is told
+-- Holds if `done` is true exactly if there is an encoding, and the encoding was then appended.
 abbrev pub AppendsBytes : Bool → List ℕ → List ℕ → Option (List ℕ) → Type 0
 AppendsBytes done old new encoded_form = appended_text done new ≡ option_map (λ o. old ++ o) encoded_form
 
 -- ---- values
 
--- values of a format, that lead from these tokens to those, inside an item with this count
+-- Values of a format that lead from the tokens `before` to the tokens `after`, in an item with this count.
 pub record Collected (f : Format) (count : Option Count) (before after : List Placed) (old new : List ℕ) : Type 0 where
   pub held : Values
   pub leads : (rules : Rules) (b : Before) → walk rules (in_item b (record { count = count; so_far = nothing_of f })) before ≡ walk rules (in_item b (record { count = count; so_far = values held })) after
@@ -58,12 +58,13 @@ pub record Collected (f : Format) (count : Option Count) (before after : List Pl
   pub size : length (short_body held) ≡ value_size f * count_of_values held
   pub in_range : ValuesInRange held
 
--- more values of a format were gathered
+-- Holds if more values of a format were collected.
 abbrev pub CollectsMore : Format → List Placed → List Placed → List ℕ → List ℕ → Type 0
 CollectsMore f before after old new =
     (count : Option Count) (first : List Placed) (start : List ℕ) → Collected f count first before start old → Collected f count first after start new
 
--- the same up to the end of their item
+-- Values of a format and the end of their item, which lead from the tokens `before` to the tokens `after`. The item has
+-- this count.
 pub record Closed (f : Format) (count : Option Count) (before after : List Placed) (old new : List ℕ) : Type 0 where
   pub held : Values
   pub leads : (rules : Rules) (b : Before) → walk rules (in_item b (record { count = count; so_far = nothing_of f })) before ≡ walk rules (closed b.lists b (values held)) after
@@ -72,14 +73,14 @@ pub record Closed (f : Format) (count : Option Count) (before after : List Place
   pub size : length (short_body held) ≡ value_size f * count_of_values held
   pub in_range : ValuesInRange held
 
--- the values of an item are read, or the tokens lead to this fault
+-- Holds if the values of an item were read, or the tokens lead to this error.
 abbrev pub ValuesRead : Format → Option Count → Result (Unit {0}) TextFault → List Placed → List Placed → List ℕ → List ℕ → Type 0
 ValuesRead f count (Ok _) before after old new = Closed f count before after old new
 ValuesRead f count (Err fault) before after old new = (rules : Rules) (b : Before) → Fails fault (walk rules (in_item b (record { count = count; so_far = nothing_of f })) before)
 
 -- ---- items
 
--- an item, to which these tokens lead up to those, from a place
+-- An item that leads from the tokens `before` to the tokens `after`, from a parser state.
 pub record Itemized (Where : Rules → Before → Type 0) (from : Before → Place) (before after : List Placed) (fits : Bool) (old new : List ℕ) : Type 0 where
   pub value : Value
   pub leads : (rules : Rules) (b : Before) → Where rules b → walk rules (from b) before ≡ walk rules (closed b.lists b value) after
@@ -89,17 +90,17 @@ abbrev pub ItemRead : (Rules → Before → Type 0) → (Before → Place) → R
 ItemRead Where from (Ok fits) before after old new = Itemized Where from before after fits old new
 ItemRead Where from (Err fault) before after old new = (rules : Rules) (b : Before) → Where rules b → Fails fault (walk rules (from b) before)
 
--- lists stand so deep around it that they may be nested so deep in it
+-- Holds if lists may be nested `depth` deep inside the lists around it.
 abbrev pub Deep : ℕ → Rules → Before → Type 0
 Deep depth rules b = length b.lists + depth ≡ rules.depth
 
--- whatever stands around it
+-- Holds whatever lists enclose the item.
 abbrev pub Anywhere : Rules → Before → Type 0
 Anywhere rules b = Unit {0}
 
 -- ---- messages
 
--- a message's text in the fewest octets: it is empty where the message has no item
+-- The message text in the fewest bytes. It is empty if the message has no item.
 abbrev pub text_of : Option Value → Option (List ℕ)
 text_of None = Some []
 text_of (Some v) = short v
@@ -107,20 +108,20 @@ text_of (Some v) = short v
 abbrev pub IsEncoded : Option Value → Option (Bor (List ℕ)) → Type 0
 IsEncoded item text = text_of item ≡ option_map (λ t. t.now) text
 
--- a message with this head and this item
+-- The message with this head and this item.
 abbrev pub headed_by : Head → Option Value → Content
 headed_by head item = record { stream = head.stream; function = head.function; wait = head.wait; item = item }
 
--- a message with this stream and function, as far as they tell it
+-- The message with this stream and function, with no W bit and no item yet.
 abbrev pub named_by : ℕ → ℕ → Content
 named_by stream function = record { stream = stream; function = function; wait = false; item = None }
 
--- where a stream and a function lead, or their lack, after these messages
+-- The step after these messages, for a stream and a function or for the end of the text.
 abbrev pub named : ℕ → List Content → Option (ℕ × ℕ) → List Placed → Step
 named depth ms (Some name) after = walk (any_messages depth) (after_head ms (named_by name.0 name.1)) after
 named depth ms None after = Ok (finished ms)
 
--- a message, to which these tokens lead up to those, from a place
+-- A message that leads from the tokens `before` to the tokens `after`, from a parser state.
 pub record Spelt (depth : ℕ) (from : List Content → Place) (head : Head) (fits : Bool) (before after : List Placed) (old new : List ℕ) : Type 0 where
   pub item : Option Value
   pub leads : (ms : List Content) → walk (any_messages depth) (from ms) before ≡ walk (any_messages depth) (start (ms ++ headed_by head item ∷ [])) after
@@ -130,14 +131,14 @@ abbrev pub MessageRead : ℕ → (List Content → Place) → Result (Head × Bo
 MessageRead depth from (Ok m) before after old new = Spelt depth from m.0 m.1 before after old new
 MessageRead depth from (Err fault) before after old new = (ms : List Content) → Fails fault (walk (any_messages depth) (from ms) before)
 
--- Messages, to which these tokens lead up to those, were given behind what was given before. What was given is told by
--- a predicate that also speaks of something that stays.
+-- Holds if the messages from the tokens `before` to the tokens `after` were passed on after the earlier ones. A
+-- predicate gives the messages that were passed on, together with a part that stays unchanged.
 pub record GivenSoFar {K : Type 0} (depth : ℕ) (before after : List Placed) (GivenOld GivenNow : K → List Content → Type 0) : Type 0 where
   pub messages : List Content
   pub leads : walk (any_messages depth) (start []) before ≡ walk (any_messages depth) (start messages) after
   pub given : (kept : K) (earlier : List Content) → GivenOld kept earlier → GivenNow kept (earlier ++ messages)
 
--- the messages of a text were given behind what was given before, or it has this fault
+-- Holds if the messages of a text were passed on after the earlier ones, or the text has this error.
 abbrev pub AllGiven : {K : Type 0} → ℕ → Result (Unit {0}) TextFault → List ℕ → (K → List Content → Type 0) → (K → List Content → Type 0) → Type 0
 AllGiven {K = K} depth (Ok _) text GivenOld GivenNow =
     (ms : List Content) × (reading (any_messages depth) text ≡ Ok (finished ms)) × ((kept : K) (earlier : List Content) → GivenOld kept earlier → GivenNow kept (earlier ++ ms))

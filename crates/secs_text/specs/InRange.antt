@@ -1,4 +1,4 @@
--- What a program can hold: numbers within their types, and counts that are numbers of 64 bits (this project's own).
+-- The range of a program: numbers within their types, and counts of 64 bits (project-specific).
 use Rattle.std.specs.Prelude.{◌≡◌, ◌<◌, ◌≤◌, ℕ, ◌^◌, List, length, slice_index, MatchOption}
 use Rattle.std.specs.List.{AllByRecursion}
 use Rattle.std.specs.Int.Signed.{mag}
@@ -9,7 +9,7 @@ use Rattle.secs_text.specs.Content.{Content}
 abbrev pub IsOctets : List ℕ → Type 0
 IsOctets octets = (k : ℕ) → slice_index octets k < 256
 
--- a value that such a word spells
+-- Holds if a program can represent the value of such a word.
 abbrev pub Fits : (s : WordEncoding) → IsEncoded s → Type 0
 Fits hex_octet n = n < 256
 Fits truth_letter b = Unit {0}
@@ -22,7 +22,7 @@ BodyIsHeld (in_text octets) = IsOctets octets
 BodyIsHeld (in_words s xs) = AllByRecursion (Fits s) xs
 
 abbrev mutual
-  -- what the item holds
+  -- Holds if a program can represent the elements or values of the item.
   pub InnerIsHeld : Value → Type 0
   InnerIsHeld (list es) = AllHeld es
   InnerIsHeld (values v) = BodyIsHeld (body_of v)
@@ -34,7 +34,7 @@ abbrev mutual
 abbrev pub IsHeld : Value → Type 0
 IsHeld v = (count_of v < 2 ^ 64) × InnerIsHeld v
 
--- a message that a program can hold
+-- Holds if a program can represent the message.
 pub record IsHeldMessage (m : Content) : Type 0 where
   pub stream : m.stream < 128
   pub function : m.function < 256

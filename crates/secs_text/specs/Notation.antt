@@ -1,4 +1,4 @@
--- Which texts are the notation of a message: this project's own.
+-- The texts that are the notation of a message. This is project-specific.
 use Rattle.std.specs.Prelude.{◌≡◌, ◌^◌, ◌⊎◌, ℕ, Bool, true, false, List, [], ◌∷◌, ◌++◌, map, Option, Some, None}
 use Rattle.secs_item.specs.Item.{Value, list, values, Elements, no_elements, element, format_of, count_of}
 use Rattle.secs_text.specs.Body.{Body, in_text, in_words, encoded_bytes, body_of}
@@ -9,17 +9,17 @@ use Rattle.secs_text.specs.Words.{number_below, octet_of, head_word, head}
 
 -- ---- values
 
--- words, one for each value, in order
+-- Holds if the tokens are words, one for each value, in order.
 abbrev pub InWords : {X : Type 0} → (List ℕ → Option X) → List X → List Token → Type 0
 InWords one xs ts = (words : List (List ℕ)) × (map one words ≡ map Some xs) × (ts ≡ map word words)
 
--- the octets of a piece of text: those between the quotes, or the one that a word spells
+-- Holds if the token represents these text bytes: those between the quotes, or the one byte of a word.
 abbrev pub IsPiece : Token → List ℕ → Type 0
 IsPiece (quoted text) octets = octets ≡ text
 IsPiece (word w) octets = (octet : ℕ) × (octet_of w ≡ Some octet) × (octets ≡ octet ∷ [])
 IsPiece t octets = ⊥
 
--- pieces, whose octets joined are these
+-- Holds if the tokens are pieces of text whose bytes, joined, are these.
 abbrev pub InPieces : List Token → List ℕ → Type 0
 InPieces [] octets = octets ≡ []
 InPieces (t ∷ ts) octets = (first rest : List ℕ) × IsPiece t first × InPieces ts rest × (octets ≡ first ++ rest)
@@ -30,11 +30,11 @@ BodyTokens (in_words s xs) ts = InWords (encoded_bytes s) xs ts
 
 -- ---- items
 
--- the right count in brackets, or nothing
+-- Holds if the tokens are the right count in brackets, or are empty.
 abbrev pub CountTokens : ℕ → List Token → Type 0
 CountTokens n ts = (ts ≡ []) ⊎ ((w : List ℕ) × (number_below (2 ^ 64) w ≡ Some n) × (ts ≡ bracket ∷ word w ∷ bracket_end ∷ []))
 
--- `<`, the type name, perhaps the count, what the item holds, `>`
+-- Holds if the tokens are `<`, the type name, an optional count, the inner tokens and `>`.
 pub record Enclosed (v : Value) (inner ts : List Token) : Type 0 where
   pub name : List ℕ
   pub named : format_named name ≡ Some (format_of v)
@@ -47,7 +47,7 @@ abbrev mutual
   ItemTokens (list es) ts = (inner : List Token) × ElementTokens es inner × Enclosed (list es) inner ts
   ItemTokens (values v) ts = (inner : List Token) × BodyTokens (body_of v) inner × Enclosed (values v) inner ts
 
-  -- the tokens of the elements in order
+  -- Holds if these are the tokens of the elements, in order.
   pub ElementTokens : Elements → List Token → Type 0
   ElementTokens no_elements ts = ts ≡ []
   ElementTokens (element v es) ts = (first rest : List Token) × ItemTokens v first × ElementTokens es rest × (ts ≡ first ++ rest)
@@ -58,7 +58,7 @@ abbrev pub OptionalItem : Option Value → List Token → Type 0
 OptionalItem None ts = ts ≡ []
 OptionalItem (Some v) ts = ItemTokens v ts
 
--- the word `W`
+-- The word `W`.
 abbrev pub wait_word : List ℕ
 wait_word = 0x57 ∷ []
 
@@ -66,7 +66,7 @@ abbrev pub wait_tokens : Bool → List Token
 wait_tokens true = word wait_word ∷ []
 wait_tokens false = []
 
--- the head, perhaps `W`, perhaps an item, `.`
+-- Holds if the tokens are the head, an optional `W`, an optional item and `.`.
 pub record MessageTokens (m : Content) (ts : List Token) : Type 0 where
   pub name : List ℕ
   pub named : head_word name ≡ head m.stream m.function
@@ -78,14 +78,14 @@ abbrev pub MessagesTokens : List Content → List Token → Type 0
 MessagesTokens [] ts = ts ≡ []
 MessagesTokens (m ∷ ms) ts = (first rest : List Token) × MessageTokens m first × MessagesTokens ms rest × (ts ≡ first ++ rest)
 
--- the text has these tokens, and nothing else
+-- Holds if these are exactly the tokens of the text.
 abbrev pub HasTokens : List ℕ → List Token → Type 0
 HasTokens text ts = map (λ t. t.token) (tokens text) ≡ ts ++ end ∷ []
 
--- the text is the message's notation
+-- Holds if the text is the message's notation.
 abbrev pub Notation : Content → List ℕ → Type 0
 Notation m text = (ts : List Token) × MessageTokens m ts × HasTokens text ts
 
--- the text is the notation of these messages, one after another
+-- Holds if the text is the notation of these messages, in order.
 abbrev pub Notations : List Content → List ℕ → Type 0
 Notations ms text = (ts : List Token) × MessagesTokens ms ts × HasTokens text ts

@@ -1,4 +1,4 @@
--- The places in a text where a token may stand, and where each token leads (this project's own notation).
+-- The parser states, in which each token is allowed or not, and the state after each token (project-specific notation).
 use Rattle.std.specs.Prelude.{ℕ, ◌^◌, Bool, true, false, nat_lt, ◌==◌, ◌||◌, not, if◌then◌else◌, List, [], ◌∷◌, ◌++◌, length, option_map, Option, Some, None, Result, Ok, Err}
 use Rattle.secs_item.specs.declared.format.Format.{Format}
 use Rattle.secs_item.specs.declared.format.Format.TheVariants as format
@@ -11,44 +11,44 @@ use Rattle.secs_text.specs.Token.{Token, word, quoted, less, greater, bracket, b
 use Rattle.secs_text.specs.TypeName.{format_named}
 use Rattle.secs_text.specs.Words.{number_below, signed_below, octet_of, float_of, truth_of, HeadWord, head, bad_head, no_head, head_word, is_one}
 
--- how many messages are wanted, and how deep lists may be nested
+-- The rules: whether the text may have several messages, and the maximum nesting depth of lists.
 pub record Rules : Type 0 where
   pub several : Bool
   pub depth : ℕ
 
--- a count, and the place of its `[`
+-- A count, and the offset of its `[`.
 pub record Count : Type 0 where
   pub at : ℕ
   pub number : ℕ
 
--- an item that isn't closed yet: the count that is written, and what it holds so far
+-- An unfinished item: its written count, and its content so far.
 pub record Opened : Type 0 where
   pub count : Option Count
   pub so_far : Value
 
--- what stands before an item: whole messages, its own message's head, and the open lists around it, the innermost first
+-- The context before an item: the complete messages, the head of its message, and the enclosing lists, innermost first.
 pub record Before : Type 0 where
   pub messages : List Content
   pub message : Content
   pub lists : List Opened
 
 pub data Place : Type 0 where
-  -- where a message may begin, after these
+  -- A message may begin, after these messages.
   start : List Content → Place
   after_head : List Content → Content → Place
   after_wait : List Content → Content → Place
-  -- after the `<` at this place
+  -- After the `<` at this offset.
   type_expected : Before → ℕ → Place
-  -- after the type name
+  -- After the type name.
   after_type : Before → Value → Place
-  -- after the `[` at this place
+  -- After the `[` at this offset.
   count_expected : Before → Value → ℕ → Place
   after_count : Before → Value → Count → Place
-  -- after `]` or a value
+  -- After `]` or a value.
   in_item : Before → Opened → Place
-  -- after the message's item
+  -- After the message's item.
   stop_expected : List Content → Content → Place
-  -- after the end of the text
+  -- After the end of the text.
   finished : List Content → Place
 
 abbrev pub Step : Type 0
@@ -59,7 +59,7 @@ syntax at = Err (fault.Syntax at)
 
 -- ---- values
 
--- these values and the one that the word spells, if it is one of their format
+-- The values with the one that the word represents appended, if it is of their format.
 abbrev pub with_word : Values → List ℕ → Option Values
 with_word (binary xs) w = option_map (λ x. binary (xs ++ x ∷ [])) (octet_of w)
 with_word (boolean xs) w = option_map (λ x. boolean (xs ++ x ∷ [])) (truth_of w)
@@ -77,12 +77,12 @@ with_word (u8 xs) w = option_map (λ x. u8 (xs ++ x ∷ [])) (number_below (2 ^ 
 with_word (f4 xs) w = option_map (λ x. f4 (xs ++ x ∷ [])) (float_of 4 w)
 with_word (f8 xs) w = option_map (λ x. f8 (xs ++ x ∷ [])) (float_of 8 w)
 
--- a quoted text may stand in octets of text alone
+-- The values with a quoted text appended. Only text bytes (`ascii`) allow one.
 abbrev pub with_quoted : Values → List ℕ → Option Values
 with_quoted (ascii xs) text = Some (ascii (xs ++ text))
 with_quoted v text = None
 
--- a count that is written has to be right
+-- True if no count is written, or the written count is right.
 abbrev pub is_counted : Option Count → ℕ → Bool
 is_counted None n = true
 is_counted (Some c) n = c.number == n
@@ -91,7 +91,7 @@ abbrev pub count_place : Option Count → ℕ
 count_place None = 0
 count_place (Some c) = c.at
 
--- ---- where a token leads
+-- ---- the step after a token
 
 abbrev pub is_empty : {X : Type 0} → List X → Bool
 is_empty [] = true
@@ -119,7 +119,7 @@ abbrev pub at_after_head : List Content → Content → ℕ → Token → Step
 at_after_head ms m at (word w) = if is_one 0x57 w then Ok (after_wait ms (record m { wait = true })) else syntax at
 at_after_head ms m at t = at_after_wait ms m at t
 
--- the type name of an item whose `<` stands at the first of these places
+-- The step after the type name of an item whose `<` is at the first of these offsets.
 abbrev pub after_name : Rules → Before → ℕ → ℕ → Option Format → Step
 after_name rules b opening at None = syntax at
 after_name rules b opening at (Some format.List) = if nat_lt (length b.lists) rules.depth then Ok (after_type b (list no_elements)) else Err (fault.Deep opening)
@@ -141,12 +141,12 @@ abbrev pub at_count_end : Before → Value → Count → ℕ → Token → Step
 at_count_end b v c at bracket_end = Ok (in_item b (record { count = Some c; so_far = v }))
 at_count_end b v c at t = syntax at
 
--- one more element of a list
+-- The list with one more element.
 abbrev pub with_item : Value → Value → Value
 with_item (list es) v = list (with_element es v)
 with_item (values w) v = values w
 
--- after an item's `>`: in the list around it, or in its message
+-- The state after an item's `>`: in the enclosing list, or in its message.
 abbrev pub closed : List Opened → Before → Value → Place
 closed [] b v = stop_expected b.messages (record b.message { item = Some v })
 closed (o ∷ os) b v = in_item (record b { lists = os }) (record o { so_far = with_item o.so_far v })
@@ -158,7 +158,7 @@ or_fault f b count None = Err f
 abbrev pub at_close : Before → Opened → Step
 at_close b o = if is_counted o.count (count_of o.so_far) then Ok (closed b.lists b o.so_far) else Err (fault.Count (count_place o.count))
 
--- A value of a list is an item. For the other formats each word is a value word.
+-- The step after the next token of an item. A value of a list is an item. For the other formats each word is a value.
 abbrev pub at_value : Before → Option Count → Value → ℕ → Token → Step
 at_value b count (list es) at less = Ok (type_expected (record b { lists = record { count = count; so_far = list es } ∷ b.lists }) at)
 at_value b count (values v) at (word w) = or_fault (fault.Number at) b count (with_word v w)
@@ -177,7 +177,7 @@ abbrev pub at_stop : List Content → Content → ℕ → Token → Step
 at_stop ms m at stop = Ok (start (ms ++ m ∷ []))
 at_stop ms m at t = syntax at
 
--- where a token leads from a place, or the fault of one that may not stand there
+-- The step from a state with a token: the next state, or the error of a token that is not allowed there.
 abbrev pub step : Rules → Place → ℕ → Token → Step
 step rules (start ms) at t = at_start rules ms at t
 step rules (after_head ms m) at t = at_after_head ms m at t
@@ -195,11 +195,12 @@ abbrev pub ◌>>=◌ : {A B : Type 0} → Result A TextFault → (A → Result B
 (Ok x) >>= f = f x
 (Err e) >>= f = Err e
 
--- where tokens lead from a place, or the fault of the first one that may not stand where it does
+-- The step from a state with tokens: the last state, or the error of the first token that is not allowed at its
+-- position.
 abbrev pub walk : Rules → Place → List Placed → Step
 walk rules place [] = Ok place
 walk rules place (t ∷ ts) = step rules place t.at t.token >>= (λ next. walk rules next ts)
 
--- where a text leads
+-- The result of reading a text.
 abbrev pub reading : Rules → List ℕ → Step
 reading rules text = walk rules (start []) (tokens text)

@@ -1,4 +1,4 @@
--- The one text of a message that is printed: this project's own.
+-- The printed form of a message, exactly one text. It is project-specific.
 use Rattle.std.specs.Prelude.{ℕ, ◌/◌, ◌%◌, Bool, true, false, if◌then◌else◌, List, [], ◌∷◌, ◌++◌, Option, Some, None, codes}
 use Rattle.std.specs.List.{flat_map}
 use Rattle.std.specs.Fmt.{decimal, signed_decimal, digit_glyph}
@@ -8,7 +8,7 @@ use Rattle.secs_text.specs.Content.{Content}
 use Rattle.secs_text.specs.Octets.{is_quotable}
 use Rattle.secs_text.specs.TypeName.{type_name}
 
--- two hexadecimal digits, in upper case
+-- The two hexadecimal digits of a byte, in upper case.
 abbrev pub two_digits : ℕ → List ℕ
 two_digits octet = digit_glyph true (octet / 16) ∷ digit_glyph true (octet % 16) ∷ []
 
@@ -19,23 +19,23 @@ abbrev pub truth_word : Bool → List ℕ
 truth_word true = codes "T"
 truth_word false = codes "F"
 
--- each value after a space
+-- The values, each after a space.
 abbrev pub spaced : {X : Type 0} → (X → List ℕ) → List X → List ℕ
 spaced one xs = flat_map (λ x. codes " " ++ one x) xs
 
--- An octet of text, where a quote is open or not: one that may stand between quotes stands there, every other one is a
--- word.
+-- The text of one byte, inside or outside a quote. A byte that is allowed between quotes is printed as is, every other
+-- one as a word.
 abbrev pub printed_octet : Bool → ℕ → List ℕ
 printed_octet quoted c =
     if is_quotable c then (if quoted then [] else codes " \"") ++ c ∷ []
     else (if quoted then codes "\"" else []) ++ codes " " ++ hexadecimal (c ∷ [])
 
--- Octets of text, where a quote is open or not.
+-- The text of bytes, inside or outside a quote.
 unfoldable pub printed_text : Bool → List ℕ → List ℕ
 printed_text quoted [] = if quoted then codes "\"" else []
 printed_text quoted (c ∷ cs) = printed_octet quoted c ++ printed_text (is_quotable c) cs
 
--- the word that is written for a value
+-- The word that is printed for a value.
 abbrev pub written : (s : WordEncoding) → IsEncoded s → List ℕ
 written hex_octet x = hexadecimal (x ∷ [])
 written truth_letter x = truth_word x
@@ -47,11 +47,11 @@ abbrev pub printed_values : Body → List ℕ
 printed_values (in_text octets) = printed_text false octets
 printed_values (in_words s xs) = spaced (written s) xs
 
--- `<`, type, space, count
+-- The opening: `<`, type name, space, count.
 abbrev pub printed_opening : Value → List ℕ
 printed_opening v = codes "<" ++ type_name (format_of v) ++ codes " [" ++ decimal (count_of v) ++ codes "]"
 
--- an item with this body
+-- The item with this body.
 abbrev pub printed_around : Value → List ℕ → List ℕ
 printed_around v body = printed_opening v ++ body ++ codes ">"
 

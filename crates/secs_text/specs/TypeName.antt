@@ -1,4 +1,4 @@
--- The names that the notation has for the item formats of SEMI E5: this project's own.
+-- The names that the notation gives to the item formats of SEMI E5. They are project-specific.
 use Rattle.std.specs.Prelude.{ℕ, List, [], ◌∷◌, Option, codes}
 use Rattle.std.specs.List.{find}
 use Rattle.std.specs.Str.{bytes_eq}
@@ -28,6 +28,6 @@ formats =
     format.List ∷ format.Binary ∷ format.Boolean ∷ format.Ascii ∷ format.Jis8 ∷ format.Char2
     ∷ format.I1 ∷ format.I2 ∷ format.I4 ∷ format.I8 ∷ format.U1 ∷ format.U2 ∷ format.U4 ∷ format.U8 ∷ format.F4 ∷ format.F8 ∷ []
 
--- the format that a word names
+-- The format that a word names.
 unfoldable pub format_named : List ℕ → Option Format
 format_named w = find (λ f. bytes_eq (type_name f) w) formats

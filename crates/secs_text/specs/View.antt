@@ -1,4 +1,4 @@
--- What a message stands for (SEMI E5, section 6).
+-- The value that a message represents (SEMI E5, section 6).
 use Rattle.std.specs.Prelude.{List, map, option_map}
 use Rattle.secs_item.specs.Item.{view}
 use Rattle.secs_text.specs.Content.{Content}

@@ -1,4 +1,4 @@
--- What words of the notation spell: this project's own.
+-- The values that words of the notation represent. They are project-specific.
 use Rattle.std.specs.Prelude.{ℕ, ℤ, pos, negsuc, ◌+◌, ◌-◌, ◌*◌, Bool, true, false, ◌&&◌, ◌||◌, not, ◌==◌, nat_le, nat_lt, if◌then◌else◌, List, [], ◌∷◌, take, drop, length, Option, Some, None, option_map, option_and_then}
 use Rattle.std.specs.List.{list_all, prefix_len}
 use Rattle.std.specs.Str.Parse.{digits_value}
@@ -6,20 +6,21 @@ use Rattle.secs_text.specs.Octets.{is_digit}
 
 -- ---- numbers
 
--- `0`, or a digit 1 to 9 and any digits
+-- True for `0`, or for a digit 1 to 9 and any digits.
 abbrev pub is_numeral : List ℕ → Bool
 is_numeral [] = false
 is_numeral (c ∷ cs) = list_all is_digit (c ∷ cs) && (not (c == 0x30) || (length cs == 0))
 
--- the number that a word spells, if it is below the limit
+-- The number that a word represents, if it is below the limit.
 unfoldable pub number_below : ℕ → List ℕ → Option ℕ
 number_below limit w = if is_numeral w && nat_lt (digits_value 10 w) limit then Some (digits_value 10 w) else None
 
--- the negative number after a `-`
+-- The negative number after a `-`.
 abbrev pub negative_of : ℕ → Option ℤ
 negative_of n = if n == 0 then None else Some (negsuc (n - 1))
 
--- the number that a word spells, if it is at least `-half` and below `half`; `-` may stand before a number other than 0
+-- The number that a word represents, if it is at least `-half` and below `half`. A `-` may precede a number other than
+-- 0.
 unfoldable pub signed_below : ℕ → List ℕ → Option ℤ
 signed_below half [] = None
 signed_below half (c ∷ cs) =
@@ -28,7 +29,7 @@ signed_below half (c ∷ cs) =
 
 -- ---- hexadecimal
 
--- the value of a hexadecimal digit, of either case
+-- The value of a hexadecimal digit, of either case.
 abbrev pub hex_digit : ℕ → Option ℕ
 hex_digit c =
     if is_digit c then Some (c - 0x30) else
@@ -39,7 +40,7 @@ abbrev pub octet_from : Option ℕ → Option ℕ → Option ℕ
 octet_from (Some high) (Some low) = Some (16 * high + low)
 octet_from high low = None
 
--- the octet that two digits spell
+-- The byte that two digits represent.
 abbrev pub octet_of_digits : ℕ → ℕ → Option ℕ
 octet_of_digits high low = octet_from (hex_digit high) (hex_digit low)
 
@@ -47,13 +48,13 @@ abbrev pub octet_then : Option ℕ → Option (List ℕ) → Option (List ℕ)
 octet_then (Some octet) (Some octets) = Some (octet ∷ octets)
 octet_then octet octets = None
 
--- the octets that pairs of hexadecimal digits spell
+-- The bytes that pairs of hexadecimal digits represent.
 abbrev pub hex_octets : List ℕ → Option (List ℕ)
 hex_octets [] = Some []
 hex_octets (high ∷ []) = None
 hex_octets (high ∷ low ∷ digits) = octet_then (octet_of_digits high low) (hex_octets digits)
 
--- the octets that a word spells: `0x`, and two digits for each
+-- The bytes that a word represents: `0x`, and two digits for each byte.
 unfoldable pub octets_of : List ℕ → Option (List ℕ)
 octets_of (o ∷ x ∷ digits) = if (o == 0x30) && (x == 0x78) then hex_octets digits else None
 octets_of w = None
@@ -62,15 +63,15 @@ abbrev pub only : List ℕ → Option ℕ
 only (octet ∷ []) = Some octet
 only octets = None
 
--- the one octet that a word spells
+-- The one byte that a word represents.
 unfoldable pub octet_of : List ℕ → Option ℕ
 octet_of w = option_and_then only (octets_of w)
 
--- these octets, if they are so many
+-- These bytes, if there are `size` of them.
 abbrev pub sized : ℕ → List ℕ → Option (List ℕ)
 sized size octets = if length octets == size then Some octets else None
 
--- the float of so many octets that a word spells
+-- The float of `size` bytes that a word represents.
 unfoldable pub float_of : ℕ → List ℕ → Option (List ℕ)
 float_of size w = option_and_then (sized size) (octets_of w)
 
@@ -80,15 +81,15 @@ abbrev pub is_one : ℕ → List ℕ → Bool
 is_one c (d ∷ []) = d == c
 is_one c w = false
 
--- `T` or `F`
+-- The truth value of `T` or `F`.
 unfoldable pub truth_of : List ℕ → Option Bool
 truth_of w = if is_one 0x54 w then Some true else (if is_one 0x46 w then Some false else None)
 
--- what a word is where a head is wanted
+-- The result of reading a word as a head.
 pub data HeadWord : Type 0 where
-  -- `S` digits `F` digits, with both numbers right
+  -- `S` digits `F` digits, with both numbers valid.
   head : ℕ → ℕ → HeadWord
-  -- with a number that is out of range, or that has a leading zero
+  -- A number is out of range or has a leading zero.
   bad_head : HeadWord
   no_head : HeadWord
 

@@ -1,4 +1,4 @@
-//! A block of octets on their way to an output.
+//! A block that buffers bytes for an output.
 
 ghost use Rattle.std.specs.Prelude.{◌≡◌, ◌≤◌, ◌+◌, ◌++◌, ℕ, List, [], length, take, IfOk};
 ghost use Rattle.secs_text.specs.BlockOutput.{IsPlace, AppendsBytes, Puts};
@@ -7,24 +7,24 @@ use crate::block_copy::{append_slice, append_word};
 use std::alloc::{AllocError, Global};
 use std::marker::Model;
 
-/// How many octets a block holds.
+/// The size of a block in bytes.
 const SIZE: usize = 65536;
 
-/// How many octets of a block are free once there is room: enough for the words of as many octets as are laid at a
-/// time, and for what stands before and behind them.
+/// The free space of a block in bytes once `room` has returned. It is enough for the words of the bytes that are
+/// printed at a time, and for the text before and after them.
 const FREE: usize = 24704;
 
-/// Where octets go, one slice after another. An output that can fail keeps its failure, for its owner to ask for.
+/// An output that accepts slices of bytes in order. An output that can fail keeps its error, and its owner queries it.
 pub trait Output {
-    /// Holds of the octets that it was given. An output that can't tell them may have it hold of none.
+    /// Holds of the bytes passed to the output. An output that does not record them may define it to hold of no bytes.
     ghost Given: { Self → List ℕ → Type 0 };
 
-    /// Takes octets.
+    /// Accepts bytes.
     fn give(&mut self, octets: &[u8])
         ensures { (given : List ℕ) → Given self.old given → Given self.new (given ++ octets.now) };
 }
 
-/// Octets that weren't given to an output yet, at most 65,536. Contracts see them as a list.
+/// At most 65,536 bytes that were not passed to an output yet. Contracts see them as a list.
 #[derive(Drop)]
 pub struct Block {
     pub(crate) octets: Vec<u8>,
@@ -40,11 +40,11 @@ impl Model for Block {
 }
 
 impl Block {
-    /// A block with no octets.
+    /// Creates an empty block.
     ///
     /// # Errors
     ///
-    /// Where there is no memory.
+    /// Returns an error if the allocation fails.
     pub fn new(alloc: Global) -> Result<Block, AllocError>
         ensures { IfOk result (λ block. block ≡ []) }
     {
@@ -52,14 +52,14 @@ impl Block {
         Ok(Block { octets, used: 0 })
     }
 
-    /// Its octets.
+    /// Returns the bytes in the block.
     pub fn as_slice(&self) -> &[u8]
         ensures { result.now ≡ self.now }
     {
         &self.octets[..self.used]
     }
 
-    /// Lays octets behind its own. Where there is no room for them, an output is given its own first.
+    /// Appends bytes. If they do not fit, passes the block's bytes to `out` first.
     #[inline(always)]
     pub fn append_chunk<O: Output>(&mut self, out: &mut O, octets: &[u8])
         ensures { AppendsBytes (O.Given out.old) self.old (O.Given out.new) self.new octets.now }
@@ -71,7 +71,7 @@ impl Block {
         }
     }
 
-    /// Lays the octets of an array, as [`append_chunk`](Block::lay) does, by loads and stores of its size.
+    /// Appends the bytes of an array, as [`append_chunk`](Block::append_chunk) does, with loads and stores of its size.
     #[inline(always)]
     pub fn append_array<const N: usize, O: Output>(&mut self, out: &mut O, octets: &[u8; N])
         ensures { AppendsBytes (O.Given out.old) self.old (O.Given out.new) self.new octets.now }
@@ -83,7 +83,7 @@ impl Block {
         }
     }
 
-    // Gives an output all octets, and then these.
+    // Passes the block's bytes to the output, and then these bytes.
     #[cold]
     #[inline(never)]
     fn write_after<O: Output>(&mut self, out: &mut O, octets: &[u8])
@@ -93,14 +93,14 @@ impl Block {
         out.give(octets);
     }
 
-    /// Lets its octets go.
+    /// Drops the block's bytes.
     pub fn clear(&mut self)
         ensures { self.new ≡ [] }
     {
         self.used = 0;
     }
 
-    /// Gives an output all octets.
+    /// Passes the block's bytes to an output and empties the block.
     pub fn give_all<O: Output>(&mut self, out: &mut O)
         ensures given { (given : List ℕ) → O.Given out.old given → O.Given out.new (given ++ self.old) }
         ensures none_left { self.new ≡ [] }
@@ -110,7 +110,7 @@ impl Block {
     }
 }
 
-/// Gives an output what stands in a block up to a place.
+/// Passes the bytes of a block before an offset to an output.
 #[cold]
 #[inline(never)]
 fn give_front<O: Output>(out: &mut O, block: &[u8], at: usize)
@@ -120,8 +120,8 @@ fn give_front<O: Output>(out: &mut O, block: &[u8], at: usize)
     out.give(&block[..at]);
 }
 
-/// Where octets can be laid into a block: behind what is laid, or, where too little is free, at its front, once the
-/// output was given what was laid.
+/// Returns the offset at which bytes can be written to a block: `at`, or 0 if too little is free. In the second case it
+/// first passes the bytes before `at` to the output.
 #[inline(always)]
 #[tactic(auto, using(crate::proofs::Blocks::puts_nothing, crate::proofs::Blocks::puts_given))]
 pub fn room<O: Output>(out: &mut O, block: &[u8], at: usize) -> usize

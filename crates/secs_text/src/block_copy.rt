@@ -1,5 +1,5 @@
-//! Laying words into a block of octets. A word is copied by one load and one store of a fixed size, of which only the
-//! first octets count.
+//! Functions that write words to a block of bytes. A word is copied with one load and one store of a fixed size, of
+//! which only the first bytes count.
 
 ghost use Rattle.std.specs.Prelude.{◌+◌, ◌≤◌, ◌<◌, ◌++◌, [], ◌∷◌, length, take, codes};
 ghost use Rattle.std.specs.Fmt.{decimal};
@@ -10,7 +10,7 @@ use crate::word_tables::{NUMBERS, WORDS};
 use itoa::{Buffer, Integer};
 use std::simd::Simd;
 
-/// Lays one octet.
+/// Appends one byte.
 #[inline(always)]
 pub fn append_byte(block: &mut [u8], at: usize, octet: u8) -> usize
     requires { at < length block.old }
@@ -20,7 +20,7 @@ pub fn append_byte(block: &mut [u8], at: usize, octet: u8) -> usize
     at + 1
 }
 
-/// Lays some octets.
+/// Appends bytes.
 #[inline(always)]
 pub fn append_slice(block: &mut [u8], at: usize, octets: &[u8]) -> usize
     requires { at + length octets.now ≤ length block.old }
@@ -31,7 +31,8 @@ pub fn append_slice(block: &mut [u8], at: usize, octets: &[u8]) -> usize
     end
 }
 
-/// Lays the first octets of a word, which stands at the front. What stands behind them may change, up to `N` octets.
+/// Appends the first `count` bytes of a word, which begins at the start of `word`. The bytes after them may change, up
+/// to `N` bytes in all.
 #[inline(always)]
 pub fn append_word<const N: usize>(block: &mut [u8], at: usize, word: &[u8], count: usize) -> usize
     requires room { at + N ≤ length block.old }
@@ -44,7 +45,7 @@ pub fn append_word<const N: usize>(block: &mut [u8], at: usize, word: &[u8], cou
     at + count
 }
 
-/// Lays an octet in hexadecimal, after a space.
+/// Appends a byte in hexadecimal, after a space.
 #[inline(always)]
 pub fn append_octet(block: &mut [u8], at: usize, octet: u8) -> usize
     requires { at + 8 ≤ length block.old }
@@ -55,7 +56,7 @@ pub fn append_octet(block: &mut [u8], at: usize, octet: u8) -> usize
     append_word::<8>(block, at, word, 5)
 }
 
-/// Lays the two digits of an octet in hexadecimal.
+/// Appends the two hexadecimal digits of a byte.
 #[inline(always)]
 pub fn append_digits(block: &mut [u8], at: usize, octet: u8) -> usize
     requires { at + 2 ≤ length block.old }
@@ -66,7 +67,7 @@ pub fn append_digits(block: &mut [u8], at: usize, octet: u8) -> usize
     append_word::<2>(block, at, digits, 2)
 }
 
-/// Lays a number below 256.
+/// Appends a number below 256.
 #[inline(always)]
 pub fn append_small(block: &mut [u8], at: usize, number: u8) -> usize
     requires { at + 4 ≤ length block.old }
@@ -77,7 +78,7 @@ pub fn append_small(block: &mut [u8], at: usize, number: u8) -> usize
     append_word::<4>(block, at, word, usize::from(word[3]))
 }
 
-/// Lays the two digits of a number below 100.
+/// Appends the two digits of a number below 100.
 #[inline(always)]
 fn append_pair(block: &mut [u8], at: usize, number: u64) -> usize
     requires small { number < 100 }
@@ -89,7 +90,7 @@ fn append_pair(block: &mut [u8], at: usize, number: u64) -> usize
     append_word::<2>(block, at, pair, 2)
 }
 
-/// Lays a number below 25,600.
+/// Appends a number below 25,600.
 #[inline(always)]
 fn append_hundreds(block: &mut [u8], at: usize, number: u64) -> usize
     requires small { number < 25600 }
@@ -104,7 +105,7 @@ fn append_hundreds(block: &mut [u8], at: usize, number: u64) -> usize
     append_pair(block, at, number % 100)
 }
 
-/// Lays a number below 2,560,000.
+/// Appends a number below 2,560,000.
 #[inline(always)]
 fn append_ten_thousands(block: &mut [u8], at: usize, number: u64) -> usize
     requires small { number < 2560000 }
@@ -119,7 +120,7 @@ fn append_ten_thousands(block: &mut [u8], at: usize, number: u64) -> usize
     append_pair(block, at, number % 100)
 }
 
-/// Lays a number that is not negative.
+/// Appends a number that is not negative.
 #[inline(always)]
 pub fn append_natural(block: &mut [u8], at: usize, number: u64) -> usize
     requires { at + 40 ≤ length block.old }
@@ -136,7 +137,7 @@ pub fn append_natural(block: &mut [u8], at: usize, number: u64) -> usize
     append_pair(block, at, number % 100)
 }
 
-/// Lays a number.
+/// Appends a number.
 pub fn append_number<I: Integer>(block: &mut [u8], at: usize, number: I) -> usize
     requires { at + 40 ≤ length block.old }
     ensures appended_text { AppendsText block.old block.new at (I.text number) result }

@@ -1,4 +1,4 @@
-//! Kinds of octets.
+//! Classes of bytes.
 
 ghost use Rattle.std.specs.Prelude.{◌≡◌, ◌≤◌, ◌<◌, length, slice_index, false};
 ghost use Rattle.std.specs.List.{prefix_len, list_all};
@@ -10,7 +10,7 @@ fn is_white(octet: u8) -> bool
     matches!(octet, b' ' | b'\t' | b'\r' | b'\n')
 }
 
-// A table by octet: each octet that may stand in a word is at its own place, and a point at every other place.
+// A table indexed by byte. A byte that is allowed in a word has itself as its entry; every other entry is a dot.
 static OF_WORD: [u8; 256] = *b"\
     ................................\
     .............-..0123456789......\
@@ -34,7 +34,7 @@ pub fn is_quotable(octet: u8) -> bool
     matches!(octet, b' '..=b'~') && octet != b'"'
 }
 
-/// How many octets at the front are white space.
+/// Returns the number of white-space bytes at the start.
 #[inline(always)]
 #[tactic(auto, using(crate::proofs::Prefixes::front_of_one))]
 pub fn white_length(octets: &[u8]) -> usize
@@ -48,7 +48,7 @@ pub fn white_length(octets: &[u8]) -> usize
     }
 }
 
-/// The same, whatever number it is.
+/// Returns the number of white-space bytes at the start, without a fast path for small numbers.
 #[inline(never)]
 #[tactic(auto, using(crate::proofs::Prefixes::front_ends, crate::proofs::Prefixes::front_is_whole))]
 fn long_white_length(octets: &[u8]) -> usize
@@ -64,7 +64,7 @@ fn long_white_length(octets: &[u8]) -> usize
     octets.len()
 }
 
-/// How many octets at the front may stand in a word.
+/// Returns the number of bytes at the start that are allowed in a word.
 #[tactic(auto, using(crate::proofs::Prefixes::front_ends, crate::proofs::Prefixes::front_is_whole))]
 pub fn word_length(octets: &[u8]) -> usize
     ensures length { result ≡ prefix_len is_of_word octets.now }
@@ -84,7 +84,7 @@ pub fn is_digit(octet: u8) -> bool
     matches!(octet, b'0'..=b'9')
 }
 
-/// Whether all octets are digits.
+/// Returns true if all bytes are digits.
 pub fn all_digits(octets: &[u8]) -> bool
     ensures { result ≡ list_all is_digit octets.now }
 {

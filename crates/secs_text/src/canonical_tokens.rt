@@ -1,4 +1,5 @@
-//! Fast paths for tokens in canonical spacing: several are read at once where they stand as `print` writes them.
+//! Fast paths for tokens in canonical spacing: several tokens are read at once if they are spaced as `print` writes
+//! them.
 
 ghost use Rattle.std.specs.Prelude.{◌≡◌, ◌≤◌, ◌<◌, ◌+◌, length, true, false, Some, IfSome, IfNone, OnSome};
 ghost use Rattle.secs_text.specs.CanonicalTokens.{IsOpening, IsWait, IsHead, NamesType, IsCounted, IsSmall, IsLettered};
@@ -12,7 +13,8 @@ use crate::type_name::format_named;
 use crate::word::{leading_number, number_of_digits};
 use secs_item::Format;
 
-/// A type name of one or two octets at the front, and how many it has. A space and a `[` stand behind it.
+/// Returns the format of a type name of one or two bytes at the start, and the length of the name. Returns `None`
+/// unless a space and a `[` follow it.
 #[inline(always)]
 fn name_front(octets: &[u8]) -> Option<(Format, usize)>
     ensures names { IfSome result (λ n. NamesType n.0 n.1 octets.now) }
@@ -25,7 +27,7 @@ fn name_front(octets: &[u8]) -> Option<(Format, usize)>
     }
 }
 
-/// The number that digits at the front spell, and how many they are. A `]` stands behind them.
+/// Returns the number in the digits at the start, and the number of digits. Returns `None` unless a `]` follows them.
 #[inline(always)]
 fn count_front(octets: &[u8]) -> Option<(u64, usize)>
     ensures counts { IfSome result (λ n. IsCounted n.0 n.1 octets.now) }
@@ -37,7 +39,7 @@ fn count_front(octets: &[u8]) -> Option<(u64, usize)>
     }
 }
 
-/// The same, whatever number of digits it is.
+/// Does the work of `count_front` for any number of digits.
 #[inline(never)]
 fn long_count_front(octets: &[u8]) -> Option<(u64, usize)>
     ensures counts { IfSome result (λ n. IsCounted n.0 n.1 octets.now) }
@@ -52,7 +54,8 @@ fn long_count_front(octets: &[u8]) -> Option<(u64, usize)>
     Some((number, size))
 }
 
-/// Takes a type name and the count behind it, if the name has one or two octets, and both stand as they are printed.
+/// Consumes a type name and the count after it. Returns `None` unless the name has one or two bytes and both are spaced
+/// as they are printed.
 #[inline(always)]
 pub fn next_opening(tokens: &mut Tokens) -> Option<(Format, Count)>
     ensures taken { IfSome result (λ o. IsOpening o.0 o.1 (left tokens.old) (left tokens.new)) }
@@ -68,7 +71,7 @@ pub fn next_opening(tokens: &mut Tokens) -> Option<(Format, Count)>
     Some((format, Count { at, number }))
 }
 
-/// Takes a `W` that stands behind one space.
+/// Consumes a `W` after one space. Returns true if there was one.
 #[inline(always)]
 pub fn next_wait(tokens: &mut Tokens) -> bool
     ensures taken { result ≡ true → IsWait (left tokens.old) (left tokens.new) }
@@ -86,7 +89,8 @@ pub fn next_wait(tokens: &mut Tokens) -> bool
     true
 }
 
-/// The number that one or two digits at the front spell, and how many they are. No digit is behind them.
+/// Returns the number in one or two digits at the start, and the number of digits. Returns `None` if another digit
+/// follows.
 #[inline(always)]
 fn small_number(octets: &[u8]) -> Option<(u8, usize)>
     ensures small { IfSome result (λ n. IsSmall n.0 n.1 octets.now) }
@@ -102,7 +106,7 @@ fn small_number(octets: &[u8]) -> Option<(u8, usize)>
     }
 }
 
-/// The number that one or two digits spell behind a letter at the front, and how many octets it has with the letter.
+/// Returns the number in one or two digits after a letter at the start, and the length of letter and digits in bytes.
 #[inline(always)]
 fn lettered_number(letter: u8, octets: &[u8]) -> Option<(u8, usize)>
     ensures lettered { IfSome result (λ n. IsLettered letter n.0 n.1 octets.now) }
@@ -116,7 +120,7 @@ fn lettered_number(letter: u8, octets: &[u8]) -> Option<(u8, usize)>
     Some((number, size + 1))
 }
 
-/// Takes the head of a message, if its stream and function have one or two digits each.
+/// Consumes the head of a message. Returns `None` unless its stream and function have one or two digits each.
 #[inline(always)]
 pub fn next_head(tokens: &mut Tokens) -> Option<(u8, u8)>
     ensures taken { IfSome result (λ h. IsHead h.0 h.1 (left tokens.old) (left tokens.new)) }

@@ -1,4 +1,4 @@
-//! Why a text is no message.
+//! The reasons why a text is not a message.
 
 ghost use Rattle.std.specs.Prelude.{◌≡◌};
 ghost use Rattle.secs_text.specs.declared.fault.TextFault.TheVariants.{Memory};
@@ -6,25 +6,24 @@ ghost use Rattle.secs_text.specs.declared.fault.TextFault.TheVariants.{Memory};
 use std::alloc::{AllocError, AllocFailed};
 use thiserror::Error;
 
-/// Why a text is no message: its first token that may not stand where it does. `at` is the place of
-/// that token's first octet, counted in octets from 0, or for a token that is missing the length of
-/// the text.
+/// The reason why a text is not a message: its first token that is not allowed at its position. `at` is the byte offset
+/// of the token's first byte, counted from 0. For a missing token it is the length of the text.
 #[derive(Clone, Copy, Debug, PartialEq, Eq, Error)]
 pub enum TextFault {
-    /// A token that can't stand there, an octet that begins no token or may not stand in a quoted
-    /// text, or no closing quote.
+    /// A token that is not allowed at its position, a byte that begins no token or is invalid in a quoted text, or a
+    /// missing closing quote.
     #[error("unexpected at {at}")]
     Syntax { at: usize },
-    /// A word of the right place and the wrong value: of an item, a head or a count.
+    /// A word at a valid position with an invalid value: in an item, a head or a count.
     #[error("no such value at {at}")]
     Number { at: usize },
-    /// A count that isn't right, told with the place of its `[`.
+    /// A wrong count. `at` is the offset of its `[`.
     #[error("wrong count at {at}")]
     Count { at: usize },
-    /// A list with no depth left, told with the place of its `<`.
+    /// A list that exceeds the maximum depth. `at` is the offset of its `<`.
     #[error("nested too deep at {at}")]
     Deep { at: usize },
-    /// Memory was refused.
+    /// An allocation failed.
     #[error("out of memory")]
     Memory,
 }

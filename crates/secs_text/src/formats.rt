@@ -1,4 +1,4 @@
-//! Formats whose values are single words: how a value's octets are printed, and how a word is parsed onto octets.
+//! Formats whose values are single words: printing the bytes of a value, and parsing a word to bytes.
 
 ghost use Rattle.std.specs.Prelude.{◌≡◌, ◌≤◌, ◌<◌, ◌-◌, ◌+◌, ◌*◌, ◌^◌, ◌++◌, ℕ, List, [], ◌∷◌, Option, true, length, codes, option_map, IfSome};
 ghost use Rattle.std.specs.Fmt.{decimal, signed_decimal};
@@ -16,38 +16,38 @@ use crate::block_copy::{
 use crate::word::{float_of, number_at_most, octet_of_digits, signed_at_most};
 use byteorder::{BigEndian, ByteOrder};
 
-/// A format whose values are single words, each for `N` octets.
+/// A format whose values are single words, each for `N` bytes.
 pub trait WordFormat<const N: usize> {
-    /// The word that is printed for the value that these octets are.
+    /// The word printed for the value of these bytes.
     ghost printed: { List ℕ → List ℕ };
 
-    /// The octets of the value that a word spells, if it spells one.
+    /// The bytes of the value that a word represents, if it represents one.
     ghost encoded_bytes: { List ℕ → Option (List ℕ) };
 
-    /// Lays the word of a value, after a space.
+    /// Appends the word of a value, after a space.
     fn append_chunk(block: &mut [u8], at: usize, octets: &[u8; N]) -> usize
         requires width { is_width N ≡ true }
         requires room { at + 48 ≤ length block.old }
         ensures appended_text { AppendsText block.old block.new at (codes " " ++ printed octets.now) result }
         ensures near { result ≤ at + 48 };
 
-    /// The octets of the value that a word spells, if it spells one.
+    /// Returns the bytes of the value that a word represents. Returns `None` if it represents none.
     fn parse(word: &[u8]) -> Option<[u8; N]>
         requires { is_width N ≡ true }
         ensures { result ≡ encoded_bytes word.now };
 }
 
-/// A format whose values are single octets, each spelled by a word that has `N` octets with the space before it.
+/// A format whose values are single bytes. Each is represented by a word that has `N` bytes with the space before it.
 pub trait ShortWord<const N: usize> {
-    /// The octets of the value that a word spells, if it spells one.
+    /// The bytes of the value that a word represents, if it represents one.
     ghost reads: { List ℕ → Option (List ℕ) };
 
-    /// The octet that a word spells, which stands behind its space.
+    /// Returns the byte that the word after the space represents. Returns `None` if it represents none.
     fn read(text: &[u8; N]) -> Option<u8>
         ensures { IfSome result (λ octet. IsShortWord reads octet text.now) };
 }
 
-/// Octets of any meaning, characters of JIS-8, and two-octet characters octet by octet: in hexadecimal.
+/// Bytes of any meaning, JIS-8 characters, and two-byte characters as single bytes: in hexadecimal.
 pub struct Octets;
 
 impl WordFormat<1> for Octets {
@@ -71,7 +71,7 @@ impl ShortWord<5> for Octets {
     #[inline(always)]
     fn read(text: &[u8; 5]) -> Option<u8> {
         let [space, zero, x, high, low] = *text;
-        // Behind the space, the zero and the x the first digit alone is left of the four octets.
+        // If the space, the zero and the `x` match, the first digit alone remains of the four bytes.
         let digit = u32::from_be_bytes([space, zero, x, high]).wrapping_sub(0x20_30_78_00);
         if digit > 0xff {
             return None;
@@ -116,7 +116,7 @@ impl ShortWord<2> for Truths {
     }
 }
 
-/// Numbers of `N` octets.
+/// Unsigned numbers of `N` bytes.
 pub struct Unsigned;
 
 impl<const N: usize> WordFormat<N> for Unsigned {
@@ -137,7 +137,7 @@ impl<const N: usize> WordFormat<N> for Unsigned {
     }
 }
 
-/// The signed number that octets hold.
+/// Returns the signed number in the bytes.
 #[inline(always)]
 fn signed_of<const N: usize>(octets: &[u8; N]) -> i64
     requires { is_width N ≡ true }
@@ -151,7 +151,7 @@ fn signed_of<const N: usize>(octets: &[u8; N]) -> i64
     }
 }
 
-/// Signed numbers of `N` octets.
+/// Signed numbers of `N` bytes.
 pub struct Signed;
 
 impl<const N: usize> WordFormat<N> for Signed {
@@ -177,7 +177,7 @@ impl<const N: usize> WordFormat<N> for Signed {
     }
 }
 
-/// Floating point of `N` octets, in hexadecimal.
+/// Floating-point numbers of `N` bytes, in hexadecimal.
 pub struct Floats;
 
 impl<const N: usize> WordFormat<N> for Floats {

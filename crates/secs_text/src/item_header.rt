@@ -1,4 +1,4 @@
-//! Reading the opening of an item: its type name and its count.
+//! The opening of an item: its type name and its count.
 
 ghost use Rattle.std.specs.Prelude.{◌≡◌, ◌≤◌, ◌<◌, ◌+◌, length, IfOk};
 ghost use Rattle.secs_item.specs.Item.{Value};
@@ -16,7 +16,7 @@ use crate::type_name::format_named;
 use crate::word::number;
 use secs_item::Format;
 
-/// Reads the type name after the `<` that stood at `opening`. Lists may be nested `depth` deep.
+/// Reads the type name after the `<` at offset `opening`. Lists may be nested at most `depth` deep.
 #[inline(never)]
 fn type_name(tokens: &mut Tokens, opening: usize, depth: u8) -> Result<Format, TextFault>
     ensures reads { (rules : Rules) (b : Before) → length b.lists + depth ≡ rules.depth
@@ -36,7 +36,7 @@ fn type_name(tokens: &mut Tokens, opening: usize, depth: u8) -> Result<Format, T
     }
 }
 
-/// Reads the count, if one is written.
+/// Reads the count. Returns `None` if none is written.
 #[inline(never)]
 fn optional_count(tokens: &mut Tokens) -> Result<Option<Count>, TextFault>
     ensures reads { (rules : Rules) (b : Before) (v : Value)
@@ -65,8 +65,8 @@ fn optional_count(tokens: &mut Tokens) -> Result<Option<Count>, TextFault>
     Ok(Some(Count { at, number }))
 }
 
-/// Reads the type name after the `<` that stood at `opening`, and the count, if one is written, token by token. Lists may
-/// be nested `depth` deep.
+/// Reads the type name after the `<` at offset `opening` and the count, if one is written, token by token. Lists may be
+/// nested at most `depth` deep.
 #[inline(never)]
 fn long_opening(
     tokens: &mut Tokens,
@@ -84,8 +84,8 @@ fn long_opening(
     Ok((format, count))
 }
 
-/// Reads the type name of an item whose `<` stood at `opening`, and its count, if one is written. Lists may be nested
-/// `depth` deep.
+/// Reads the type name of the item whose `<` is at offset `opening`, and its count, if one is written. Lists may be
+/// nested at most `depth` deep.
 #[inline(always)]
 pub fn format_and_count(
     tokens: &mut Tokens,
@@ -107,7 +107,7 @@ pub fn format_and_count(
     long_opening(tokens, opening, depth)
 }
 
-/// Checks a count, if one is written, against how many there are.
+/// Checks a written count against the number of values or elements. Accepts a missing count.
 pub fn check_count(count: Option<Count>, length: usize) -> Result<(), TextFault>
     ensures { Checks (count_seen count) length result }
 {

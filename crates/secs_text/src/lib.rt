@@ -1,11 +1,11 @@
 //! Messages of SEMI E5 (SECS-II) and their notation, a text form that a person can read and type:
 //! `S6F11 W <L [2] <A [2] "AB"> <U1 [2] 1 255>> .`
 //!
-//! [`print`] gives the one printed form of a message, [`read`] and [`read_all`] read every text that is
-//! the notation of messages, and tell any other text's fault with its place. With no message made,
-//! [`print_text`] prints one from the octets of its text, and [`encode_texts`] reads messages onto octets.
+//! [`print`] returns the printed form of a message. [`read`] and [`read_all`] read every text that is the notation of
+//! messages, and return an error with its offset for any other text. Without building a message, [`print_text`] prints
+//! one from the bytes of its message text, and [`encode_texts`] encodes messages from their notation to bytes.
 //!
-//! A text is read as one message or as several, and a message is printed:
+//! In this example a text is read as one message or as several, and a message is printed:
 //!
 //! ```
 //! let message = read(alloc, b"S6F11 W <L <A \"AB\"> <U1 1 255>> .", 32)?;

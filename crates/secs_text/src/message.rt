@@ -4,8 +4,8 @@ ghost use Rattle.std.specs.Prelude.{◌≡◌, ◌<◌, option_map};
 
 use secs_item::Item;
 
-/// A message of SEMI E5: its stream (below 128) and function, whether a reply is wanted (the W bit), and
-/// perhaps an item.
+/// A message of SEMI E5: its stream (below 128) and function, whether it requests a reply (the W bit), and an optional
+/// item.
 #[derive(Debug)]
 pub struct Message {
     stream: u8,
@@ -15,7 +15,7 @@ pub struct Message {
     ghost stream_in_range: { stream < 128 },
 }
 
-// Written out: a proof over one that is dropped has one step for it, not one for each format of an item.
+// Written out so that a proof has one step for a dropped value, not one for each format of an item.
 impl Drop for Message {
     fn drop(self) {
         let Message {
@@ -32,7 +32,7 @@ impl Message {
     ghost use Rattle.secs_item.specs.Item.{view};
     ghost use Rattle.secs_text.specs.View.{content};
 
-    /// The message of these parts.
+    /// Creates a message from its parts.
     pub fn new(stream: u8, function: u8, wait: bool, item: Option<Item>) -> Message
         requires { stream < 128 }
         ensures { content result ≡ record { stream = stream; function = function; wait = wait; item = option_map view item } }
@@ -45,7 +45,7 @@ impl Message {
         }
     }
 
-    /// The stream, 0 to 127.
+    /// Returns the stream, 0 to 127.
     pub fn stream(&self) -> u8
         ensures value { result ≡ (content self.now).stream }
         ensures in_range { result < 128 }
@@ -53,21 +53,21 @@ impl Message {
         self.stream
     }
 
-    /// The function, 0 to 255. Odd functions are primaries.
+    /// Returns the function, 0 to 255. Odd functions are primaries.
     pub fn function(&self) -> u8
         ensures { result ≡ (content self.now).function }
     {
         self.function
     }
 
-    /// Whether a reply is wanted: the W bit.
+    /// Returns true if the message requests a reply: the W bit.
     pub fn wait(&self) -> bool
         ensures { result ≡ (content self.now).wait }
     {
         self.wait
     }
 
-    /// The item, if there is one.
+    /// Returns the item. Returns `None` if the message has no item.
     pub fn item(&self) -> Option<&Item>
         ensures { option_map (λ i. view i.now) result ≡ (content self.now).item }
     {

@@ -1,4 +1,4 @@
-//! Reading messages from notation straight onto octets.
+//! Encoding of messages from their notation straight to bytes.
 
 mod items;
 mod runs;
@@ -25,28 +25,29 @@ use crate::token::Token;
 use crate::tokens::Tokens;
 use std::alloc::{AllocError, Global};
 
-/// What takes messages, one after another.
+/// A receiver of messages, which accepts them in order.
 pub trait Receiver {
-    /// What stays as it is while it takes messages.
+    /// The part that stays unchanged while the receiver accepts messages.
     type Kept;
 
-    /// Holds of what stays and of the messages that it was given. A receiver that can't tell them may have it hold of
-    /// none.
+    /// Holds of the unchanged part and of the messages passed to the receiver. A receiver that does not record them may
+    /// define it to hold of none.
     ghost Given: { Self.Kept → Self → List Content → Type 0 };
 
-    /// Takes the next message: its head, and its text in the fewest octets, which is empty where the message has no
-    /// item. `None` says that the item has no octets: a body or a list of it is more than three length octets hold.
+    /// Accepts the next message: its head, and its text in the fewest bytes. The text is empty if the message has no
+    /// item. It is `None` if the item has no encoding: three length bytes cannot hold the length of one of its bodies
+    /// or lists.
     ///
     /// # Errors
     ///
-    /// Where there is no memory.
+    /// Returns an error if an allocation fails.
     fn take(&mut self, head: Head, text: Option<&[u8]>) -> Result<(), AllocError>
         requires { head.stream < 128 }
         ensures { OnOk result ((kept : Self.Kept) (item : Option Value) (given : List Content) → IsEncoded item text.entry
             → Given kept self.old given → Given kept self.new (given ++ headed_by head item ∷ [])) };
 }
 
-/// Reads the stream and function of the next message, if there is one.
+/// Reads the stream and function of the next message. Returns `None` if the text has ended.
 #[inline(always)]
 fn next_name(tokens: &mut Tokens) -> Result<Option<(u8, u8)>, TextFault>
     ensures reads { (depth : ℕ) (ms : List Content)
@@ -64,8 +65,8 @@ fn next_name(tokens: &mut Tokens) -> Result<Option<(u8, u8)>, TextFault>
     Ok(Some(head(next)?))
 }
 
-/// Reads a message whose stream and function were read, and adds its text. Lists may be nested `depth` deep. Gives its
-/// head, and whether its item has octets.
+/// Reads the rest of a message after its stream and function, and appends its text. Lists may be nested at most `depth`
+/// deep. Returns the head, and whether the item has an encoding.
 fn message(
     out: &mut Vec<u8>,
     tokens: &mut Tokens,
@@ -96,7 +97,7 @@ fn message(
     }
 }
 
-/// Gives a receiver the messages of a text, place by place.
+/// Passes the messages of a text to a receiver, following the parser states.
 fn encode_several<R: Receiver>(
     alloc: Global,
     text: &[u8],
@@ -118,15 +119,15 @@ fn encode_several<R: Receiver>(
     }
 }
 
-/// Gives a receiver the messages that a text is the notation of, one after another, each with the shortest octets of
-/// its item; no message of a text of white space. Lists may be nested `depth` deep, at most 100.
+/// Passes the messages of a text to a receiver in order, each with the shortest encoding of its item. A text of white
+/// space has no messages. Lists may be nested at most `depth` deep, and `depth` is at most 100.
 ///
-/// Beside what the receiver takes, it takes memory for the octets of one message at a time.
+/// It allocates memory for the bytes of one message at a time, in addition to what the receiver allocates.
 ///
 /// # Errors
 ///
-/// As for [`read_all`](crate::read_all); also `Memory`, where the receiver has no memory. The messages before were
-/// given.
+/// Returns the same errors as [`read_all`](crate::read_all), and `Memory` if an allocation of the receiver fails. The
+/// messages before the error were passed on.
 pub fn encode_texts<R: Receiver>(
     alloc: Global,
     text: &[u8],

@@ -1,4 +1,4 @@
-//! Printing messages: each list by its elements, each item of values by its octets.
+//! Printing of messages: each list by its elements, each item of values by its bytes.
 
 mod items;
 pub mod messages;
@@ -22,7 +22,7 @@ use crate::printing::messages::{Head, put_head, put_stop};
 use secs_item::{Format, Item, body_octets};
 use std::alloc::{AllocError, Global};
 
-/// The octets of a notation, unless memory was wanting for them.
+/// The bytes of a notation. They are complete if `is_whole` is true; otherwise an allocation failed.
 #[derive(Drop)]
 struct Collected {
     octets: Vec<u8>,
@@ -39,7 +39,7 @@ impl Output for Collected {
     }
 }
 
-/// Puts an item, after a space.
+/// Prints an item, after a space.
 fn put_tree<O: Output>(
     alloc: Global,
     out: &mut O,
@@ -63,7 +63,7 @@ fn put_tree<O: Output>(
     Ok(put_end(out, block, at))
 }
 
-/// Puts a message.
+/// Prints a message.
 fn put_message<O: Output>(
     alloc: Global,
     out: &mut O,
@@ -88,11 +88,11 @@ fn put_message<O: Output>(
     Ok(put_stop(out, block, at))
 }
 
-/// The printed form of a message, which is its notation: read again, it is that message.
+/// Returns the printed form of a message. It is the message's notation: reading it returns the message.
 ///
 /// # Errors
 ///
-/// Only `Memory`.
+/// Returns `Memory` if an allocation fails, and no other error.
 pub fn print(alloc: Global, message: &Message) -> Result<String, TextFault>
     ensures text { IfOk result (λ text. string_bytes text ≡ printed (content message.now)) }
     ensures notation { IfOk result (λ text. Notation (content message.now) (string_bytes text)) }

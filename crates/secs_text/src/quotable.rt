@@ -1,4 +1,4 @@
-//! Octets that may stand between quotes, looked at sixteen at once.
+//! A check of sixteen bytes at once for bytes that are allowed between quotes.
 
 ghost use Rattle.std.specs.Prelude.{◌≡◌, ◌≤◌, length, map, not};
 ghost use Rattle.std.specs.List.{prefix_len};
@@ -8,7 +8,8 @@ ghost use Rattle.secs_text.specs.Octets.{is_quotable};
 use crate::byte_class::is_quotable;
 use std::simd::prelude::*;
 
-/// A bit for each of sixteen octets, the lowest for the first. It is set where the octet may not stand between quotes.
+/// Returns one bit for each of sixteen bytes, the lowest for the first. A bit is set if its byte is not allowed between
+/// quotes.
 #[inline(always)]
 fn others(octets: u8x16) -> u64
     ensures { result ≡ mask_l (map (λ c. not (is_quotable c)) octets) }
@@ -17,7 +18,7 @@ fn others(octets: u8x16) -> u64
     (unprintable | octets.simd_eq(u8x16::splat(b'"'))).to_bitmask()
 }
 
-/// How many octets at the front may stand between quotes.
+/// Returns the number of bytes at the start that are allowed between quotes.
 #[inline(always)]
 pub fn quotable_length(octets: &[u8]) -> usize
     ensures length { result ≡ prefix_len is_quotable octets.now }

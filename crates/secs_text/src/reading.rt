@@ -1,4 +1,4 @@
-//! Reading messages.
+//! Reading of messages.
 
 mod items;
 
@@ -24,7 +24,7 @@ use crate::tokens::Tokens;
 use crate::word::{HeadWord, head_of};
 use std::alloc::Global;
 
-/// The stream and function that a message's first token names.
+/// Returns the stream and function that a message's first token names.
 pub fn head(first: Placed) -> Result<(u8, u8), TextFault>
     ensures reads { (rules : Rules) (ms : List Content) (ts : List math.Placed) → rules.several || is_empty ms ≡ true
         → (first.entry.token ≡ Token.End → rules.several || not (is_empty ms) ≡ false)
@@ -61,7 +61,7 @@ pub fn optional_wait<'a>(tokens: &mut Tokens<'a>) -> (bool, Placed<'a>)
     }
 }
 
-/// Reads a message whose first token was taken. Lists may be nested `depth` deep.
+/// Reads a message whose first token was consumed. Lists may be nested at most `depth` deep.
 fn message(
     alloc: Global,
     tokens: &mut Tokens,
@@ -90,7 +90,7 @@ fn message(
     Ok(message)
 }
 
-/// Reads a text that is one message, place by place.
+/// Reads a text that is one message, following the parser states.
 fn read_one(alloc: Global, text: &[u8], depth: u8) -> Result<Message, TextFault>
     ensures { Reads result (reading (one_message depth) text.now) (λ m. Ok (finished (content m ∷ []))) }
 {
@@ -104,7 +104,7 @@ fn read_one(alloc: Global, text: &[u8], depth: u8) -> Result<Message, TextFault>
     Ok(message)
 }
 
-/// Reads a text that is any number of messages, place by place.
+/// Reads a text of any number of messages, following the parser states.
 #[tactic(auto, using(crate::proofs::Views::contents_push))]
 fn read_several(alloc: Global, text: &[u8], depth: u8) -> Result<Vec<Message>, TextFault>
     ensures { Reads result (reading (any_messages depth) text.now) (λ v. Ok (finished (contents v.items))) }
@@ -120,14 +120,15 @@ fn read_several(alloc: Global, text: &[u8], depth: u8) -> Result<Vec<Message>, T
     }
 }
 
-/// The message that a text is the notation of, where lists may be nested `depth` deep, at most 100.
+/// Returns the message whose notation the text is. Lists may be nested at most `depth` deep, and `depth` is at most
+/// 100.
 ///
-/// A text that isn't one message within the depth has a fault: that of its first token that may not
-/// stand where it does.
+/// A text that is not one message within the depth has an error: that of its first token that is not allowed at its
+/// position.
 ///
 /// # Errors
 ///
-/// `Syntax`, `Number`, `Count` and `Deep` with their places, and `Memory`.
+/// Returns `Syntax`, `Number`, `Count` or `Deep` with an offset, or `Memory` if an allocation fails.
 pub fn read(alloc: Global, text: &[u8], depth: u8) -> Result<Message, TextFault>
     requires { depth ≤ 100 }
     ensures ok { IfOk result (λ m. Notation (content m) text.now × IsWithin depth (content m)) }
@@ -140,12 +141,12 @@ pub fn read(alloc: Global, text: &[u8], depth: u8) -> Result<Message, TextFault>
     read_one(alloc, text, depth)
 }
 
-/// The messages that a text is the notation of, one after another; none in a text of white space. Lists may be nested
-/// `depth` deep, at most 100.
+/// Returns the messages whose notation the text is, in order. A text of white space has none. Lists may be nested at
+/// most `depth` deep, and `depth` is at most 100.
 ///
 /// # Errors
 ///
-/// As for [`read`].
+/// Returns the same errors as [`read`].
 pub fn read_all(alloc: Global, text: &[u8], depth: u8) -> Result<Vec<Message>, TextFault>
     requires { depth ≤ 100 }
     ensures ok { IfOk result (λ v. Notations (contents v.items) text.now × AllWithin depth (contents v.items)) }

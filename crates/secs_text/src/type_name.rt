@@ -5,7 +5,7 @@ ghost use Rattle.secs_text.specs.TypeName.{type_name, format_named};
 
 use secs_item::Format;
 
-/// The format that a word names.
+/// Returns the format that a word names. Returns `None` if it names none.
 #[inline(always)]
 #[tactic(auto, unfolding(crate::specs::TypeName::format_named))]
 pub fn format_named(word: &[u8]) -> Option<Format>
@@ -32,7 +32,7 @@ pub fn format_named(word: &[u8]) -> Option<Format>
     }
 }
 
-/// What stands before the count of an item: a word, and how many octets of it count.
+/// Returns the text before the count of an item, at the start of an array, and its length in bytes.
 #[inline(always)]
 pub fn opening_word(format: Format) -> (&'static [u8; 16], usize)
     ensures text { take result.1 result.0.now ≡ codes " <" ++ type_name format ++ codes " [" }

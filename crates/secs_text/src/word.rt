@@ -1,4 +1,4 @@
-//! What words spell.
+//! The values that words represent.
 
 ghost use Rattle.std.specs.Prelude.{◌≡◌, ◌≤◌, ◌<◌, ◌+◌, ◌^◌, ◌*◌, ◌%◌, ◌==◌, ◌&&◌, if◌then◌else◌, not, true, length, take, option_and_then, Some, IfSome};
 ghost use Rattle.std.specs.List.{prefix_len, list_all};
@@ -10,7 +10,7 @@ ghost use Rattle.secs_text.specs.HeadWordView.{head_seen, IsStream};
 
 use crate::byte_class::{all_digits, is_digit};
 
-/// The digits at the front of octets: how many they are, and the number that they spell, modulo 2^64.
+/// Returns the number of digits at the start, and the number that they represent, modulo 2^64.
 #[inline(always)]
 #[tactic(auto, using(crate::proofs::Prefixes::front_ends, crate::proofs::Prefixes::front_is_whole))]
 pub fn leading_number(octets: &[u8]) -> (usize, u64)
@@ -31,7 +31,7 @@ pub fn leading_number(octets: &[u8]) -> (usize, u64)
     (octets.len(), number)
 }
 
-/// The number that a numeral of any length spells, if it is below 2^64.
+/// Returns the number that a numeral of any length represents. Returns `None` unless it is below 2^64.
 #[inline(never)]
 fn long_number(numeral: &[u8]) -> Option<u64>
     requires { is_numeral numeral.now ≡ true }
@@ -46,7 +46,8 @@ fn long_number(numeral: &[u8]) -> Option<u64>
     Some(number)
 }
 
-/// The number that digits spell, if they are a numeral and it is below 2^64. `number` is what they spell, modulo 2^64.
+/// Returns the number that digits represent. Returns `None` unless they are a numeral and the number is below 2^64.
+/// `number` is the value of the digits modulo 2^64.
 #[inline(always)]
 pub fn number_of_digits(digits: &[u8], number: u64) -> Option<u64>
     requires all { list_all is_digit digits.now ≡ true }
@@ -65,7 +66,7 @@ pub fn number_of_digits(digits: &[u8], number: u64) -> Option<u64>
     Some(number)
 }
 
-/// The number that a word spells, if it is below 2^64.
+/// Returns the number that a word represents. Returns `None` unless it is a numeral below 2^64.
 pub fn number(word: &[u8]) -> Option<u64>
     ensures { result ≡ number_below (2 ^ 64) word.now }
 {
@@ -76,7 +77,7 @@ pub fn number(word: &[u8]) -> Option<u64>
     number_of_digits(word, number)
 }
 
-/// The number that a word spells, if it is at most this.
+/// Returns the number that a word represents. Returns `None` unless it is a numeral of at most `most`.
 #[inline(always)]
 #[tactic(auto, unfolding(crate::specs::Words::number_below))]
 pub fn number_at_most(most: u64, word: &[u8]) -> Option<u64>
@@ -86,7 +87,7 @@ pub fn number_at_most(most: u64, word: &[u8]) -> Option<u64>
     number(word).filter(|n| *n <= most)
 }
 
-/// The number that a word spells, if it is at least `-most - 1` and at most `most`.
+/// Returns the number that a word represents. Returns `None` unless it is at least `-most - 1` and at most `most`.
 #[tactic(auto, unfolding(crate::specs::Words::signed_below))]
 pub fn signed_at_most(most: u64, word: &[u8]) -> Option<i64>
     requires { most < 2 ^ 63 }
@@ -107,8 +108,8 @@ pub fn signed_at_most(most: u64, word: &[u8]) -> Option<i64>
     }
 }
 
-// The value of each octet as a hexadecimal digit, and 256 for what is none: two digits of which one is 256 make more
-// than 255.
+// The value of each byte as a hexadecimal digit, and 256 for a byte that is no digit: two digits of which one is 256
+// make more than 255.
 static HEX_DIGITS: [u16; 256] = [
     256, 256, 256, 256, 256, 256, 256, 256, 256, 256, 256, 256, 256, 256, 256, 256, 256, 256, 256,
     256, 256, 256, 256, 256, 256, 256, 256, 256, 256, 256, 256, 256, 256, 256, 256, 256, 256, 256,
@@ -126,7 +127,7 @@ static HEX_DIGITS: [u16; 256] = [
     256, 256, 256,
 ];
 
-/// The octet that two hexadecimal digits spell.
+/// Returns the byte that two hexadecimal digits represent. Returns `None` if one of them is no digit.
 #[inline(always)]
 pub fn octet_of_digits(high: u8, low: u8) -> Option<u8>
     ensures { result ≡ octet_of_digits high low }
@@ -138,7 +139,7 @@ pub fn octet_of_digits(high: u8, low: u8) -> Option<u8>
     Some(number as u8)
 }
 
-/// The octets that digits spell, two digits for each, if there are as many as wanted.
+/// Returns the bytes that digits represent, two digits for each byte. Returns `None` unless there are `N` bytes.
 fn sized_octets<const N: usize>(digits: &[u8]) -> Option<[u8; N]>
     requires { N < 256 }
     ensures { result ≡ option_and_then (sized N) (hex_octets digits.now) }
@@ -153,7 +154,7 @@ fn sized_octets<const N: usize>(digits: &[u8]) -> Option<[u8; N]>
     Some(octets)
 }
 
-/// The octets of the float that a word spells.
+/// Returns the bytes of the float that a word represents. Returns `None` if it represents none.
 #[tactic(auto, unfolding(crate::specs::Words::float_of, crate::specs::Words::octets_of))]
 pub fn float_of<const N: usize>(word: &[u8]) -> Option<[u8; N]>
     requires { N < 256 }
@@ -165,16 +166,16 @@ pub fn float_of<const N: usize>(word: &[u8]) -> Option<[u8; N]>
     }
 }
 
-/// What a word is where a head is wanted.
+/// The result of reading a word as a head.
 #[derive(Clone, Copy)]
 pub enum HeadWord {
     Head(u8, u8),
-    /// With a number that is out of range, or that has a leading zero.
+    /// A number is out of range or has a leading zero.
     BadHead,
     NoHead,
 }
 
-/// What a word is whose stream and function, as they are written, aren't both right.
+/// Classifies a word whose stream and function, as they are written, are not both valid.
 #[inline(never)]
 fn wrong_head(stream: &[u8], function: &[u8]) -> HeadWord
     ensures value { head_seen result
@@ -189,7 +190,8 @@ fn wrong_head(stream: &[u8], function: &[u8]) -> HeadWord
     }
 }
 
-/// The stream whose digits stand before this, and the function. `number` is what those digits spell, modulo 2^64.
+/// Returns the head with the stream whose digits are `stream`, and the function in `rest`. `number` is the value of
+/// those digits modulo 2^64.
 #[inline(always)]
 #[tactic(auto, unfolding(crate::specs::Words::number_below))]
 fn head_of_parts(stream: &[u8], number: u64, rest: &[u8]) -> HeadWord
@@ -210,7 +212,7 @@ fn head_of_parts(stream: &[u8], number: u64, rest: &[u8]) -> HeadWord
     HeadWord::Head(stream_number as u8, function_number as u8)
 }
 
-/// The stream and function that a word names.
+/// Returns the stream and function that a word names.
 #[inline(always)]
 #[tactic(auto, unfolding(crate::specs::Words::head_word))]
 pub fn head_of(word: &[u8]) -> HeadWord

@@ -1,6 +1,6 @@
-//! Words that stand ready, one behind another.
+//! Tables of printed words of bytes and numbers.
 
-/// Octets in hexadecimal, each after a space: of each eight octets the first five.
+/// The bytes in hexadecimal, each after a space. Each entry has eight bytes, of which the first five are the word.
 pub static WORDS: [u8; 2048] = *b"\
     \x200x00    0x01    0x02    0x03    0x04    0x05    0x06    0x07   \
     \x200x08    0x09    0x0A    0x0B    0x0C    0x0D    0x0E    0x0F   \
@@ -35,7 +35,7 @@ pub static WORDS: [u8; 2048] = *b"\
     \x200xF0    0xF1    0xF2    0xF3    0xF4    0xF5    0xF6    0xF7   \
     \x200xF8    0xF9    0xFA    0xFB    0xFC    0xFD    0xFE    0xFF   ";
 
-/// Numbers in decimal: of each four octets the fourth says how many digits the number has.
+/// The numbers in decimal. Each entry has four bytes, of which the fourth is the number of digits.
 pub static NUMBERS: [u8; 1024] = *b"\
     0  \x011  \x012  \x013  \x014  \x015  \x016  \x017  \x01\
     8  \x019  \x0110 \x0211 \x0212 \x0213 \x0214 \x0215 \x02\

@@ -1,4 +1,4 @@
-//! Places and ends whose numbers are written out.
+//! Literal offsets and ends.
 
 ghost use Rattle.std.specs.Prelude.{◌<◌, ◌^◌};
 
@@ -11,7 +11,7 @@ use capture_tcp::{
 use std::alloc::{AllocError, Global};
 use std::process::Abort;
 
-// The place with this number that is nearest to a place.
+// Checks the offset with this number that is nearest to an offset.
 fn assert_nearest(rt: &impl Abort, place: u64, number: u32, want: Option<u64>)
     requires { place < 2 ^ 63 }
 {
@@ -27,10 +27,10 @@ fn numbers_that_begin_again(rt: std::rt::HostRuntime) {
     assert_nearest(&rt, 0, 2147483648, None);
 }
 
-// The number of a SYN, that of an octet, and its place.
+// The sequence numbers of a SYN and of a byte, and the byte's offset.
 const NUMBERED: &[(u32, u32, Option<u64>)] = &[(1000, 1001, Some(1)), (4294967295, 0, Some(1))];
 
-// What is acknowledged where the fifth place is known, and up to which place.
+// An acknowledgment number, if offset 5 is known, and the offset up to which it acknowledges.
 const ACKNOWLEDGED: &[(Option<u32>, Option<u64>)] = &[
     (Some(1004), Some(4)),
     (Some(999), None),
@@ -75,7 +75,7 @@ const CLOSES: Flags = Flags {
     pushed: false,
 };
 
-// Octets at a place, where five are acknowledged; and whether they only ask.
+// Bytes at an offset, if five are acknowledged, and whether they are a keep-alive.
 const ASKING: &[(u64, Flags, &[u8], bool)] = &[
     (4, PLAIN, &[0], true),
     (5, PLAIN, &[0], false),
@@ -95,10 +95,11 @@ fn octets_that_ask(rt: std::rt::HostRuntime) {
     }
 }
 
-// A packet: which end sent it, its number, its time, the number of its first octet, what it acknowledges, its octets.
+// A packet: its sender, its number, its time, the sequence number of its first byte, its acknowledgment, and its bytes.
 type Sent = (Side, u64, u64, u32, Option<u32>, &'static [u8]);
 
-// Both SYNs have the number 1000. The packet of this number resets the connection.
+// Creates a segment. Both SYNs have the sequence number 1000. The packet with the number `resets` resets the
+// connection.
 fn segment_of(sent: &Sent, resets: u64) -> Segment {
     let (from, packet, time, number, acknowledged, _) = *sent;
     Segment {
@@ -133,7 +134,7 @@ fn take_turns(turns: &mut DeliveryQueue, emitted: &mut Vec<Packet>) -> Result<()
     Ok(())
 }
 
-// The packets whose turn it was have these numbers.
+// Returns true if the delivered packets have these numbers.
 fn are_numbered(emitted: &[Packet], requested: &[u64]) -> bool {
     for (packet, number) in emitted.iter().zip(requested) {
         if packet.packet != *number {
@@ -164,7 +165,7 @@ const WAITING: &[Sent] = &[
 
 const SEVENS: &[u8] = &[7; 20];
 
-// Behind octets that wait come those before so many places: where the end is then.
+// Returns the end after the bytes before `place` arrive, if bytes after them wait.
 fn end_after(alloc: Global, place: usize) -> Result<u64, DeliveryFault> {
     let mut turns = DeliveryQueue::new(alloc, 1000, 1000);
     let mut emitted = Vec::new(alloc);
@@ -201,7 +202,7 @@ const ENDS: BothEnds = BothEnds {
     passive: 5,
 };
 
-// A packet is taken, and this one is lost.
+// Processes a packet, and checks that this one is lost.
 fn assert_lost(
     rt: &impl Abort,
     losses: &mut Losses,
@@ -221,7 +222,7 @@ fn bring_more(rt: &impl Abort, losses: &mut Losses) -> Result<(), AllocError> {
     Ok(())
 }
 
-// What packet 9 acknowledges isn't there, and 4,096 packets follow.
+// Loses what packet 9 acknowledges: it is missing, and 4,096 packets follow.
 fn lose(rt: &impl Abort, losses: &mut Losses) -> Result<(), AllocError> {
     assert_lost(rt, losses, Side::Passive, brings(8, 5), None)?;
     assert_so(rt, losses.first().is_none(), "nothing is missed");
@@ -237,8 +238,9 @@ fn loss_of_an_octet(rt: std::rt::HostRuntime) -> Result<(), AllocError> {
     lose(&rt, &mut losses)
 }
 
-// What is put or passed, or how it is looked at: a cell, whether a copy from place 1 on contradicts what is held, where so
-// many octets are acknowledged, or how many octets the front at a place has, of what is there before another one.
+// A cell to store or pass, or a check. `Cell` checks a cell. `Copy` checks whether a copy from offset 1 on contradicts
+// what is buffered, if the given number of bytes are acknowledged. `Front` checks the number of bytes of the message at
+// an offset, of what comes before another offset.
 enum Look {
     Put(u64, Flags, &'static [u8]),
     Pass(u64),
@@ -282,7 +284,7 @@ fn check_looks(
     Ok(())
 }
 
-// A SYN and the octets 7, 8 and 9, of which 8 is captured first, and again with another value.
+// A SYN and the bytes 7, 8 and 9, of which 8 is captured first, and again with another value.
 const COPIES: &[Look] = &[
     Look::Put(2, PUSHED, &[8]),
     Look::Put(0, OPENS, &[7, 0, 9]),
@@ -312,8 +314,8 @@ fn first_copies_of_octets(rt: std::rt::HostRuntime) -> Result<(), ReassemblyFaul
     Ok(())
 }
 
-// A SYN, and a message of a length of 10 whose last octet is captured later. Then lengths that no message has, 9 and
-// 2^26, and the greatest of one that can be held, of which the rest isn't there.
+// A SYN, and a message with a length of 10, whose last byte is captured later. Then lengths that no message has, 9 and
+// 2^26, and the maximum length of one that can be buffered, of which the rest is missing.
 const FRONTS: &[Look] = &[
     Look::Put(0, OPENS, &[0, 0, 0, 10, 1, 2, 3, 4, 5, 6, 7, 8, 9]),
     Look::Front(0, 14, Some(1)),
@@ -350,7 +352,7 @@ const SEPARATE: [u8; 14] = [0, 0, 0, 10, 255, 255, 0, 0, 0, 9, 0, 0, 0, 2];
 
 const LINKTEST: [u8; 14] = [0, 0, 0, 10, 255, 255, 0, 0, 0, 5, 0, 0, 0, 3];
 
-// A message by its SType, 100 where a connection comes up, 200 where it goes down.
+// Returns a message's SType, 100 if the connection is established, 200 if it is closed.
 fn kind_of(event: &Event) -> u8 {
     match event {
         Event::Up => 100,
@@ -359,7 +361,7 @@ fn kind_of(event: &Event) -> u8 {
     }
 }
 
-// Packets of a connection, which of them resets it, what happens, by packets, times and kinds, and how it ends.
+// Packets of a connection, which of them resets it, the events by packet, time and kind, and the ending.
 struct Followed {
     packets: &'static [Sent],
     resets: u64,
@@ -367,7 +369,7 @@ struct Followed {
     ending: Ending,
 }
 
-// Takes the packets. Both SYNs have the number 1000.
+// Processes the packets. Both SYNs have the sequence number 1000.
 fn follow(
     alloc: Global,
     case: &Followed,
@@ -402,8 +404,8 @@ fn judge(rt: &impl Abort, alloc: Global, case: &Followed) -> Result<(), Connecti
     Ok(())
 }
 
-// The SYN and ACK is captured behind the Select.req, whose time is past that of the packets behind it; what crosses a
-// Separate is left out; a reset ends it.
+// The SYN and ACK is captured after the Select.req, whose time is later than that of the packets after it. What crosses
+// a Separate is skipped. A reset ends the connection.
 const WHOLE: Followed = Followed {
     packets: &[
         (Side::Active, 1, 1, 1000, None, &[]),
@@ -421,7 +423,7 @@ const WHOLE: Followed = Followed {
     ending: Ending::Closed,
 };
 
-// The reply that packet 5 acknowledges wasn't captured.
+// The reply that packet 5 acknowledges was not captured.
 const LOST: Followed = Followed {
     packets: &[
         (Side::Active, 1, 1, 1000, None, &[]),
@@ -436,7 +438,7 @@ const LOST: Followed = Followed {
     ending: Ending::Lost(5),
 };
 
-// Packet 5 brings other octets than packet 4.
+// Packet 5 carries other bytes than packet 4.
 const DIFFERING: Followed = Followed {
     packets: &[
         (Side::Active, 1, 1, 1000, None, &[]),
@@ -451,7 +453,7 @@ const DIFFERING: Followed = Followed {
     ending: Ending::Differs(5),
 };
 
-// A whole connection, a lost reply, and a copy that differs.
+// A complete connection, a lost reply, and a conflicting retransmission.
 #[test]
 fn connections_that_end(rt: std::rt::HostRuntime) -> Result<(), ConnectionFault> {
     check_each(&rt, rt.alloc(), &[WHOLE, LOST, DIFFERING])

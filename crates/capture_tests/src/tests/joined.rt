@@ -1,4 +1,4 @@
-//! Octets within which a session begins, and messages by which something is supposed or left out.
+//! Bytes within which a session starts, and messages because of which something is assumed or skipped.
 
 use super::assert_so;
 use capture_midstream::{
@@ -15,12 +15,12 @@ const SESSION: Session = Session {
     depth: 32,
 };
 
-// Within a text stands a Select.req, with fourteen octets of text behind it. From its third octet on they might be data
-// of 720,895 octets. Behind the text come an S1F13, a Linktest.req, and the answer to it, from place 61 on.
+// A text contains a Select.req, with fourteen bytes of text after it. From its third byte on they might be data of
+// 720,895 bytes. After the text come an S1F13, a Linktest.req, and the answer to it, from offset 61 on.
 const MIDST: &[u8] =
     b"\x09\x09\x09\0\0\0\x0a\xff\xff\0\0\0\x01\0\0\0\x01AAAAAAAAAAAAAA\0\0\0\x0c\0\0\x81\x0d\0\0\0\0\0\x01\x01\0\0\0\0\x0a\xff\xff\0\0\0\x05\0\0\0\x02\0\0\0\x0a\xff\xff\0\0\0\x06\0\0\0\x02";
 
-// How many octets are there, from which place on is looked, and where a direction begins then.
+// The number of bytes, the offset where the search starts, and where a direction starts then.
 const BEGINNINGS: &[(usize, usize, Beginning)] = &[
     (0, 0, Beginning::Open(0)),
     (17, 0, Beginning::Open(3)),
@@ -44,7 +44,7 @@ fn fronts_within_a_text(rt: std::rt::HostRuntime) {
     check_beginnings(&rt, MIDST, BEGINNINGS);
 }
 
-// How many octets are there, and where a direction begins at their end.
+// The number of bytes, and where a direction starts at their end.
 const ENDS: &[(usize, usize)] = &[(70, 31), (30, 3), (46, 46), (47, 31)];
 
 fn check_ends(rt: &impl Abort, octets: &[u8], rows: &[(usize, usize)]) {
@@ -59,7 +59,8 @@ fn beginnings_at_the_end(rt: std::rt::HostRuntime) {
     check_ends(&rt, MIDST, ENDS);
 }
 
-// A segment from this number on with so many octets: how many lie before the number 1000 or 4.
+// A segment from this sequence number on with this number of bytes, and how many of them are before the number 1000 or
+// 4.
 const BEFORE: &[(u32, u32, usize, usize)] = &[
     (1000, 990, 14, 10),
     (1000, 990, 4, 4),
@@ -67,10 +68,10 @@ const BEFORE: &[(u32, u32, usize, usize)] = &[
     (4, 4294967290, 14, 10),
 ];
 
-// Whether it reaches the number 1000.
+// A segment's first sequence number, its length, and whether it reaches the number 1000.
 const REACHING: &[(u32, usize, bool)] = &[(990, 10, true), (990, 9, false), (1001, 14, false)];
 
-// Whether a number is from the other one on.
+// Whether a number is at or after the other one.
 const FROM: &[(u32, u32, bool)] = &[
     (1000, 1000, true),
     (1000, 999, false),
@@ -98,22 +99,22 @@ fn segments_at_the_beginning(rt: std::rt::HostRuntime) {
     }
 }
 
-// The header of data of device 0 and stream 1.
+// Returns the header of a data message of device 0 and stream 1.
 fn data(wait: bool, function: u8, system: u32) -> Header {
     data_header(0, 1, function, wait, system)
 }
 
-// By a header this is supposed.
+// Checks what is assumed because of a header.
 fn assert_assumed(rt: &impl Abort, header: Header, requests: &Requests, want: Option<Assumption>) {
-    assert_so(rt, assumed_by(header, requests) == want, "what is supposed");
+    assert_so(rt, assumed_by(header, requests) == want, "what is assumed");
 }
 
-// A Select.rsp to a Select.req with these system bytes.
+// Returns a Select.rsp to a Select.req with these system bytes.
 fn selects(system: u32, status: u8) -> Header {
     select_rsp(select_req(system), status)
 }
 
-// Of some requests, of which none is noted yet.
+// Checks the assumptions from requests, of which none is recorded yet.
 fn check_assumed(rt: &impl Abort, requests: &mut Requests) -> Result<(), AllocError> {
     assert_assumed(rt, linktest_rsp(linktest_req(5)), requests, None);
     assert_assumed(rt, data(true, 13, 5), requests, Some(Assumption::Selected));
@@ -131,7 +132,7 @@ fn infers_assumptions(rt: std::rt::HostRuntime) -> Result<(), AllocError> {
     check_assumed(&rt, &mut requests)
 }
 
-// Whether what was captured since 1000 leaves a header out that comes at this time.
+// Checks whether a header that comes at this time is skipped, by what was captured since 1000.
 fn assert_leaves_out(rt: &impl Abort, requests: &Requests, header: Header, time: u64, want: bool) {
     assert_so(
         rt,

@@ -1,4 +1,4 @@
-//! Files and packets whose octets are written out, each with what its format says of them.
+//! Files and packets with literal bytes, each with what its format says of them.
 
 mod blocks;
 mod kinds;
@@ -12,7 +12,7 @@ use kinds::OLD;
 use std::alloc::{AllocError, Global};
 use std::process::Abort;
 
-// A SYN and a RST of pcap: raw IP, lowest octet first, microseconds.
+// A SYN and a RST in pcap: raw IP, lowest byte first, microseconds.
 const REFUSED: &[u8] = b"\
     \xd4\xc3\xb2\xa1\x02\x00\x04\x00\x00\x00\x00\x00\x00\x00\x00\x00\
     \x00\x00\x04\x00\x65\x00\x00\x00\x00\xf1\x53\x65\x00\x00\x00\x00\
@@ -25,7 +25,7 @@ const REFUSED: &[u8] = b"\
     \x50\x14\xff\xff\x00\x00\x00\x00\
 ";
 
-// The same, but that the second packet claims too many octets.
+// A SYN and a RST in pcap, but the second packet claims too many bytes.
 const DAMAGED: &[u8] = b"\
     \xd4\xc3\xb2\xa1\x02\x00\x04\x00\x00\x00\x00\x00\x00\x00\x00\x00\
     \x00\x00\x04\x00\x65\x00\x00\x00\x00\xf1\x53\x65\x00\x00\x00\x00\
@@ -52,7 +52,7 @@ const SECTION: &[u8] = b"\
     \x48\x00\x00\x00\
 ";
 
-// A packet behind a VLAN tag: IPv6 with a hop-by-hop header, two octets of TCP.
+// A packet after a VLAN tag: IPv6 with a hop-by-hop header, two bytes of TCP.
 const TAGGED: &[u8] = b"\
     \x00\x00\x00\x00\x00\x00\x00\x00\x00\x00\x00\x00\x81\x00\x00\x05\
     \x86\xdd\x60\x00\x00\x00\x00\x1e\x00\x40\xfe\x80\x00\x00\x00\x00\
@@ -62,7 +62,7 @@ const TAGGED: &[u8] = b"\
     \xff\xff\x00\x00\x00\x00\x41\x42\
 ";
 
-// A packet of Ethernet that was filled up: IPv4 with an option, the same two octets.
+// An Ethernet packet with padding: IPv4 with an option, the same two bytes of TCP.
 const PADDED: &[u8] = b"\
     \x00\x00\x00\x00\x00\x00\x00\x00\x00\x00\x00\x00\x08\x00\x46\x00\
     \x00\x2e\x00\x00\x40\x00\x40\x06\x00\x00\x0a\x00\x00\x01\x0a\x00\
@@ -96,8 +96,8 @@ const RESET: Segment = Segment {
     end: 40,
 };
 
-// What stands at the front: which of both packets it is, with its time, or a block, or a packet that is cut; and how many
-// octets it has. Or how many packets were passed, and how many octets.
+// The record or block at the start: which of the two packets it is, with its time, or a block, or a cut packet; and its
+// size in bytes. Or the number of packets and bytes that were passed.
 type Row = (&'static str, Option<u128>, usize);
 
 const OF_PCAP: &[Row] = &[
@@ -122,7 +122,7 @@ const OF_OTHER_KINDS: &[Row] = &[
     ("cut", None, 56),
 ];
 
-// A file, how many octets its header has, and what stands behind it.
+// A file, the size of its header in bytes, and what follows the header.
 type File = (&'static [u8], usize, &'static [Row]);
 
 const FILES: &[File] = &[
@@ -151,7 +151,7 @@ fn opened(alloc: Global, octets: &[u8]) -> Result<Reader, CaptureFault> {
     }
 }
 
-// These rows are passed, and nothing is behind them.
+// Checks that these rows are passed, and that nothing follows them.
 fn check_rows(
     rt: &impl Abort,
     mut reader: Reader,
@@ -170,7 +170,7 @@ fn check_rows(
     Ok(())
 }
 
-// Passes what this row says. Answers the octets behind it.
+// Passes what this row says. Returns the bytes after it.
 fn pass<'a>(
     rt: &impl Abort,
     reader: &mut Reader,
@@ -183,14 +183,14 @@ fn pass<'a>(
     octets.get(size..).ok_or(CaptureFault::Length)
 }
 
-// So many packets were passed, and so many octets.
+// Checks the number of packets and bytes that were passed.
 fn assert_passed(rt: &impl Abort, reader: &Reader, row: &Row) {
     let packets = Some(u128::from(reader.packets()));
     assert_so(rt, packets == row.1, "how many packets");
     assert_so(rt, reader.place() == row.2 as u64, "the place");
 }
 
-// Which packet stands at the front, with its time; or that it is another block.
+// Returns which packet is at the start, with its time, or that it is another block.
 fn found(reader: &Reader, octets: &[u8]) -> Result<(&'static str, Option<u128>), CaptureFault> {
     match reader.front(octets)? {
         Front::Packet(record) => Ok((kind_of(&record, octets_of(&record, octets)), record.time)),
@@ -198,7 +198,7 @@ fn found(reader: &Reader, octets: &[u8]) -> Result<(&'static str, Option<u128>),
     }
 }
 
-// Which packet it is of those that are written out.
+// Returns which of the literal packets it is.
 fn kind_of(record: &Record, held: &[u8]) -> &'static str {
     if !record.whole {
         return cut_of(record);
@@ -209,7 +209,7 @@ fn kind_of(record: &Record, held: &[u8]) -> &'static str {
     }
 }
 
-// A packet without a time, of which 40 octets are held and not all; or another one that is cut.
+// Returns which cut packet it is: the one without a time, of which 40 bytes are captured, or another one.
 fn cut_of(record: &Record) -> &'static str {
     if record.time.is_none() && record.link == 101 && record.held == 40 {
         "cut"
@@ -252,7 +252,7 @@ fn files_that_are_none(rt: std::rt::HostRuntime) {
     assert_so(&rt, matches!(part, Ok(Opening::More)), "two octets");
 }
 
-// Octets from one place to another, and what stands at their front.
+// Bytes from one offset to another, and the record or block at their start.
 type Part = (&'static [u8], usize, usize, &'static str);
 
 const OF_SECTION: &[Part] = &[
@@ -280,7 +280,7 @@ fn check_parts(
     Ok(())
 }
 
-// A link, a packet, how many of its octets are there, and what it shows. The segments have the octets 41 and 42.
+// A link type, a packet, the number of its captured bytes, and what it shows. The segments have the bytes 41 and 42.
 type Linked = (u32, &'static [u8], usize, &'static str);
 
 const LINKED: &[Linked] = &[

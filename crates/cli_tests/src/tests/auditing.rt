@@ -13,7 +13,7 @@ pub const LOG: &[u8] = b"hsms-log 1 host active 0 45000 6000 10000 5000 1048576 
     1000 > 00008101000000000002\n\
     46000 < 000001020000000000020102410141410142\n";
 
-// The same, and a line whose time goes back.
+// The same log, with a line whose time goes back.
 const LATE: &[u8] = b"hsms-log 1 host active 0 45000 6000 10000 5000 1048576 32\n\
     0 up\n\
     0 > ffff0000000100000001\n\
@@ -30,7 +30,7 @@ fn audited(alloc: Global, log: &[u8], sink: &mut Store) -> Result<Outcome, Alloc
     Ok(InlineText::of(format_args!("{result:?}")))
 }
 
-// A log passes or fails with this line.
+// Checks that the audit of a log has this result and writes this verdict line.
 fn check_log_lines(
     rt: &impl Abort,
     alloc: Global,
@@ -57,7 +57,7 @@ fn writes_the_verdict(rt: HostRuntime) -> Result<(), AllocError> {
     check_log_lines(&rt, alloc, &[], "Ok(false)", b"fail line=1 unreadable\n")
 }
 
-// The log of words, each of which stands for some lines.
+// Returns the log of these words, each of which represents some lines.
 fn log_of(alloc: Global, words: &str) -> Result<Vec<u8>, AllocError> {
     let mut log = Vec::new(alloc);
     for word in words.split(' ') {
@@ -77,14 +77,14 @@ fn check_command_words(
     check_log_lines(rt, alloc, &log, want, line.as_bytes())
 }
 
-// A row has the words of a log, what comes of it, and the line of its verdict.
+// Checks a row: the words of a log, the result of its audit, and its verdict line.
 fn check_table_row(rt: &impl Abort, alloc: Global, row: &str) -> Result<(), AllocError> {
     let (words, rest) = row.split_once(" = ").unwrap_or((row, ""));
     let (want, line) = rest.split_once(' ').unwrap_or((rest, ""));
     check_command_words(rt, alloc, words, want, line)
 }
 
-// The first connection goes down while a primary waits for its reply.
+// The first connection is closed while a primary waits for its reply.
 #[test]
 fn writes_the_verdict_on_two_connections(rt: HostRuntime) -> Result<(), AllocError> {
     for row in ROWS.split_inclusive('\n') {
@@ -93,17 +93,17 @@ fn writes_the_verdict_on_two_connections(rt: HostRuntime) -> Result<(), AllocErr
     Ok(())
 }
 
-// The verdict, or want of memory and nothing.
+// Asserts the verdict; or a failed allocation and no output.
 fn assert_verdict(rt: &impl Abort, outcome: Outcome, written: &[u8]) {
     if outcome.as_str() == "Ok(true)" {
         assert_octets(rt, written, PASS, "the verdict");
     } else {
-        assert_so(rt, outcome.as_str() == WANT_OF_MEMORY, "want of memory");
+        assert_so(rt, outcome.as_str() == WANT_OF_MEMORY, "out of memory");
         assert_so(rt, written.is_empty(), "nothing");
     }
 }
 
-// Where its own input is refused, this test has nothing to say.
+// If the allocation of its own input fails, this test checks nothing.
 #[test]
 fn refused_verdicts(rt: HostRuntime) {
     let Ok(mut sink) = store_of(rt.alloc(), 128, 11, u64::MAX) else {

@@ -1,6 +1,7 @@
-//! Logs of two connections, and the lines of their verdicts.
+//! Logs of two connections, and their verdict lines.
 
-/// Words of rows, and the lines that each stands for. The first connection ends with a primary that waits for its reply.
+/// The words of rows, and the lines that each represents. The first connection ends while a primary waits for its
+/// reply.
 const PARTS: &str = "# one
 hsms-log 1 host active 0 45000 6000 10000 5000 1048576 32
 # several
@@ -33,7 +34,7 @@ hsms-log 3 host active 0 45000 6000 10000 5000 1048576 32
 90004 down
 ";
 
-/// The lines that a word stands for.
+/// Returns the lines that a word represents.
 pub fn part_of(word: &str) -> &'static str {
     for part in PARTS.split("# ") {
         if let Some((name, lines)) = part.split_once('\n')
@@ -45,7 +46,7 @@ pub fn part_of(word: &str) -> &'static str {
     "no such word\n"
 }
 
-/// The words of a log, what comes of its audit, and the line that is told.
+/// The words of a log, the result of its audit, and its verdict line.
 pub const ROWS: &str =
     "several first down up select question answer = Ok(true) pass entries=11 sent=4 taken=3 discarded=0 expired=0 waiting=0
 one first down up select question answer = Ok(false) fail line=7 rule=NotUp

@@ -1,4 +1,4 @@
-//! Devices that fail after one call more each time, until a run meets no failure.
+//! Readers and writers that fail one call later in each run, until a run has no failure.
 
 use super::auditing::{LOG, PASS};
 use super::{
@@ -22,7 +22,8 @@ enum Work {
     Audit,
 }
 
-// An input and its output; how many octets a read and a write move at most, and how many of them a run then makes.
+// An input and its output, and the maximum number of bytes of a read and of a write. `reads` and `writes` are the
+// numbers of calls that a run then makes.
 #[derive(Clone, Copy)]
 struct Row {
     work: Work,
@@ -65,7 +66,7 @@ const AUDIT: Row = Row {
     ..SHOW
 };
 
-// Each with whole pieces, with some octets a call, and with single octets.
+// Each input with all bytes, some bytes and one byte a call.
 const ROWS: &[Row] = &[
     SHOW,
     Row {
@@ -135,14 +136,14 @@ const NO_READ: &str = "Err(Device(\"Read\"))";
 
 const NO_WRITE: &str = "Err(Device(\"Write\"))";
 
-// What comes of a row where each read past so many fails.
+// Returns the result of a row if each read after the first `reads` fails.
 fn run(alloc: Global, row: &Row, reads: u64, sink: &mut Store) -> Result<Outcome, AllocError> {
     let mut source = feed_of(alloc, row.input, row.read.max(1), reads)?;
     Ok(outcome_of(worked(alloc, row.work, &mut source, sink)))
 }
 
-// Nothing failed, or a device did, and so much of the output is written. Answers whether one did. Want of memory is
-// handed up.
+// Asserts that nothing failed, or that a read or write failed after this number of bytes of the output was written.
+// Returns whether one failed, or an error if an allocation failed.
 fn check_failure(
     rt: &impl Abort,
     row: &Row,
@@ -165,7 +166,8 @@ fn check_failure(
     Ok(true)
 }
 
-// Runs a row where each read past so many fails, and each write. Answers whether one failed.
+// Runs a row in which each read after the first `reads` fails, and each write after the first `writes`. Returns whether
+// one failed.
 fn fails(
     rt: &impl Abort,
     alloc: Global,
@@ -180,7 +182,7 @@ fn fails(
     check_failure(rt, row, outcome, &sink, want, count)
 }
 
-// How much is written before the read after so many: the line of each message that was read.
+// Returns the number of bytes written before the read after `reads` reads: the line of each message that was read.
 fn written_before(row: &Row, reads: u64) -> u64 {
     let messages = reads.saturating_mul(row.read as u64) / 14;
     match row.work {
@@ -189,7 +191,7 @@ fn written_before(row: &Row, reads: u64) -> u64 {
     }
 }
 
-// How many reads a run makes. Each of them is seen to fail.
+// Returns the number of reads of a run. Checks a run in which each of them fails.
 fn failing_reads(rt: &impl Abort, alloc: Global, row: &Row) -> Result<u64, AllocError> {
     for reads in 0..FUSE {
         let count = written_before(row, reads);
@@ -200,7 +202,7 @@ fn failing_reads(rt: &impl Abort, alloc: Global, row: &Row) -> Result<u64, Alloc
     Ok(FUSE)
 }
 
-// How many writes a run makes. Each of them is seen to fail.
+// Returns the number of writes of a run. Checks a run in which each of them fails.
 fn failing_writes(rt: &impl Abort, alloc: Global, row: &Row) -> Result<u64, AllocError> {
     for writes in 0..FUSE {
         let count = writes.saturating_mul(row.write as u64);
@@ -225,7 +227,7 @@ fn returns_whether_read_or_write_failed(rt: HostRuntime) -> Result<(), AllocErro
     Ok(())
 }
 
-// A writer of std that takes nothing, and tells no error.
+// A `std` writer that takes no bytes, and returns no error.
 #[derive(Drop)]
 struct Full;
 
@@ -239,7 +241,7 @@ impl Write for Full {
     }
 }
 
-// What comes of a row with such a writer.
+// Returns the result of a row with such a writer.
 fn run_full(alloc: Global, row: &Row) -> Result<Outcome, AllocError> {
     let mut source = feed_of(alloc, row.input, 4096, u64::MAX)?;
     let mut sink = Writer::new(Full);

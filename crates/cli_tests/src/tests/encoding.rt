@@ -10,7 +10,7 @@ const NOTATION: &str = "S6F11 W <L <A \"AB\"> <U1 1 255>> .";
 
 const FRAME: &str = "000000140000860b000000000001010241024142a50201ff\n";
 
-// A text as lines of hexadecimal, with `max` 256 and depth 32.
+// Encodes a text as lines of hexadecimal, with `max` 256 and depth 32.
 fn encoded(
     alloc: Global,
     text: &str,
@@ -50,7 +50,7 @@ fn encodes_messages(rt: HostRuntime) -> Result<(), AllocError> {
     check_encoded(&rt, alloc, " \n", 1, DONE, "")
 }
 
-// A text is refused, and nothing is written.
+// Checks that a text is rejected and nothing is written.
 fn check_refused(rt: &impl Abort, alloc: Global, text: &str, want: &str) -> Result<(), AllocError> {
     check_encoded(rt, alloc, text, 1, want, "")
 }
@@ -73,7 +73,7 @@ fn writes_nothing_of_what_is_refused(rt: HostRuntime) -> Result<(), AllocError> 
     check_refused(&rt, alloc, "S1F1", "Err(Refused(\"Syntax at=4\"))")
 }
 
-// A message, and another one with so many octets.
+// Returns a message, and another one with `count` bytes in its item.
 fn two_messages(alloc: Global, count: usize) -> Result<String, AllocError> {
     let mut text = String::from_str(alloc, "S1F1 . S1F1 <B")?;
     for _ in 0..count {
@@ -83,7 +83,7 @@ fn two_messages(alloc: Global, count: usize) -> Result<String, AllocError> {
     Ok(text)
 }
 
-// The first message is fine, and the second is one octet past the limit.
+// The first message is valid, and the second is one byte past the limit.
 #[test]
 fn writes_nothing_before_all_are_encoded(rt: HostRuntime) -> Result<(), AllocError> {
     let text = two_messages(rt.alloc(), 245)?;
@@ -95,17 +95,17 @@ fn writes_nothing_before_all_are_encoded(rt: HostRuntime) -> Result<(), AllocErr
     )
 }
 
-// The frame, or want of memory and nothing.
+// Asserts the frame; or a failed allocation and no output.
 fn assert_frame(rt: &impl Abort, outcome: Outcome, written: &[u8]) {
     if outcome.as_str() == DONE {
         assert_octets(rt, written, FRAME.as_bytes(), "the frame");
     } else {
-        assert_so(rt, outcome.as_str() == WANT_OF_MEMORY, "want of memory");
+        assert_so(rt, outcome.as_str() == WANT_OF_MEMORY, "out of memory");
         assert_so(rt, written.is_empty(), "nothing");
     }
 }
 
-// Where its own input is refused, this test has nothing to say.
+// If the allocation of its own input fails, this test checks nothing.
 #[test]
 fn refused_frames(rt: HostRuntime) {
     let Ok(mut sink) = store_of(rt.alloc(), 256, 11, u64::MAX) else {

@@ -6,7 +6,7 @@ use std::alloc::{AllocError, Global};
 use std::fmt::InlineText;
 use std::process::Abort;
 
-// Each line.
+// All lines.
 const WHOLE: Excerpt = Excerpt {
     lines: Lines::All,
     around: 5,
@@ -32,18 +32,18 @@ const LATE_TOLD: &str = "     1         hsms-log 1 host active 0 45000 6000 1000
        answers line 3 after 5 ms
      5    1000 > data 0000 00000002 S1F1 W .
      6   46001 < data 0000 00000002 S1F2 <L [2] <A [1] \"A\"> <A [1] \"B\">> .
-       FAIL T3Overdue: a reply is overdue, and no `t3` says so
-            concerns line 5
-            goes on as if `46000 t3 00000002` stood before it
-       FAIL NoTransaction: it answers nothing that is open
-            line 5 has its system bytes, and expired at line 6
-            goes on as if it were thrown away
+       FAIL T3Overdue: no reply came within T3, and no `t3` is logged
+            open transaction: line 5
+            continues as if `46000 t3 00000002` were logged before it
+       FAIL NoTransaction: no matching open transaction
+            line 5 has the same system bytes, but already timed out at line 6
+            continues as if it were discarded
 failures=2 T3Overdue=1 NoTransaction=1
 S1F1 W sent=1 expired=1
 fail line=6 rule=T3Overdue
 ";
 
-// A connection that isn't selected within T7, and behind it another one.
+// A connection that is not selected within T7, followed by another one.
 const CUT: &str = "hsms-log 2 host active 0 45000 6000 10000 5000 1048576 32\r
 # a comment
 
@@ -59,22 +59,22 @@ const CUT_TOLD: &str = "     1         hsms-log 2 host active 0 45000 6000 10000
      3         
      4       0 up
      5   10001 down
-       FAIL LinkOverdue: T6 or T7 has run out, and no `cut` says so
-            goes on as if `10000 cut t7` stood before it
+       FAIL LinkOverdue: T6 or T7 has expired, and no `cut` is logged
+            continues as if `10000 cut t7` were logged before it
      6         nothing
-       FAIL unreadable: it can't be read
+       FAIL unreadable: not a valid log line
             column 1: no decimal number; expected TIME up, TIME > HEX, TIME < HEX, TIME ! HEX, TIME t3 SYSTEM, TIME cut CAUSE or TIME down
      7    9000 up
-       FAIL Backwards: its time is before that of the last line
-            goes on as if its time were 10001
+       FAIL Backwards: the time is earlier than the previous entry's
+            continues as if its time were 10001
      8    9000 ! data 0000 00000002 S1F2 ! 01
-       FAIL Backwards: its time is before that of the last line
-            goes on as if its time were 10001
+       FAIL Backwards: the time is earlier than the previous entry's
+            continues as if its time were 10001
      9    9001 up
-       FAIL Backwards: its time is before that of the last line
-            goes on as if its time were 10001
-       FAIL NotUp: the connection isn't up, or this `up` may not stand here
-            goes on as if `10001 down` stood before it
+       FAIL Backwards: the time is earlier than the previous entry's
+            continues as if its time were 10001
+       FAIL NotUp: the connection is not up, or this `up` is out of place
+            continues as if `10001 down` were logged before it
 failures=6 LinkOverdue=1 unreadable=1 Backwards=3 NotUp=1
 fail line=5 rule=LinkOverdue
 ";
@@ -83,16 +83,16 @@ const NOTHING: &str = "hsms-log 1 host active 0 45000 6000 10000 5000 1048576 32
 ";
 
 const NOTHING_TOLD: &str = "     1         hsms-log 1 host active 0 45000 6000 10000 5000 1048576 32
-nothing was judged: the log has no entry
+not audited: the log has no entries
 failures=0
 pass entries=0 sent=0 taken=0 discarded=0 expired=0 waiting=0
 ";
 
 const NO_LOG_TOLD: &str = "     1         0 up
-       FAIL unreadable: it can't be read
+       FAIL unreadable: not a valid log line
             column 1: no line of settings; expected hsms-log VERSION ROLE LINK DEVICE T3 T6 T7 T8 MAX DEPTH
      2         0 down
-nothing was judged: line 1 can't be read
+not audited: line 1 is unreadable
 fail line=1 unreadable
 ";
 
@@ -142,7 +142,7 @@ fn shows_that_nothing_was_checked(rt: HostRuntime) -> Result<(), AllocError> {
     )
 }
 
-// Failures alone, with a line around them.
+// Only failures, with one line around them.
 const FAILURES: Excerpt = Excerpt {
     lines: Lines::Failures,
     around: 1,
@@ -155,18 +155,18 @@ const FAILURES: Excerpt = Excerpt {
 const LATE_FAILURES_TOLD: &str = "       ..
      5    1000 > data 0000 00000002 S1F1 W .
      6   46001 < data 0000 00000002 S1F2 <L [2] <A [1] \"A\"> <A [1] \"B\">> .
-       FAIL T3Overdue: a reply is overdue, and no `t3` says so
-            concerns line 5
-            goes on as if `46000 t3 00000002` stood before it
-       FAIL NoTransaction: it answers nothing that is open
-            line 5 has its system bytes, and expired at line 6
-            goes on as if it were thrown away
+       FAIL T3Overdue: no reply came within T3, and no `t3` is logged
+            open transaction: line 5
+            continues as if `46000 t3 00000002` were logged before it
+       FAIL NoTransaction: no matching open transaction
+            line 5 has the same system bytes, but already timed out at line 6
+            continues as if it were discarded
 failures=2 T3Overdue=1 NoTransaction=1
 S1F1 W sent=1 expired=1
 fail line=6 rule=T3Overdue
 ";
 
-// Lines 2 to 4, of which the last one closes what line 3 opened.
+// Lines 2 to 4. The last one closes the transaction that line 3 opened.
 const FRONT: Excerpt = Excerpt {
     lines: Lines::All,
     around: 5,
@@ -194,7 +194,7 @@ fn shows_an_excerpt(rt: HostRuntime) -> Result<(), AllocError> {
     check_log_lines(&rt, alloc, FRONT, LATE, "Ok(false)", LATE_FRONT_TOLD)
 }
 
-// Data of another device: of the first three of a session each is told whole.
+// Data with another device ID. The first three failures of each session ID are written in full.
 const ALIKE: &str = "hsms-log 1 host active 0 45000 6000 10000 5000 1048576 32
 0 up
 0 > ffff0000000100000001
@@ -210,52 +210,52 @@ const ALIKE: &str = "hsms-log 1 host active 0 45000 6000 10000 5000 1048576 32
 
 const ALIKE_TOLD: &str = "       ..
      7      12 < data 0001 00000003 S6F11 .
-       FAIL Session: its session ID isn't that of such a message
-            session 0000 expected, 0001 came
-            goes on as if it were thrown away
+       FAIL Session: wrong session ID for this kind of message
+            expected session ID 0000, got 0001
+            continues as if it were discarded
      8      13 < data 0002 00000004 S6F11 .
-       FAIL Session: its session ID isn't that of such a message
-            session 0000 expected, 0002 came
-            goes on as if it were thrown away
+       FAIL Session: wrong session ID for this kind of message
+            expected session ID 0000, got 0002
+            continues as if it were discarded
      9      14 < data 0001 00000005 S6F11 .
-       FAIL Session: its session ID isn't that of such a message
-            session 0000 expected, 0001 came
-            goes on as if it were thrown away
+       FAIL Session: wrong session ID for this kind of message
+            expected session ID 0000, got 0001
+            continues as if it were discarded
     10      15 < data 0001 00000006 S6F11 .
-       FAIL Session: its session ID isn't that of such a message
-            session 0000 expected, 0001 came
-            goes on as if it were thrown away
+       FAIL Session: wrong session ID for this kind of message
+            expected session ID 0000, got 0001
+            continues as if it were discarded
     11      16 < data 0001 00000007 S6F11 .
-       FAIL Session: like line 7
-Session: and 1 more like line 7, up to line 11
+       FAIL Session: same as line 7
+Session: 1 more like line 7, the last at line 11
 failures=7 Session=7
 fail line=5 rule=Session
 ";
 
 const ALIKE_FAILURES_TOLD: &str = "       ..
      5      10 < data 0001 00000001 S6F11 .
-       FAIL Session: its session ID isn't that of such a message
-            session 0000 expected, 0001 came
-            goes on as if it were thrown away
+       FAIL Session: wrong session ID for this kind of message
+            expected session ID 0000, got 0001
+            continues as if it were discarded
      6      11 < data 0001 00000002 S6F11 .
-       FAIL Session: its session ID isn't that of such a message
-            session 0000 expected, 0001 came
-            goes on as if it were thrown away
+       FAIL Session: wrong session ID for this kind of message
+            expected session ID 0000, got 0001
+            continues as if it were discarded
      7      12 < data 0001 00000003 S6F11 .
-       FAIL Session: its session ID isn't that of such a message
-            session 0000 expected, 0001 came
-            goes on as if it were thrown away
+       FAIL Session: wrong session ID for this kind of message
+            expected session ID 0000, got 0001
+            continues as if it were discarded
      8      13 < data 0002 00000004 S6F11 .
-       FAIL Session: its session ID isn't that of such a message
-            session 0000 expected, 0002 came
-            goes on as if it were thrown away
+       FAIL Session: wrong session ID for this kind of message
+            expected session ID 0000, got 0002
+            continues as if it were discarded
        ..
-Session: and 3 more like line 5, up to line 11
+Session: 3 more like line 5, the last at line 11
 failures=7 Session=7
 fail line=5 rule=Session
 ";
 
-// From line 7 on: of those that come before nothing is told.
+// From line 7 on. Nothing is written of the earlier lines.
 const FROM_SEVEN: Excerpt = Excerpt {
     lines: Lines::All,
     around: 5,
@@ -265,7 +265,7 @@ const FROM_SEVEN: Excerpt = Excerpt {
     utc: false,
 };
 
-// The lines that fail, and none around them.
+// Only the lines that fail, and none around them.
 const BARE_FAILURES: Excerpt = Excerpt {
     lines: Lines::Failures,
     around: 0,
@@ -289,7 +289,7 @@ fn counts_failures_of_a_group(rt: HostRuntime) -> Result<(), AllocError> {
     )
 }
 
-// Replies after 12, 40 and 5 ms, one that aborts, one that is awaited; and one of the host after 301 ms.
+// Replies after 12, 40 and 5 ms, one that aborts, one that is still open; and one reply of the host after 301 ms.
 const REPLIES: &str = "hsms-log 1 host active 0 45000 6000 10000 5000 1048576 32
 0 up
 0 > ffff0000000100000001
@@ -310,12 +310,12 @@ const REPLIES: &str = "hsms-log 1 host active 0 45000 6000 10000 5000 1048576 32
 const REPLIES_TOLD: &str = "       ..
     15    6000 > data 0000 00000006 S1F1 W .
 failures=0
-S1F1 W sent=5 answered=3 aborted=1 waiting=1 least=5 median=12 p99=40 greatest=40 line=8
-S6F11 W received=1 answered=1 least=301 median=301 p99=301 greatest=301 line=12
+S1F1 W sent=5 answered=3 aborted=1 waiting=1 min=5 median=12 p99=40 max=40 line=8
+S6F11 W received=1 answered=1 min=301 median=301 p99=301 max=301 line=12
 pass entries=14 sent=7 taken=6 discarded=0 expired=0 waiting=1
 ";
 
-// The last line alone.
+// Only the last line.
 const LAST: Excerpt = Excerpt {
     lines: Lines::All,
     around: 5,
@@ -331,7 +331,7 @@ fn shows_how_long_replies_took(rt: HostRuntime) -> Result<(), AllocError> {
     check_log_lines(&rt, alloc, LAST, REPLIES, "Ok(true)", REPLIES_TOLD)
 }
 
-// A device failed, and what was told before stands.
+// Asserts that a read or write failed, and that the earlier output is kept: a prefix of the complete output.
 fn assert_stopped(
     rt: &impl Abort,
     outcome: Outcome,

@@ -7,7 +7,7 @@ use hsms_frame::Store;
 use std::alloc::{AllocError, Global};
 use std::process::Abort;
 
-// Lines that come in pieces, with `max` 256 and depth 32.
+// Shows lines that arrive in chunks, with `max` 256 and depth 32.
 fn shown(
     alloc: Global,
     text: &str,
@@ -63,7 +63,7 @@ const SHOWN: &[(&str, bool, &str)] = &[
     ),
 ];
 
-// Lines are shown an octet a call, and in one piece.
+// Checks that lines are shown with one byte a call and with all bytes in one call.
 fn check_shown(
     rt: &impl Abort,
     alloc: Global,
@@ -87,7 +87,7 @@ const SELECT: &str = "select.req ffff 00000001\n";
 
 const NO_MESSAGE: &str = "Err(Refused(\"NoMessage line=1\"))";
 
-// Lines, whether they are bare, the fault, and what is shown before.
+// Lines, whether they are bare, the error, and what is shown before it.
 const REFUSED: &[(&str, bool, &str, &str)] = &[
     ("0\n", false, "Err(Refused(\"NoHex line=1\"))", ""),
     ("00 0 0\n", false, "Err(Refused(\"NoHex line=1\"))", ""),
@@ -116,7 +116,7 @@ fn refuses_lines(rt: HostRuntime) -> Result<(), AllocError> {
     Ok(())
 }
 
-// A line of a message and so many blanks.
+// Returns the line of a message, followed by `count` spaces.
 fn blank(alloc: Global, count: usize) -> Result<String, AllocError> {
     let mut text = String::from_str(alloc, "ffff0000000100000001")?;
     for _ in 0..count {
@@ -125,7 +125,7 @@ fn blank(alloc: Global, count: usize) -> Result<String, AllocError> {
     Ok(text)
 }
 
-// What is shown of it.
+// Checks what is shown of such a line.
 fn check_blank(
     rt: &impl Abort,
     alloc: Global,
@@ -140,7 +140,7 @@ fn check_blank(
     check_lines(rt, alloc, text.as_str(), true, piece, want, lines)
 }
 
-// A line of as many octets as it may have, and of one more.
+// A line of the maximum length, and one that is a byte longer.
 #[test]
 fn lines_are_limited(rt: HostRuntime) -> Result<(), AllocError> {
     check_blank(&rt, rt.alloc(), 4 * 256 + 64 - 20, 4096, DONE, SELECT)?;

@@ -1,4 +1,4 @@
-//! What follows a received message.
+//! Reactions to a received message.
 
 pub const ANSWERS: &str = "# primaries that equipment takes
 hsms-log 1 equipment passive 0 45000 6000 10000 5000 1048576 32

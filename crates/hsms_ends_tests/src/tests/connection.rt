@@ -1,4 +1,4 @@
-//! What tests of served connections share.
+//! Shared helpers for tests of served connections.
 
 ghost use Rattle.std.specs.Prelude.{◌<◌};
 
@@ -14,7 +14,7 @@ pub const EQUIPMENT_LINE: &str =
 
 pub const HOST_LINE: &str = "hsms-log 1 host active 0 45000 6000 10000 5000 1048576 32\n";
 
-/// What a wait gives: nothing where it is `quiet`, or the octets of messages.
+/// Returns what a wait receives: nothing if it is `quiet`, otherwise the bytes of messages.
 fn wait_of(alloc: Global, messages: &str) -> Result<Option<Vec<u8>>, Stop> {
     match messages {
         "quiet" => Ok(None),
@@ -22,7 +22,7 @@ fn wait_of(alloc: Global, messages: &str) -> Result<Option<Vec<u8>>, Stop> {
     }
 }
 
-/// What each wait gives, a line each.
+/// Returns what each wait receives, one line each.
 fn waits_of(alloc: Global, waits: &str) -> Result<Vec<Option<Vec<u8>>>, Stop> {
     let mut given = Vec::new(alloc);
     for messages in waits.lines() {
@@ -31,7 +31,8 @@ fn waits_of(alloc: Global, waits: &str) -> Result<Vec<Option<Vec<u8>>>, Stop> {
     Ok(given)
 }
 
-/// A link with these moments and waits, that moves so many octets a call, and fails after so many calls.
+/// Returns a link with these times and waits, which moves at most `piece` bytes per call and fails after `fuse`
+/// calls.
 pub fn link_of(
     alloc: Global,
     moments: &[u64],
@@ -47,14 +48,14 @@ pub fn link_of(
     Ok(Scripted::new(moments, waits, room, piece, fuse))
 }
 
-/// A log of so much room that takes so many octets a call, and fails after so many calls.
+/// Returns a log of this capacity, which takes at most `piece` bytes per call and fails after `fuse` calls.
 pub fn log_of(alloc: Global, room: usize, piece: usize, fuse: u64) -> Result<Store, AllocError>
     requires { 0 < piece }
 {
     Ok(Store::new(vec![in alloc; 0u8; room]?, piece, fuse))
 }
 
-/// The settings of a passive equipment, or of an active host.
+/// Returns the settings of passive equipment, or of an active host.
 pub fn settings_of(role: Role) -> Option<Settings> {
     match role {
         Role::Equipment => settings(role, Side::Passive, 1_048_576),
@@ -85,7 +86,7 @@ fn serve_equipment(
     serve(alloc, link, log, settings, desk, 1, script, turns)
 }
 
-/// What an end of these settings answers, served over this link with this log.
+/// Returns the result of an endpoint with these settings, served over this link with this log.
 pub fn answer_of(
     alloc: Global,
     link: &mut Scripted,
@@ -103,7 +104,7 @@ pub fn answer_of(
     }
 }
 
-/// The summary of a log, which has to pass the audit.
+/// Returns the summary of a log, which has to pass the audit.
 pub fn audited(alloc: Global, log: &[u8]) -> Result<Summary, Stop> {
     match judge(alloc, log)? {
         Verdict::Pass(summary) => Ok(summary),

@@ -1,4 +1,4 @@
-//! Corners of an end.
+//! Edge cases of an endpoint.
 
 pub const CORNERS: &str = "# another device, before and after selection
 hsms-log 1 equipment passive 0 45000 6000 10000 5000 1048576 32

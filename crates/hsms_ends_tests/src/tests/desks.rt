@@ -1,9 +1,9 @@
-//! What desks say to messages that they are asked about directly.
+//! Answers of message handlers that are called directly.
 
 use super::{Abort, Answer, Desk, Global, HostDesk, Message, Stop, assert_so, equipment, read};
 use secs_text::print;
 
-/// Messages, and what a host says to each. Neither W nor an item that isn't S2F25's is looked at.
+/// Messages, and a host's answer to each. Neither the W bit nor an item other than S2F25's is considered.
 const ASKED_HOST: &str = "S1F1 W . = <L [0]>
 S1F13 W <L> . = <L [2] <B [1] 0x00> <L [0]>>
 S2F25 W <B 0x01 0x02> . = <B [2] 0x01 0x02>
@@ -30,7 +30,7 @@ S2F25 <B 0x01> . = <B [1] 0x01>
 S1F3 . = NoFunction
 ";
 
-/// What equipment of model M and revision 1 says to the same.
+/// The answers of equipment with model M and revision 1 to the same messages.
 const ASKED_EQUIPMENT: &str = "S1F1 W . = <L [2] <A [1] \"M\"> <A [1] \"1\">>
 S1F13 W <L> . = <L [2] <B [1] 0x00> <L [2] <A [1] \"M\"> <A [1] \"1\">>>
 S2F25 W <B 0x01 0x02> . = <B [2] 0x01 0x02>
@@ -57,13 +57,13 @@ S2F25 <B 0x01> . = <B [1] 0x01>
 S1F3 . = NoFunction
 ";
 
-/// The item of a message S0F0, as it is printed.
+/// Returns the item of a printed message S0F0.
 fn item_in(printed: &str) -> &str {
     let item = printed.strip_prefix("S0F0 ").unwrap_or("no head");
     item.strip_suffix(" .").unwrap_or("no point")
 }
 
-/// Whether an answer says this: its name, or the item of a reply.
+/// Returns whether an answer has this text: its name, or the item of a reply.
 fn is_said(alloc: Global, answer: Answer, want: &str) -> Result<bool, Stop> {
     match answer {
         Answer::Reply(item) => {
@@ -77,13 +77,13 @@ fn is_said(alloc: Global, answer: Answer, want: &str) -> Result<bool, Stop> {
     }
 }
 
-/// Whether a desk says this to a message.
+/// Returns whether a handler gives this answer to a message.
 fn says<D: Desk>(alloc: Global, desk: &D, text: &str, want: &str) -> Result<bool, Stop> {
     let message = read(alloc, text.as_bytes(), 100)?;
     is_said(alloc, desk.answer(alloc, &message)?, want)
 }
 
-/// A desk says what each line has behind its message.
+/// Checks that a handler gives the answer that each line has after its message.
 fn check_desk<D: Desk>(rt: &impl Abort, alloc: Global, desk: &D, lines: &str) -> Result<(), Stop> {
     for line in lines.lines() {
         let (text, want) = line.split_once(" = ").unwrap_or((line, ""));

@@ -1,4 +1,4 @@
-//! What an end does at the edges of its table: what nothing follows, which timer comes first, what is too long.
+//! Edge cases of an endpoint's table: inputs without a reaction, the order of timers, and lengths above the limit.
 
 pub const EDGES: &str = "# what equipment discards without a word
 hsms-log 1 equipment passive 0 45000 6000 10000 5000 1048576 32

@@ -1,4 +1,4 @@
-//! A served connection whose link or log fails after so many calls, each number in turn.
+//! A served connection whose link or log fails after N calls, for each N in turn.
 
 ghost use Rattle.std.specs.Prelude.{◌<◌};
 
@@ -40,7 +40,7 @@ const LOG_OF_NOTHING: &str = "hsms-log 1 equipment passive 0 45000 6000 10000 50
 0 down
 ";
 
-/// What equipment answers, served over this link with this log. Want of memory ends the test.
+/// Returns the result of equipment, served over this link with this log. A failed allocation ends the test.
 fn served(
     alloc: Global,
     link: &mut Scripted,
@@ -71,12 +71,12 @@ fn assert_begins(rt: &impl Abort, whole: &[u8], part: &[u8]) {
     assert_so(rt, whole.starts_with(part), "a front");
 }
 
-/// The link took nothing.
+/// Checks that the link sent nothing.
 fn assert_none_taken(rt: &impl Abort, link: &Scripted) {
     assert_octets(rt, link.taken(), b"", "nothing is taken");
 }
 
-/// The link failed: the log passes the audit and ends with `down`.
+/// Checks that the log of a failed link passes the audit and ends with `down`.
 fn assert_closed(rt: &impl Abort, alloc: Global, link: &Scripted, log: &Store) -> Result<(), Stop> {
     let summary = audited(alloc, log.written())?;
     assert_so(rt, summary.entries <= 7, "entries");
@@ -85,7 +85,7 @@ fn assert_closed(rt: &impl Abort, alloc: Global, link: &Scripted, log: &Store) -
     Ok(())
 }
 
-/// How many whole lines of a log say that a message was sent.
+/// Returns the number of complete lines of a log that record a sent message.
 fn sent_lines(log: &[u8]) -> usize {
     let mut count = 0usize;
     let mut is_sent = false;
@@ -98,8 +98,8 @@ fn sent_lines(log: &[u8]) -> usize {
     count
 }
 
-/// The log failed or memory was refused: the log is a part of a log from its front, and the messages of its whole lines
-/// were sent, and no other one.
+/// Checks the log after the log or an allocation failed: it is a prefix of the complete log. The messages of its
+/// complete lines were sent, and no others.
 fn assert_front(rt: &impl Abort, link: &Scripted, log: &Store) {
     assert_begins(rt, WHOLE_LOG.as_bytes(), log.written());
     assert_begins(rt, ANSWERED, link.taken());
@@ -107,7 +107,7 @@ fn assert_front(rt: &impl Abort, link: &Scripted, log: &Store) {
     assert_so(rt, link.taken().len() == taken, "what was sent");
 }
 
-/// Memory was refused: the log has whole lines and passes the audit.
+/// Checks the log after a failed allocation: it has complete lines and passes the audit.
 fn assert_refused(rt: &impl Abort, alloc: Global, fault: ServeFault, link: &Scripted, log: &Store) {
     assert_fault(rt, Some(fault), ServeFault::Memory);
     assert_front(rt, link, log);
@@ -120,7 +120,8 @@ fn assert_refused(rt: &impl Abort, alloc: Global, fault: ServeFault, link: &Scri
     );
 }
 
-/// The link fails, or the log, as is wanted, or nothing does. Answers whether nothing did.
+/// Serves a connection in which the link or the log fails as expected, or nothing fails. Returns whether nothing
+/// failed.
 fn check_served(
     rt: &impl Abort,
     alloc: Global,
@@ -142,8 +143,8 @@ fn check_served(
     Ok(false)
 }
 
-/// Both move so many octets a call. The link fails after so many calls, and so does the log. Answers whether nothing
-/// failed.
+/// Serves a connection in which link and log move `piece` bytes per call, and fail after this many calls. Returns
+/// whether nothing failed.
 fn fail_at(
     rt: &impl Abort,
     alloc: Global,
@@ -159,7 +160,7 @@ fn fail_at(
     check_served(rt, alloc, &mut link, &mut log, want)
 }
 
-/// The link fails after each number of calls, until it meets no failure.
+/// Lets the link fail after each number of calls, until nothing fails.
 fn fail_link(rt: &impl Abort, alloc: Global, piece: usize) -> Result<(), Stop>
     requires { 0 < piece }
 {
@@ -171,7 +172,7 @@ fn fail_link(rt: &impl Abort, alloc: Global, piece: usize) -> Result<(), Stop>
     Err(Stop::Endless)
 }
 
-/// The log fails after each number of calls, until it meets no failure.
+/// Lets the log fail after each number of calls, until nothing fails.
 fn fail_log(rt: &impl Abort, alloc: Global, piece: usize) -> Result<(), Stop>
     requires { 0 < piece }
 {
@@ -195,8 +196,8 @@ fn each_call_of_the_log_fails(rt: HostRuntime) -> Result<(), Stop> {
     fail_log(&rt, rt.alloc(), 1)
 }
 
-/// A connection of which something fails: after how many calls the link fails, and the log; the fault, and the log that
-/// is left; how many messages were sent and taken in it, where it passes.
+/// A connection with a failure: the number of calls after which the link fails, and the log; the error, and the log
+/// that remains; the summary of that log, if it passes.
 struct Failing {
     link: u64,
     log: u64,
@@ -246,14 +247,14 @@ const FAILING: &[Failing] = &[
     },
 ];
 
-/// The log passes the audit with this summary.
+/// Checks that the log passes the audit with this summary.
 fn assert_summary(rt: &impl Abort, alloc: Global, log: &Store, want: Summary) -> Result<(), Stop> {
     let summary = audited(alloc, log.written())?;
     assert_so(rt, summary == want, "a summary");
     Ok(())
 }
 
-/// Nothing is sent in a row.
+/// Checks a row in which nothing is sent.
 fn check_table_row(
     rt: &impl Abort,
     alloc: Global,
@@ -290,7 +291,7 @@ fn worked_failures(rt: HostRuntime) -> Result<(), Stop> {
     Ok(())
 }
 
-/// The first send fails, and then the log, after so many octets.
+/// Lets the first send fail, and then the log, after this many bytes.
 fn check_twice(
     rt: &impl Abort,
     alloc: Global,
@@ -312,7 +313,7 @@ fn fail_twice(rt: &impl Abort, alloc: Global, room: usize) -> Result<(), Stop> {
     check_twice(rt, alloc, room, &mut link, &mut log)
 }
 
-/// The log fails at each octet of the line `0 down`.
+/// The log fails at each byte of the line `0 down`.
 #[test]
 fn returns_later_fault(rt: HostRuntime) -> Result<(), Stop> {
     let whole = LOG_WITHOUT_SELECT_RSP.len();
@@ -333,7 +334,7 @@ fn check_refused(rt: &impl Abort, alloc: Global, link: &mut Scripted, log: &mut 
     }
 }
 
-// Where its own input is refused, a test of refusals has nothing to say.
+// If the allocation of its own input fails, a test of failed allocations checks nothing.
 #[test]
 fn refused_connection(rt: HostRuntime) {
     let alloc = rt.alloc();

@@ -16,7 +16,7 @@ const REPLIES: &[&str] = &[
     "S7F4 <B 0x02> .",
 ];
 
-/// Equipment's desk behind the replies.
+/// Returns equipment's message handler with these replies before it.
 fn scripted(alloc: Global) -> Result<ScriptedDesk<EquipmentDesk>, Stop> {
     let mut replies: Vec<Message> = Vec::new(alloc);
     for text in REPLIES {
@@ -26,8 +26,8 @@ fn scripted(alloc: Global) -> Result<ScriptedDesk<EquipmentDesk>, Stop> {
     Ok(ScriptedDesk { replies, own })
 }
 
-/// Another primary has turns of its own, and one that nothing replies to has none. Two come in one piece, and the last
-/// reply comes again and again.
+/// Another primary has its own order, and one without a reply has none. Two arrive in one chunk, and the last reply
+/// repeats.
 const IN_TURN: &str = "start 0
 0 up
 comes ffff0000000100000001
@@ -58,7 +58,7 @@ comes 00008a03000000000007
 0 > 00000a04000000000007
 ";
 
-/// A session of equipment with this desk.
+/// Checks a session of equipment with this message handler.
 fn check_scripted(rt: &impl Abort, alloc: Global, session: &str, name: &str) -> Result<(), Stop> {
     let given = settings(Role::Equipment, Side::Passive, 256).ok_or(Stop::Line)?;
     let mut end = end_of(alloc, given, scripted(alloc)?, 1);
@@ -70,7 +70,7 @@ fn replies_in_turn(rt: HostRuntime) -> Result<(), Stop> {
     check_scripted(&rt, rt.alloc(), IN_TURN, "replies in turn")
 }
 
-/// A primary without W has its turn too, and no reply. One that is discarded has none.
+/// A primary without the W bit also uses up its reply, which is not sent. A discarded primary uses up none.
 const WITHOUT_W: &str = "start 0
 0 up
 comes 00008703000000000007
@@ -110,7 +110,7 @@ const TWICE: &str = "hsms-log 2 equipment passive 0 45000 6000 10000 5000 104857
 7 down
 ";
 
-/// What comes in two connections.
+/// The messages received in two connections.
 const ASKED_TWICE: &str = "ffff0000000100000001
 00008703000000000002
 00008703000000000003
@@ -120,7 +120,7 @@ ffff0000000100000001
 ffff0000000900000003
 ";
 
-/// With each connection the turns begin anew.
+/// With each connection the order starts again.
 #[test]
 fn turns_begin_anew(rt: HostRuntime) -> Result<(), Stop> {
     let alloc = rt.alloc();

@@ -1,4 +1,4 @@
-//! What an end refuses to send, replies past a limit, desks of others, and when an end is due.
+//! Messages that an endpoint refuses to send, replies past a limit, other message handlers, and due times.
 
 use super::{
     Abort, AllocError, Answer, Desk, End, EndFault, Entry, EquipmentDesk, Event, Global, HostDesk,
@@ -8,7 +8,7 @@ use super::{
 use hsms_frame::encode_frame;
 use secs_item::Item;
 
-/// Equipment that was selected at 10, with MAX 256 and first system bytes 1.
+/// Returns equipment that was selected at 10, with MAX 256 and first system bytes 1.
 fn selected(alloc: Global) -> Result<End<EquipmentDesk>, Stop> {
     let given = settings(Role::Equipment, Side::Passive, 256).ok_or(Stop::Line)?;
     let mut end = end_of(alloc, given, equipment(alloc)?, 1);
@@ -18,7 +18,7 @@ fn selected(alloc: Global) -> Result<End<EquipmentDesk>, Stop> {
     Ok(end)
 }
 
-/// The octets of header and text of the one frame that was sent, and its system bytes.
+/// Returns the number of bytes in header and text of the one frame that was sent, and its system bytes.
 fn sent(entries: &[Entry]) -> Option<(usize, u32)> {
     match entries {
         [
@@ -31,7 +31,7 @@ fn sent(entries: &[Entry]) -> Option<(usize, u32)> {
     }
 }
 
-/// What comes of sending S1F1 with an item.
+/// Returns the result of sending S1F1 with an item.
 fn send_item(
     wait: bool,
     item: Option<Item>,
@@ -42,7 +42,7 @@ fn send_item(
     Ok(sent(&entries))
 }
 
-/// Lists in one another, the innermost one empty.
+/// Returns nested lists, the innermost one empty.
 fn nested(alloc: Global, count: usize) -> Result<Item, AllocError> {
     let mut item = Item::List(Vec::new(alloc));
     for _ in 1..count {
@@ -55,7 +55,7 @@ fn zeros(alloc: Global, count: usize) -> Result<Item, AllocError> {
     Ok(Item::Binary(vec![in alloc; 0u8; count]?))
 }
 
-/// The fault of a call. Want of memory is handed up.
+/// Returns the error of a call. A failed allocation is passed on.
 fn fault_of(answer: Result<Option<(usize, u32)>, EndFault>) -> Result<Option<EndFault>, EndFault> {
     match answer {
         Ok(_) => Ok(None),
@@ -64,7 +64,7 @@ fn fault_of(answer: Result<Option<(usize, u32)>, EndFault>) -> Result<Option<End
     }
 }
 
-/// An item is refused with a fault.
+/// Checks that an item is rejected with this error.
 fn assert_refused(
     rt: &impl Abort,
     end: &mut End<EquipmentDesk>,
@@ -76,7 +76,7 @@ fn assert_refused(
     Ok(())
 }
 
-/// A message with an item is sent in so many octets, with these system bytes.
+/// Checks that a message with an item is sent in this number of bytes, with these system bytes.
 fn assert_sent(
     rt: &impl Abort,
     end: &mut End<EquipmentDesk>,
@@ -89,7 +89,7 @@ fn assert_sent(
     Ok(())
 }
 
-/// A message with this item, that awaits no reply.
+/// Checks a message with this item that awaits no reply.
 fn assert_item_sent(
     rt: &impl Abort,
     end: &mut End<EquipmentDesk>,
@@ -99,7 +99,7 @@ fn assert_item_sent(
     assert_sent(rt, end, false, Some(item), want)
 }
 
-/// No transaction is open for another primary that awaits a reply, nor for a Linktest.req.
+/// Checks that no transaction is free for another primary that awaits a reply, nor for a Linktest.req.
 fn assert_full(rt: &impl Abort, end: &mut End<EquipmentDesk>) {
     let full = send_item(true, None, end);
     assert_fault(rt, full.err(), Some(EndFault::Full), "a primary");
@@ -107,7 +107,7 @@ fn assert_full(rt: &impl Abort, end: &mut End<EquipmentDesk>) {
     assert_fault(rt, full.err(), Some(EndFault::Full), "a linktest");
 }
 
-/// The longest item and the deepest one are sent, and what is one longer or one deeper is refused.
+/// Checks that the longest item and the deepest one are sent. An item that is one longer or one deeper is rejected.
 fn check_maximum(rt: &impl Abort, alloc: Global, end: &mut End<EquipmentDesk>) -> Result<(), Stop> {
     assert_refused(rt, end, zeros(alloc, 245)?, EndFault::TooLong)?;
     assert_refused(rt, end, nested(alloc, 33)?, EndFault::TooDeep)?;
@@ -121,7 +121,7 @@ fn the_greatest_items(rt: HostRuntime) -> Result<(), Stop> {
     check_maximum(&rt, rt.alloc(), &mut end)
 }
 
-/// The octets of a message with an item, as an end sends it.
+/// Returns the bytes of a message with an item, as an endpoint sends it.
 fn octets_sent(alloc: Global, item: Item) -> Result<Vec<u8>, Stop> {
     let mut end = selected(alloc)?;
     let input = Input::Send(Message::new(1, 1, false, Some(item)));
@@ -137,7 +137,7 @@ fn octets_sent(alloc: Global, item: Item) -> Result<Vec<u8>, Stop> {
     }
 }
 
-/// The one entry is that these octets were taken.
+/// Checks that the one entry is that these bytes were accepted.
 fn check_taken(
     rt: &impl Abort,
     alloc: Global,
@@ -159,14 +159,14 @@ fn check_taken(
     }
 }
 
-/// Nothing comes of the first piece.
+/// Checks that the first chunk gives no entries.
 fn submit_first(rt: &impl Abort, end: &mut End<EquipmentDesk>, first: &[u8]) -> Result<(), Stop> {
     let entries = end.bytes(first)?;
     assert_so(rt, entries.is_empty(), "a first piece");
     Ok(())
 }
 
-/// An end takes a message with an item from any two pieces.
+/// Checks that an endpoint accepts a message with an item from any two chunks.
 fn check_chunks(rt: &impl Abort, alloc: Global, item: Item) -> Result<(), Stop> {
     let octets = octets_sent(alloc, item)?;
     let mut end = selected(alloc)?;
@@ -186,7 +186,8 @@ fn the_greatest_items_in_two_pieces(rt: HostRuntime) -> Result<(), Stop> {
     check_chunks(&rt, alloc, nested(alloc, 32)?)
 }
 
-/// An end cuts the connection by a length from any two pieces, and its log has these lines.
+/// Checks that an endpoint cuts the connection for a length received in any two chunks, and that its log has these
+/// lines.
 fn check_length_in_chunks(
     rt: &impl Abort,
     alloc: Global,
@@ -204,7 +205,7 @@ fn check_length_in_chunks(
     Ok(())
 }
 
-/// One octet past the greatest size, and one octet less than a header has.
+/// One byte past the maximum size, and one byte less than a header has.
 #[test]
 fn lengths_in_two_pieces(rt: HostRuntime) -> Result<(), Stop> {
     let alloc = rt.alloc();
@@ -217,7 +218,7 @@ fn lengths_in_two_pieces(rt: HostRuntime) -> Result<(), Stop> {
     check_length_in_chunks(&rt, alloc, b"\0\0\0\x09", "10 cut length\n10 down\n")
 }
 
-/// 64 transactions are open at most.
+/// Checks that at most 64 transactions are open.
 fn check_open(rt: &impl Abort, end: &mut End<EquipmentDesk>) -> Result<(), Stop> {
     for system in 1..=64u32 {
         assert_sent(rt, end, true, None, (10, system))?;
@@ -234,7 +235,7 @@ fn the_most_own_transactions(rt: HostRuntime) -> Result<(), Stop> {
     check_open(&rt, &mut end)
 }
 
-/// Answers by the stream: 1 with no item, 2 with nothing, any other one with want of memory.
+/// Answers by the stream: 1 without an item, 2 with no reply, any other one with a failed allocation.
 #[derive(Clone, Copy)]
 struct ByStream;
 
@@ -305,7 +306,7 @@ comes 0000810d000000000007
 0 > 00000100000000000007
 ";
 
-/// Equipment that nests so deep, with a model of so many octets, aborts.
+/// Checks that equipment with this maximum depth and a model of this many bytes aborts.
 fn check_aborted(rt: &impl Abort, alloc: Global, depth: u8, length: usize) -> Result<(), Stop> {
     let given = Settings::new(
         Role::Equipment,
@@ -326,7 +327,7 @@ fn check_aborted(rt: &impl Abort, alloc: Global, depth: u8, length: usize) -> Re
     judge(rt, alloc, &mut end, ABORTED, "a reply past a limit")
 }
 
-// S1F14 nests 2, and with a model of 250 octets it is past the greatest size.
+// S1F14 nests 2, and with a model of 250 bytes it exceeds the maximum size.
 #[test]
 fn a_reply_past_a_limit_is_an_abort(rt: HostRuntime) -> Result<(), Stop> {
     let alloc = rt.alloc();
@@ -334,7 +335,7 @@ fn a_reply_past_a_limit_is_an_abort(rt: HostRuntime) -> Result<(), Stop> {
     check_aborted(&rt, alloc, 32, 250)
 }
 
-/// When a host is due, after each thing that it is told.
+/// The time at which a host is due, after each input.
 const DUE: &[(&str, Option<u64>)] = &[
     ("start 100", Some(6100)),
     ("octets 00", Some(5100)),
@@ -349,7 +350,7 @@ const DUE: &[(&str, Option<u64>)] = &[
     ("lost", None),
 ];
 
-/// When an end is due once it is told something.
+/// Checks the time at which an endpoint is due after an input.
 fn assert_due<D: Desk>(
     rt: &impl Abort,
     alloc: Global,
@@ -362,14 +363,14 @@ fn assert_due<D: Desk>(
     Ok(())
 }
 
-/// Equipment that starts so late that T7 ends past the greatest moment, and T8 before it.
+/// Equipment that starts so late that T7 ends past the maximum time, and T8 before it.
 const DUE_LATE: &[(&str, Option<u64>)] = &[
     ("start 18446744073709541616", None),
     ("octets 00", Some(u64::MAX - 4999)),
     ("lost", None),
 ];
 
-/// T8 ends at the greatest moment, and past it.
+/// T8 ends at the maximum time, and past it.
 const DUE_LAST: &[(&str, Option<u64>)] = &[
     ("start 18446744073709546615", None),
     ("octets 00", Some(u64::MAX)),

@@ -1,4 +1,4 @@
-//! Which fault is told where a call meets several: the first one of the list.
+//! Which error a call with several errors returns: the first one of the list.
 
 use super::{
     Abort, AllocError, Desk, End, EndFault, Entry, Global, HostDesk, Input, Message, Role, Side,
@@ -6,7 +6,7 @@ use super::{
 };
 use secs_item::Item;
 
-/// A message with a text of so many octets in so many lists, and the fault that it meets first.
+/// A message with a text of this many bytes in this many lists, and its first error.
 struct FaultCase {
     stream: u8,
     function: u8,
@@ -16,7 +16,7 @@ struct FaultCase {
     fault: EndFault,
 }
 
-/// The connection isn't up.
+/// The connection is not up.
 const NOT_UP: &[FaultCase] = &[
     FaultCase {
         stream: 9,
@@ -44,7 +44,7 @@ const NOT_UP: &[FaultCase] = &[
     },
 ];
 
-/// The session isn't selected, and 64 transactions are open.
+/// The session is not selected, and 64 transactions are open.
 const NOT_SELECTED: &[FaultCase] = &[
     FaultCase {
         stream: 9,
@@ -206,7 +206,7 @@ fn input_of(alloc: Global, fault_case: &FaultCase) -> Result<Input, AllocError> 
     )))
 }
 
-/// The fault of a call. Want of memory is handed up.
+/// Returns the error of a call. A failed allocation is passed on.
 fn fault_of(answer: Result<Vec<Entry>, EndFault>) -> Result<Option<EndFault>, EndFault> {
     match answer {
         Ok(_) => Ok(None),
@@ -215,7 +215,7 @@ fn fault_of(answer: Result<Vec<Entry>, EndFault>) -> Result<Option<EndFault>, En
     }
 }
 
-/// An input meets this fault.
+/// Checks that an input has this error.
 fn assert_outcome<D: Desk>(
     rt: &impl Abort,
     end: &mut End<D>,
@@ -237,7 +237,7 @@ fn check_fault_case<D: Desk>(
     assert_outcome(rt, end, &input, fault_case.fault)
 }
 
-/// The messages meet these faults, and a Linktest.req meets this one.
+/// Checks that the messages have these errors, and that a Linktest.req has this one.
 fn check_all<D: Desk>(
     rt: &impl Abort,
     alloc: Global,
@@ -251,7 +251,7 @@ fn check_all<D: Desk>(
     assert_outcome(rt, end, &Input::Linktest, linktest)
 }
 
-/// A host opens 64 transactions: a Select.req and 63 Linktest.req.
+/// Opens 64 transactions of a host: a Select.req and 63 Linktest.req.
 fn open_all<D: Desk>(alloc: Global, end: &mut End<D>) -> Result<(), Stop> {
     submit_ok(alloc, end, "start 0")?;
     for _ in 0..63 {
@@ -260,7 +260,7 @@ fn open_all<D: Desk>(alloc: Global, end: &mut End<D>) -> Result<(), Stop> {
     Ok(())
 }
 
-/// Its Select.req is answered, and a primary takes the place.
+/// Answers its Select.req, and opens a primary instead.
 fn select<D: Desk>(alloc: Global, end: &mut End<D>) -> Result<(), Stop> {
     submit_ok(alloc, end, "comes ffff0000000200000001")?;
     submit_ok(alloc, end, "send S1F1 W .")

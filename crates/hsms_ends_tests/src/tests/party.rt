@@ -1,4 +1,4 @@
-//! An end of two that talk over memory.
+//! One of two endpoints that communicate in memory.
 
 use super::{
     Desk, End, EndFault, Entry, EquipmentDesk, Event, Global, HostDesk, Input, Settings, Stop,
@@ -7,7 +7,7 @@ use super::{
 use hsms_frame::{Feed, encode_frame};
 use hsms_log::{Summary, Verdict, audit, write_settings};
 
-/// An end, the text of its log, and the octets that it sent and that the other end didn't get yet.
+/// An endpoint, the text of its log, and the bytes that it sent and that the other endpoint has not received yet.
 #[derive(Drop)]
 pub struct Party<D> {
     pub end: End<D>,
@@ -32,7 +32,7 @@ impl<D: Desk + Drop> Party<D> {
         })
     }
 
-    /// Logs new entries, and puts what is sent on the line.
+    /// Logs new entries, and appends what is sent to the line.
     fn note(&mut self, alloc: Global, entries: &[Entry]) -> Result<(), Stop> {
         self.log.extend_from_slice(&lines_of(alloc, entries)?)?;
         for entry in entries {
@@ -43,7 +43,7 @@ impl<D: Desk + Drop> Party<D> {
         Ok(())
     }
 
-    /// Tells the end one input. A refused one leads to nothing.
+    /// Passes one input to the endpoint. A rejected input has no effect.
     pub fn submit(&mut self, alloc: Global, input: &Input) -> Result<(), Stop> {
         match submit(&mut self.end, input) {
             Ok(entries) => self.note(alloc, &entries),
@@ -52,7 +52,7 @@ impl<D: Desk + Drop> Party<D> {
         }
     }
 
-    /// Gets octets, one at a time.
+    /// Passes bytes to the endpoint, one at a time.
     pub fn process_input(&mut self, alloc: Global, octets: &[u8]) -> Result<(), Stop> {
         for octet in octets {
             self.submit(alloc, &Input::Bytes(vec![in alloc; *octet]?))?;
@@ -60,7 +60,7 @@ impl<D: Desk + Drop> Party<D> {
         Ok(())
     }
 
-    /// Takes octets off the front of the line, at most so many.
+    /// Removes at most `count` bytes from the start of the line.
     pub fn take(&mut self, alloc: Global, count: usize) -> Result<Vec<u8>, Stop> {
         let (taken, rest) = self.line.split_at(count.min(self.line.len()));
         let taken = Vec::from_slice(alloc, taken)?;
@@ -69,7 +69,7 @@ impl<D: Desk + Drop> Party<D> {
         Ok(taken)
     }
 
-    /// The summary of the log, which has to pass.
+    /// Returns the summary of the log, which has to pass.
     pub fn audited(&self, alloc: Global) -> Result<Summary, Stop> {
         let mut feed = Feed::new(Vec::from_slice(alloc, &self.log)?, 4096, u64::MAX);
         match audit(alloc, &mut feed)? {
@@ -79,7 +79,7 @@ impl<D: Desk + Drop> Party<D> {
     }
 }
 
-/// A host whose first system bytes are these.
+/// Returns a host whose first system bytes are these.
 pub fn host_of(
     alloc: Global,
     given: Option<Settings>,
@@ -88,7 +88,7 @@ pub fn host_of(
     Party::new(alloc, given.ok_or(Stop::Line)?, HostDesk, first)
 }
 
-/// Equipment whose first system bytes are 1.
+/// Returns equipment whose first system bytes are 1.
 pub fn tool_of(alloc: Global, given: Option<Settings>) -> Result<Party<EquipmentDesk>, Stop> {
     Party::new(alloc, given.ok_or(Stop::Line)?, equipment(alloc)?, 1)
 }

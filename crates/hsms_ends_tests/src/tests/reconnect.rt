@@ -1,4 +1,4 @@
-//! Connection after connection, served over a link in memory in one log.
+//! Consecutive connections, served over a link in memory in one log.
 
 use super::connection::{audited, link_of, log_of, settings_of};
 use super::{
@@ -7,7 +7,7 @@ use super::{
 use hsms_ends::{HostDesk, Lent, Scripted, ServeFault, ServedAgain, Step, serve_again};
 use secs_text::read;
 
-/// Want of memory is handed up.
+/// Checks that this many connections were served. A failed allocation is passed on.
 fn assert_served(
     rt: &impl Abort,
     answer: Result<ServedAgain, ServeFault>,
@@ -26,7 +26,7 @@ fn assert_served(
     }
 }
 
-/// A log passes the audit with so many entries.
+/// Checks that a log passes the audit with this number of entries.
 fn assert_entries(rt: &impl Abort, alloc: Global, log: &Store, entries: u64) -> Result<(), Stop> {
     let summary = audited(alloc, log.written())?;
     assert_so(rt, summary.entries == entries, "entries");
@@ -45,7 +45,7 @@ fn serve_lent<D: TurnDesk>(
     serve_again(alloc, link, log, settings, lent, 1, &[], &[], None, 100, 2)
 }
 
-/// Two connections of equipment leave this text, which passes the audit with so many entries.
+/// Checks that two connections of equipment give this text, which passes the audit with this number of entries.
 fn check_lent<D: TurnDesk>(
     rt: &impl Abort,
     alloc: Global,
@@ -62,7 +62,7 @@ fn check_lent<D: TurnDesk>(
     assert_entries(rt, alloc, log, entries)
 }
 
-/// The same over a link with these moments and waits.
+/// The same check over a link with these times and waits.
 pub fn check_twice<D: TurnDesk>(
     rt: &impl Abort,
     alloc: Global,
@@ -90,14 +90,14 @@ const EQUIPMENT_LOG: &str = "hsms-log 2 equipment passive 0 45000 6000 10000 500
 7 down
 ";
 
-/// What comes to the equipment: it is selected and left, twice.
+/// The messages that equipment receives: it is selected and left, twice.
 const SELECTED_TWICE: &str = "ffff0000000100000001
 ffff0000000900000003
 ffff0000000100000001
 ffff0000000900000003
 ";
 
-/// The clock goes back to 3 with the second connection: times don't.
+/// The clock goes back to 3 with the second connection; the times of the log do not.
 #[test]
 fn a_tool_is_selected_twice(rt: HostRuntime) -> Result<(), Stop> {
     let alloc = rt.alloc();
@@ -136,7 +136,7 @@ fn serve_host(
     )
 }
 
-/// Three connections of a host leave a log that passes the audit with 15 entries.
+/// Checks that three connections of a host give a log that passes the audit with 15 entries.
 fn check_host(
     rt: &impl Abort,
     alloc: Global,
@@ -150,7 +150,7 @@ fn check_host(
     assert_entries(rt, alloc, log, 15)
 }
 
-/// What the host sends.
+/// Returns what the host sends.
 fn script(alloc: Global) -> Result<Vec<Step>, Stop> {
     let message = read(alloc, b"S1F1 W .", 32)?;
     let mut script = Vec::new(alloc);
@@ -158,8 +158,8 @@ fn script(alloc: Global) -> Result<Vec<Step>, Stop> {
     Ok(script)
 }
 
-/// What comes to the host: in the first connection it is selected, answered and left, and in the second one it is
-/// selected and left.
+/// The messages that the host receives. In the first connection it is selected, answered and left; in the second one
+/// it is selected and left.
 const ANSWERED_ONCE: &str = "ffff0000000200000001
 00000102000000000002
 ffff0000000900000003
@@ -167,7 +167,7 @@ ffff0000000200000001
 ffff0000000900000003
 ";
 
-/// A host that sends its script in the first connection alone. The third one finds the peer gone.
+/// A host that sends its script only in the first connection. In the third one the peer is gone.
 #[test]
 fn a_host_connects_again(rt: HostRuntime) -> Result<(), Stop> {
     let alloc = rt.alloc();

@@ -1,4 +1,4 @@
-//! What a served connection leaves where memory is refused.
+//! The log and the sent bytes of a served connection after a failed allocation.
 
 use super::connection::link_of;
 use super::{
@@ -9,8 +9,8 @@ use hsms_ends::{Scripted, ServeFault, Served, Step, serve};
 use hsms_log::{Verdict, judge};
 use std::process::Abort;
 
-/// A connection: what the peer says, one message for each wait, the lines that each call of the end adds to the log, and
-/// the octets that it has the link take.
+/// A connection: what the peer sends, one message for each wait; the lines that each call of the endpoint adds to the
+/// log, and the bytes that it sends.
 struct Connection {
     role: Role,
     side: Side,
@@ -47,7 +47,7 @@ ffff0000000900000003
     ],
 };
 
-/// A host asks by S1F1, is answered and separates.
+/// A host sends S1F1, is answered and separates.
 const HOST: Connection = Connection {
     role: Role::Host,
     side: Side::Active,
@@ -72,7 +72,7 @@ const HOST: Connection = Connection {
     ],
 };
 
-/// Serves it. The host has a script.
+/// Serves the connection. The host has a script.
 fn served(
     alloc: Global,
     case: &Connection,
@@ -92,7 +92,7 @@ fn served(
     }
 }
 
-/// How many calls of the end the log has, with its first line. The link took what they sent.
+/// Returns the number of the endpoint's calls in the log, with its first line. The link sent their messages.
 fn calls_of(rt: &impl Abort, case: &Connection, log: &[u8], taken: &[u8]) -> usize {
     let mut calls = 0usize;
     let (mut lines, mut octets) = (log, taken);
@@ -108,7 +108,7 @@ fn calls_of(rt: &impl Abort, case: &Connection, log: &[u8], taken: &[u8]) -> usi
     calls
 }
 
-/// All calls were served, or the one after so many of them was refused memory.
+/// Checks that all calls were served, or that an allocation failed in the call after the first `calls`.
 fn assert_answer(rt: &impl Abort, answer: Result<Served, ServeFault>, calls: usize, of_all: usize) {
     match answer {
         Ok(served) => {
@@ -131,7 +131,7 @@ fn assert_not_failing(rt: &impl Abort, alloc: Global, log: &[u8]) {
     );
 }
 
-/// The log has the entries of the calls before the refused one, and passes the audit.
+/// Checks that the log has the entries of the calls before the failed one, and passes the audit.
 fn check_calls(
     rt: &impl Abort,
     alloc: Global,
@@ -149,7 +149,7 @@ fn check_calls(
     Ok(())
 }
 
-/// Where the test's own memory is refused, it has nothing to say.
+/// If an allocation of the test itself fails, it checks nothing.
 fn assert_log_of_calls(rt: &impl Abort, alloc: Global, case: &Connection) -> Result<(), Stop> {
     let room = vec![in alloc; 0u8; 400];
     let (Ok(mut link), Ok(room)) = (link_of(alloc, &[], case.said, 100, u64::MAX), room) else {

@@ -1,4 +1,4 @@
-//! The link in memory: its clock, its waits, its room and its fuse.
+//! The link in memory: its clock, its waits, its capacity and its fuse.
 
 ghost use Rattle.std.specs.Prelude.{◌<◌};
 
@@ -7,13 +7,13 @@ use hsms_ends::{Got, Link, LinkFault, Scripted};
 use std::alloc::{AllocError, Global};
 use std::process::Abort;
 
-/// A link with these moments.
+/// Returns a link with these times.
 fn clock(alloc: Global, moments: &[u64]) -> Result<Scripted, AllocError> {
     let moments = Vec::from_slice(alloc, moments)?;
     Ok(Scripted::new(moments, Vec::new(alloc), Vec::new(alloc), 1, u64::MAX))
 }
 
-/// A link with these waits, a room of four octets, and a clock that stands at 0.
+/// Returns a link with these waits, a capacity of four bytes, and a clock that stays at 0.
 fn peer(
     alloc: Global,
     waits: &[Option<&[u8]>],
@@ -33,19 +33,19 @@ fn peer(
     Ok(Scripted::new(Vec::new(alloc), said, room, piece, fuse))
 }
 
-/// Waits with room for three octets, and looks at the answer and the octets that came.
+/// Waits with space for three bytes, and checks the result and the bytes received.
 fn assert_wait(rt: &impl Abort, link: &mut Scripted, want: Got, octets: &[u8]) {
     let mut into = [b'.'; 3];
     let got = link.wait(None, &mut into);
     assert_so(rt, got == Ok(want) && into.starts_with(octets), "a wait");
 }
 
-/// The next moment of a link.
+/// Checks the next time of a link.
 fn assert_now(rt: &impl Abort, link: &mut Scripted, want: u64) {
     assert_so(rt, link.now() == want, "a moment");
 }
 
-/// Sends octets, and looks at the answer.
+/// Sends bytes, and checks the result.
 fn assert_send(
     rt: &impl Abort,
     link: &mut Scripted,
@@ -55,7 +55,7 @@ fn assert_send(
     assert_so(rt, link.send(octets) == want, "a send");
 }
 
-/// Waits until a moment, which fails or doesn't, and is noted.
+/// Waits until a time. Checks whether the wait fails, and that the link records the time.
 fn assert_until(rt: &impl Abort, link: &mut Scripted, until: Option<u64>, fails: bool) {
     let answer = link.wait(until, &mut [0u8; 3]);
     let is_noted = link.until() == until;
@@ -72,7 +72,7 @@ fn assert_moments(rt: &impl Abort, link: &mut Scripted, moments: &[u64]) {
     }
 }
 
-/// A link with these moments has those.
+/// Checks that a link with these times returns them.
 fn check_times(
     rt: &impl Abort,
     alloc: Global,
@@ -99,7 +99,7 @@ const WAITS: &[Option<&[u8]>] = &[
     Some(b"ef"),
 ];
 
-/// What waits answer, and what begins their octets then.
+/// The results of waits, and the start of their bytes.
 const WAITED: &[(Got, &[u8])] = &[
     (Got::Octets(3), b"abc"),
     (Got::Octets(1), b"d"),
@@ -109,7 +109,7 @@ const WAITED: &[(Got, &[u8])] = &[
     (Got::Closed, b"..."),
 ];
 
-/// The same where a wait gives one octet at most.
+/// The results if a wait returns one byte at most.
 const WAITED_FOR_ONE: &[(Got, &[u8])] = &[
     (Got::Octets(1), b"a"),
     (Got::Octets(1), b"b"),
@@ -125,7 +125,7 @@ fn assert_waits(rt: &impl Abort, link: &mut Scripted, waited: &[(Got, &[u8])]) {
     }
 }
 
-/// Where waits give so many octets at most, they answer this.
+/// Checks the results of waits that return at most `piece` bytes.
 fn check_waits(
     rt: &impl Abort,
     alloc: Global,

@@ -1,4 +1,4 @@
-//! Connections that are served over a link in memory, and the logs that come of them.
+//! Connections that are served over a link in memory, and their logs.
 
 ghost use Rattle.std.specs.Prelude.{◌<◌};
 
@@ -9,31 +9,31 @@ use super::{Abort, Global, Role, Stop, Store, assert_octets, assert_so, octets_o
 use hsms_ends::{Scripted, ServeFault, Served, Step};
 use secs_text::read;
 
-/// A connection: what the peer says, and what is to come of it.
+/// A connection: what the peer sends, and the expected result.
 #[derive(Clone, Copy)]
 struct Connection {
     name: &'static str,
     role: Role,
     moments: &'static [u64],
-    /// What each wait gives, a line each: `quiet`, or the octets of these messages.
+    /// What each wait receives, one line each: `quiet`, or the bytes of these messages.
     waits: &'static str,
-    /// How many waits and sends don't fail.
+    /// The number of waits and sends that do not fail.
     fuse: u64,
-    /// How many octets the log has room for.
+    /// The capacity of the log, in bytes.
     room: usize,
     /// Lines of messages in notation, or `separate`.
     script: &'static str,
     turns: u64,
     answer: Result<Served, ServeFault>,
-    /// Until when the last wait was asked to wait.
+    /// The time until which the last wait was to wait.
     until: Option<u64>,
     /// The log after its first line.
     log: &'static str,
-    /// The messages that the link took.
+    /// The messages that the link sent.
     sent: &'static str,
 }
 
-/// The peer selects, asks for the link and separates.
+/// The peer selects, tests the link and separates.
 const PASSIVE: Connection = Connection {
     name: "equipment is selected, tested and left",
     role: Role::Equipment,
@@ -68,7 +68,7 @@ const HOST_LOG: &str = "0 up
 0 down
 ";
 
-/// A host sends a reply, which is refused, then S1F1, and separates.
+/// A host sends a reply, which is rejected, then S1F1, and separates.
 const ACTIVE: Connection = Connection {
     name: "a host takes its script",
     role: Role::Host,
@@ -87,7 +87,7 @@ const ACTIVE: Connection = Connection {
     sent: "ffff0000000100000001 00008101000000000002 ffff0000000900000003",
 };
 
-/// With single octets each octet takes a turn.
+/// With single bytes each byte takes a turn.
 const PATIENT: Connection = Connection {
     name: "a host takes its script, and has turns enough",
     turns: 100,
@@ -233,7 +233,7 @@ fn script_of(alloc: Global, lines: &str) -> Result<Vec<Step>, Stop> {
     Ok(script)
 }
 
-/// The text that the log of a connection is to be.
+/// Returns the expected text of a connection's log.
 fn text_of(alloc: Global, case: &Connection) -> Result<Vec<u8>, Stop> {
     let first_line = match case.role {
         Role::Host => HOST_LINE,
@@ -244,7 +244,7 @@ fn text_of(alloc: Global, case: &Connection) -> Result<Vec<u8>, Stop> {
     Ok(text)
 }
 
-/// The log of a connection is what it is to be, and passes the audit, unless a write to it failed.
+/// Checks that the log of a connection is the expected one, and passes the audit, unless a write to it failed.
 fn check_log_lines(
     rt: &impl Abort,
     alloc: Global,
@@ -259,7 +259,7 @@ fn check_log_lines(
     Ok(())
 }
 
-/// The link took what it is to take.
+/// Checks that the link sent what is expected.
 fn check_link(
     rt: &impl Abort,
     alloc: Global,
@@ -271,7 +271,7 @@ fn check_link(
     Ok(())
 }
 
-/// What is answered to a connection over this link with this log. Want of memory ends the test.
+/// Returns the result of a connection over this link with this log. A failed allocation ends the test.
 fn answer_to(
     alloc: Global,
     case: &Connection,
@@ -286,7 +286,7 @@ fn answer_to(
     }
 }
 
-/// Serves a connection. Until then the last wait was asked to wait.
+/// Serves a connection. Its last wait was to wait until `until`.
 fn check_connection(
     rt: &impl Abort,
     alloc: Global,
@@ -303,7 +303,7 @@ fn check_connection(
     Ok(())
 }
 
-/// A connection that is served moves so many octets a call, and until then its last wait was asked to wait.
+/// Serves a connection that moves at most `piece` bytes per call. Its last wait was to wait until `until`.
 fn check_served(
     rt: &impl Abort,
     alloc: Global,
@@ -337,7 +337,7 @@ fn check_chunks(
     check_served(rt, alloc, &PASSIVE, piece, until)
 }
 
-/// Where a message came in part, a wait lasts until T8 is past.
+/// If a message arrived in part, a wait lasts until T8 is past.
 #[test]
 fn pieces_do_not_matter(rt: HostRuntime) -> Result<(), Stop> {
     let alloc = rt.alloc();

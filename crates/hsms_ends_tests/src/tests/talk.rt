@@ -1,4 +1,4 @@
-//! A host and an equipment talk over memory, one octet at a time.
+//! A host and equipment that communicate in memory, one byte at a time.
 
 use super::party::{Party, host_of, tool_of};
 use super::{
@@ -33,7 +33,7 @@ const EQUIPMENT_LOG: &str = "hsms-log 1 equipment passive 0 45000 6000 10000 500
 9 down
 ";
 
-/// When what ends sent begins to go to and fro, and what the host is told then.
+/// The times at which the sent bytes start to be exchanged, and the host's input then.
 const SAID: &[(u64, &str)] = &[
     (1, "send S1F13 W <L> ."),
     (3, "send S2F25 W <B 0x01 0x02> ."),
@@ -41,7 +41,7 @@ const SAID: &[(u64, &str)] = &[
     (7, "separate"),
 ];
 
-/// What one end sent comes to the other one, at this time.
+/// Passes the bytes that one endpoint sent to the other one, at this time.
 fn pass<D: Desk + Drop, E: Desk + Drop>(
     alloc: Global,
     from: &mut Party<D>,
@@ -53,7 +53,7 @@ fn pass<D: Desk + Drop, E: Desk + Drop>(
     to.process_input(alloc, &octets)
 }
 
-/// What ends sent goes to and fro, a millisecond each way, and then the host is told a line.
+/// Exchanges the sent bytes, a millisecond each way, and then passes a line to the host.
 fn exchange<D: Desk + Drop, E: Desk + Drop>(
     alloc: Global,
     host: &mut Party<D>,
@@ -67,7 +67,7 @@ fn exchange<D: Desk + Drop, E: Desk + Drop>(
     host.submit(alloc, &input)
 }
 
-/// What is said goes to and fro.
+/// Exchanges all messages.
 fn talk<D: Desk + Drop, E: Desk + Drop>(
     alloc: Global,
     host: &mut Party<D>,
@@ -79,7 +79,7 @@ fn talk<D: Desk + Drop, E: Desk + Drop>(
     pass(alloc, host, tool, 9)
 }
 
-/// Both start, the equipment first.
+/// Starts both, the equipment first.
 fn start<D: Desk + Drop, E: Desk + Drop>(
     alloc: Global,
     host: &mut Party<D>,
@@ -89,7 +89,7 @@ fn start<D: Desk + Drop, E: Desk + Drop>(
     host.submit(alloc, &Input::Start(0))
 }
 
-/// The log of a party is this text of 11 entries, and passes the audit.
+/// Checks that the log of a party is this text of 11 entries, and passes the audit.
 fn assert_log<D: Desk + Drop>(
     rt: &impl Abort,
     alloc: Global,

@@ -1,10 +1,10 @@
-//! Two ends are told long random lists, and each log that they leave passes the audit.
+//! Two endpoints with long random lists of inputs. Each of their logs passes the audit.
 
 use super::party::{Party, host_of, tool_of};
 use super::{Desk, Global, Input, Message, Role, Settings, Side, Stop, octets_of, read};
 use hsms_log::Summary;
 
-/// What an end may be sent that no end sends by itself. The system bytes are then made other ones.
+/// Messages that no endpoint sends by itself. Their system bytes are replaced.
 const STRANGE: &[&str] = &[
     "00008101010000000000",
     "ffff0000000300000000",
@@ -30,7 +30,7 @@ const STRANGE: &[&str] = &[
     "00000101000000000000010101010100",
 ];
 
-/// What is sent, if the session is selected.
+/// Messages that are sent if the session is selected.
 const SAID: &[&str] = &[
     "S1F1 W .",
     "S1F13 W <L> .",
@@ -44,23 +44,23 @@ const SAID: &[&str] = &[
     "S1F1 W <L <L <L <L <L>>>>> .",
 ];
 
-/// How far time goes, in ms. T3 is 150, T6 300, T7 400 and T8 500.
+/// The steps of time, in ms. T3 is 150, T6 300, T7 400 and T8 500.
 const JUMPS: &[u64] = &[0, 0, 0, 1, 1, 2, 3, 10];
 
-/// How far it goes seldom.
+/// The rare steps of time, in ms.
 const LONG_JUMPS: &[u64] = &[150, 151, 300, 301, 400, 401, 500, 501];
 
-/// How many octets come at once, at most.
+/// The maximum number of bytes received at once.
 const PIECES: &[usize] = &[0, 1, 3, 13, 14, 40, 200, 1000, 1000];
 
-/// Numbers by chance: a linear congruential generator.
+/// Random numbers: a linear congruential generator.
 #[derive(Drop)]
 struct Chance {
     state: u64,
 }
 
 impl Chance {
-    /// A number below a count.
+    /// Returns a number below a count.
     fn below(&mut self, count: u64) -> u64 {
         self.state = self
             .state
@@ -74,20 +74,20 @@ fn settings(role: Role, link: Side) -> Option<Settings> {
     Settings::new(role, link, 0, 150, 300, 400, 500, 256, 4)
 }
 
-/// One of some values.
+/// Returns one of some values.
 fn one_of<T: Copy>(chance: &mut Chance, values: &[T]) -> Result<T, Stop> {
     let index = chance.below(values.len() as u64) as usize;
     Ok(*values.get(index).ok_or(Stop::Line)?)
 }
 
-/// The last of a message's system bytes is this one.
+/// Sets the last of a message's system bytes.
 fn set_system(octets: &mut [u8], system: u8) {
     if let Some(last) = octets.get_mut(13) {
         *last = system;
     }
 }
 
-/// A strange message, with system bytes from 0 to 7.
+/// Returns an unusual message, with system bytes from 0 to 7.
 fn strange(alloc: Global, chance: &mut Chance) -> Result<Vec<u8>, Stop> {
     let mut octets = octets_of(alloc, one_of(chance, STRANGE)?)?;
     let system = u8::try_from(chance.below(8)).unwrap_or(0);
@@ -99,7 +99,7 @@ fn said(alloc: Global, chance: &mut Chance) -> Result<Message, Stop> {
     Ok(read(alloc, one_of(chance, SAID)?.as_bytes(), 100)?)
 }
 
-/// Octets that come, mostly those that the other end sent, with garbage between.
+/// Returns received bytes: mostly those that the other endpoint sent, sometimes garbage instead.
 fn garbled(alloc: Global, chance: &mut Chance, line: Vec<u8>) -> Result<Vec<u8>, Stop> {
     match chance.below(2000) {
         0 => Ok(Vec::from_slice(alloc, &[0, 0, 0, 9])?),
@@ -109,7 +109,7 @@ fn garbled(alloc: Global, chance: &mut Chance, line: Vec<u8>) -> Result<Vec<u8>,
     }
 }
 
-/// What an end is told next, at this time.
+/// Returns the next input of an endpoint, at this time.
 fn next_input<E: Desk + Drop>(
     alloc: Global,
     chance: &mut Chance,
@@ -131,7 +131,7 @@ fn next_input<E: Desk + Drop>(
     Ok(input)
 }
 
-/// One thing happens to an end.
+/// Passes one input to an endpoint.
 fn step<D: Desk + Drop, E: Desk + Drop>(
     alloc: Global,
     chance: &mut Chance,
@@ -143,7 +143,7 @@ fn step<D: Desk + Drop, E: Desk + Drop>(
     party.submit(alloc, &input)
 }
 
-/// How far time goes.
+/// Returns a step of time.
 fn jump(chance: &mut Chance) -> Result<u64, Stop> {
     let jumps = if chance.below(500) == 0 {
         LONG_JUMPS
@@ -153,7 +153,7 @@ fn jump(chance: &mut Chance) -> Result<u64, Stop> {
     one_of(chance, jumps)
 }
 
-/// Time goes on, and then one thing happens to one of two ends. Answers the time.
+/// Advances the time, and then passes one input to one of two endpoints. Returns the time.
 fn go_on<D: Desk + Drop, E: Desk + Drop>(
     alloc: Global,
     chance: &mut Chance,
@@ -170,7 +170,7 @@ fn go_on<D: Desk + Drop, E: Desk + Drop>(
     Ok(now)
 }
 
-/// A thousand things happen to two ends.
+/// Passes a thousand inputs to two endpoints.
 fn wander<D: Desk + Drop, E: Desk + Drop>(
     alloc: Global,
     chance: &mut Chance,
@@ -184,7 +184,7 @@ fn wander<D: Desk + Drop, E: Desk + Drop>(
     Ok(())
 }
 
-/// Two ends start and live. Answers the summaries of their logs.
+/// Starts two endpoints and runs them. Returns the summaries of their logs.
 fn live<D: Desk + Drop, E: Desk + Drop>(
     alloc: Global,
     chance: &mut Chance,
@@ -197,7 +197,7 @@ fn live<D: Desk + Drop, E: Desk + Drop>(
     Ok([host.audited(alloc)?, tool.audited(alloc)?])
 }
 
-/// Two ends live through a list of a thousand things.
+/// Runs two endpoints with a list of a thousand inputs.
 fn walk(alloc: Global, seed: u64) -> Result<[Summary; 2], Stop> {
     let mut chance = Chance { state: seed };
     let (one, two) = if chance.below(2) == 0 {

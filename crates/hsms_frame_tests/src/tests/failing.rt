@@ -4,8 +4,8 @@ use std::io;
 use std::io::{ErrorKind, Read, Write};
 use std::process::Abort;
 
-// Fails at its first call as one that was interrupted, which std's own helpers would try again. From then on it moves
-// one octet a call.
+// A reader and writer that fails at its first call as if interrupted, which the helpers of std would retry. Then it
+// moves one byte a call.
 #[derive(Drop)]
 struct Flaky {
     is_well: bool,
@@ -39,7 +39,7 @@ impl Write for Flaky {
     }
 }
 
-// The first call fails, and the second one moves an octet.
+// Asserts that the first call fails, and the second moves one byte.
 fn assert_second(rt: &impl Abort, first: Result<usize, Failed>, second: Result<usize, Failed>) {
     assert_so(rt, first == Err(Failed), "the first call");
     assert_so(rt, second == Ok(1), "the second call");

@@ -3,9 +3,9 @@ use hsms_frame::{Frame, FrameFault, Framer, Header, encode_frame};
 use std::alloc::Global;
 use std::process::Abort;
 
-// Memory is refused, and the framer is as it was.
+// Asserts that an allocation failed, and the framer is unchanged.
 fn assert_as_before(rt: &impl Abort, framer: &Framer, fault: FrameFault, before: &[u8]) {
-    assert_so(rt, fault == FrameFault::Memory, "want of memory");
+    assert_so(rt, fault == FrameFault::Memory, "out of memory");
     assert_octets(rt, framer.pending(), before);
 }
 
@@ -13,7 +13,7 @@ fn assert_empty(rt: &impl Abort, framer: &Framer) {
     assert_so(rt, framer.pending().is_empty(), "nothing is pending");
 }
 
-// Pushes octets. Where memory is refused the framer is as it was, and a second try meets no refusal.
+// Pushes bytes. If an allocation fails, the framer is unchanged, and a retry succeeds.
 fn push(
     rt: &impl Abort,
     alloc: Global,
@@ -28,8 +28,7 @@ fn push(
     Ok(())
 }
 
-// Takes the message at the front away. Where memory is refused the framer is as it was, and a second try meets no
-// refusal.
+// Removes the message at the front. If an allocation fails, the framer is unchanged, and a retry succeeds.
 fn next(rt: &impl Abort, alloc: Global, framer: &mut Framer) -> Result<Option<Frame>, FrameFault> {
     let before = Vec::from_slice(alloc, framer.pending())?;
     match framer.next() {
@@ -42,14 +41,14 @@ fn next(rt: &impl Abort, alloc: Global, framer: &mut Framer) -> Result<Option<Fr
     }
 }
 
-// Adds the octets of a message.
+// Appends the bytes of a message.
 fn add_frame(alloc: Global, frame: &Frame, given: &mut Vec<u8>) -> Result<(), FrameFault> {
     let octets = encode_frame(alloc, frame)?;
     given.extend_from_slice(&octets)?;
     Ok(())
 }
 
-// Adds the octets of the messages at the front, which are taken away.
+// Removes the messages at the front, and appends their bytes.
 fn add_frames(
     rt: &impl Abort,
     alloc: Global,
@@ -65,7 +64,7 @@ fn add_frames(
     Ok(())
 }
 
-// Behind this piece all that is given has these octets.
+// Checks that after this chunk all returned messages have these bytes.
 fn check_chunk(
     rt: &impl Abort,
     alloc: Global,
@@ -80,7 +79,8 @@ fn check_chunk(
     Ok(())
 }
 
-// Octets come in two pieces. Behind the first one these octets are given, and all behind the second one.
+// Pushes bytes in two chunks. Checks the bytes of the returned messages after the first chunk, and all of them after
+// the second.
 fn check_chunks(
     rt: &impl Abort,
     alloc: Global,
@@ -113,7 +113,7 @@ fn check_cut(
 const BOTH: &[u8] =
     b"\x00\x00\x00\x0a\xff\xff\x00\x00\x00\x01\x00\x00\x00\x01\x00\x00\x00\x0c\x00\x00\x81\x0d\x00\x00\x00\x00\x00\x01\x01\x00";
 
-// What is given of both behind so many octets.
+// Returns the bytes of the messages that are complete after this many bytes of both.
 fn given_of_both(length: usize) -> &'static [u8] {
     match length {
         0..14 => b"",
@@ -149,7 +149,7 @@ const MESSAGES: &[&[u8]] = &[
     b"\0\0\0\n\xff\xff\0\0\0\t\0\0\0\x03",
 ];
 
-// What else the worked sessions have: control messages.
+// The other control messages of the example sessions.
 const CONTROL: &[&[u8]] = &[
     b"\0\0\0\n\xff\xff\0\0\0\x01\0\0\0\x06",
     b"\0\0\0\n\xff\xff\0\x01\0\x02\0\0\0\x06",
@@ -214,14 +214,14 @@ fn gives_each_data_message_from_any_two_pieces(rt: HostRuntime) -> Result<(), Fr
     gives_each_back(&rt, rt.alloc(), DATA_MESSAGES)
 }
 
-// A message of the greatest size that the framer takes.
+// Returns a message of the maximum size that the framer accepts.
 fn longest(alloc: Global) -> Result<Vec<u8>, FrameFault> {
     let mut octets = Vec::from_slice(alloc, b"\0\0\x01\0\0\0\x01\x01\0\0\0\0\0\x01!\xf4")?;
     octets.extend_from_slice(&[0; 244])?;
     Ok(octets)
 }
 
-// A message of 32 lists in one another.
+// Returns a message of 32 nested lists.
 fn deepest(alloc: Global) -> Result<Vec<u8>, FrameFault> {
     let mut octets = Vec::from_slice(alloc, b"\0\0\0J\0\0\x01\x01\0\0\0\0\0\x02")?;
     for _ in 0..31 {
@@ -250,7 +250,7 @@ fn gives_back_from_any_two_pieces(
     Ok(())
 }
 
-// A piece, the messages that are given behind it in all, if they are asked for, and the fault that is told then.
+// A chunk, all messages that are returned after it, if they are requested, and the error that is returned then.
 type Step = (&'static [u8], Option<&'static [u8]>, Option<FrameFault>);
 
 fn fault_of(
@@ -282,7 +282,7 @@ fn check_one_step(
     Ok(())
 }
 
-// These steps leave that pending.
+// Checks steps that leave these bytes pending.
 fn check_steps(
     rt: &impl Abort,
     alloc: Global,
@@ -308,7 +308,7 @@ fn check_session(
     check_steps(rt, alloc, &mut framer, steps, pending)
 }
 
-// The octets of DATA come one by one.
+// The bytes of DATA come one by one.
 const ONE_BY_ONE: &[Step] = &[
     (b"\x00", Some(b""), None),
     (b"\x00", Some(b""), None),
@@ -338,7 +338,7 @@ const TOO_SHORT: &[Step] = &[
     (b"\x09", Some(b""), Some(FrameFault::TooShort { length: 9 })),
 ];
 
-// The octets of LONG come one by one.
+// The bytes of LONG come one by one.
 const TOO_LONG: &[Step] = &[
     (b"\x00", Some(b""), None),
     (b"\x00", Some(b""), None),
@@ -399,7 +399,7 @@ fn gives_each_of_a_thousand_once(rt: HostRuntime) -> Result<(), FrameFault> {
     Ok(())
 }
 
-// Two messages come in two pieces, and are asked for behind both.
+// Two messages come in two chunks, and are requested after both.
 const TWO: &[Step] = &[(&SELECT, None, None), (&DATA, Some(BOTH), None)];
 
 #[test]

@@ -3,7 +3,7 @@ use hsms_frame::{Ahead, AheadFault, Feed};
 use std::alloc::{AllocError, Global};
 use std::process::Abort;
 
-// What a read answers, or a pass over three octets of more. Want of memory is handed up.
+// Returns the result of a read, or of a pass over three bytes if there are more. Propagates a failed allocation.
 fn answer_to(ahead: &mut Ahead, source: &mut Feed, step: &str) -> Result<&'static str, AllocError> {
     if step == "pass" {
         if 3 < ahead.as_slice().len() {
@@ -19,7 +19,7 @@ fn answer_to(ahead: &mut Ahead, source: &mut Feed, step: &str) -> Result<&'stati
     }
 }
 
-// What is done or answered, and what stands ahead then, if that is looked at.
+// A step with its result, and the buffered bytes after it, if they are checked.
 type Step = (&'static str, Option<&'static [u8]>);
 
 fn check_steps(
@@ -36,7 +36,8 @@ fn check_steps(
     Ok(())
 }
 
-// Octets that come so many at a time, where so many calls are well. At first nothing stands ahead, at last so much.
+// Checks steps on a source with this many bytes a call and this many calls that succeed. At first no byte is buffered,
+// at the end `length` bytes.
 fn check_ahead(
     rt: &impl Abort,
     alloc: Global,
@@ -73,7 +74,7 @@ const FAR: &[Step] = &[
     ("end", None),
 ];
 
-// Nothing is passed, so each read needs more room than the one before.
+// Passes nothing, so each read needs more capacity than the one before.
 #[test]
 fn reads_far_ahead(rt: HostRuntime) -> Result<(), AllocError> {
     let octets = vec![in rt.alloc(); 7u8; 200_000]?;

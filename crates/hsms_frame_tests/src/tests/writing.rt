@@ -6,7 +6,7 @@ use hsms_frame::{
 use std::alloc::{AllocError, Global};
 use std::process::Abort;
 
-// The headers that are built, one behind the other.
+// The headers that are built, one after another.
 const HEADERS: &[u8] = b"\
     \x00\x00\x81\x0d\x00\x00\x00\x00\x00\x01\
     \x00\x00\x01\x02\x00\x00\x00\x00\x00\x02\
@@ -59,7 +59,7 @@ fn assert_writes(
     assert_octets(rt, store.written(), octets);
 }
 
-// A message is written into so much room.
+// Writes a message into this much room.
 fn check_writes(
     rt: &impl Abort,
     alloc: Global,
@@ -86,7 +86,7 @@ fn assert_encoded(rt: &impl Abort, answer: Result<Vec<u8>, FrameFault>, want: &[
     }
 }
 
-// Where its own input is refused, this test has nothing to say.
+// If the allocation of its own input fails, this test checks nothing.
 #[test]
 fn refused_octets(rt: HostRuntime) {
     let alloc = rt.alloc();

@@ -37,7 +37,7 @@ pub const WRITTEN: &[&str] = &[
     "18446744073709551615 up",
 ];
 
-/// What is no line of an entry, nor a comment.
+/// Lines that are neither an entry nor a comment.
 pub const NO_LINES: &[&str] = &[
     "18446744073709551616 up",
     " ",

@@ -1,4 +1,4 @@
-//! What answers what, and which system bytes are free, in sessions of a host.
+//! Which message answers which, and which system bytes are free, in sessions of a host.
 
 pub const CLOSING: &str = "# another stream
 selected

@@ -1,6 +1,6 @@
 //! Logs of several connections.
 
-/// A connection that goes down while a primary waits for its reply.
+/// A connection that is closed while a primary waits for its reply.
 pub const FIRST: &str = "0 up
 0 > ffff0000000100000001
 5 < ffff0000000200000001
@@ -8,14 +8,14 @@ pub const FIRST: &str = "0 up
 20 down
 ";
 
-/// The version of one connection.
+/// Sessions in the version of one connection.
 pub const ALONE: &str = "# a second connection in version 1
 first
 90000 up
 = Some(NotUp), 1 waiting
 ";
 
-/// The version of several connections.
+/// Sessions in the version of several connections.
 pub const CONNECTIONS: &str = "# the first connection
 first
 = None, 1 waiting

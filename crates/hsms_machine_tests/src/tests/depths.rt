@@ -1,4 +1,4 @@
-//! How deep a text may be nested.
+//! The maximum depth of a text.
 
 use super::{
     Abort, AllocError, Entry, Event, Frame, Global, Role, SELECTED, Settings, Side, Stop, Tracker,
@@ -21,7 +21,7 @@ fn settings(depth: u8) -> Result<Settings, Stop> {
     .ok_or(Stop::Line)
 }
 
-/// So many lists in one another, the innermost one empty.
+/// Returns this many nested lists, the innermost one empty.
 fn lists(alloc: Global, count: u8) -> Result<Vec<u8>, AllocError> {
     let ones = [1u8; 510];
     let (outer, _) = ones.split_at(2 * usize::from(count.saturating_sub(1)));
@@ -30,7 +30,7 @@ fn lists(alloc: Global, count: u8) -> Result<Vec<u8>, AllocError> {
     Ok(text)
 }
 
-/// S1F1 W with them. Where memory was refused, a second try meets no refusal.
+/// Returns an accepted S1F1 W with them. If an allocation fails, a retry succeeds.
 fn taken(alloc: Global, count: u8) -> Result<Entry, Stop> {
     let header = header_of("00008101000000000002")?;
     let text = match lists(alloc, count) {
@@ -55,7 +55,7 @@ fn check_lists(
     Ok(())
 }
 
-/// As many lists as the depth are taken, and no more.
+/// Checks that as many lists as the depth are accepted, and no more.
 fn check_depth(rt: &impl Abort, alloc: Global, depth: u8) -> Result<(), Stop> {
     let mut tracker = Tracker::new(alloc, settings(depth)?);
     check_lines(rt, alloc, &mut tracker, SELECTED, "selected")?;

@@ -1,5 +1,5 @@
-//! Sessions of a host whose last entry is a discarded frame. It needs a cause: a rule that it would break as a taken
-//! one.
+//! Sessions of a host whose last entry is a discarded frame. It needs a cause: a rule that it would break as an
+//! accepted frame.
 
 pub const DISCARDS: &str = "# a cause by PType alone
 selected

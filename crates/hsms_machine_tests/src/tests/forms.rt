@@ -1,4 +1,4 @@
-//! What a message looks like, in sessions of a host that connects.
+//! The form of messages, in sessions of a host that connects.
 
 pub const FORMS: &str = "# Select.req with text
 selected

@@ -1,13 +1,13 @@
-//! The limits of settings, and what settings hold.
+//! The limits of settings, and the values in settings.
 
 use super::{Abort, InlineText, Role, Settings, Side, Stop, assert_said, assert_so};
 
-/// The device, T3, T6, T7, T8, the greatest size and the depth that settings can have.
+/// The device ID, T3, T6, T7, T8, the maximum size and the depth that settings can have.
 const WITHIN: &str = "0 1 1 1 1 256 1 the least
 32767 3600000 3600000 3600000 3600000 33554432 100 the greatest
 ";
 
-/// One number is past its limit.
+/// Rows in which one number is outside its limit.
 const PAST: &str = "32768 1 1 1 1 256 1 device
 0 0 1 1 1 256 1 T3 of 0
 0 3600001 1 1 1 256 1 T3
@@ -23,7 +23,7 @@ const PAST: &str = "32768 1 1 1 1 256 1 device
 0 1 1 1 1 256 101 depth
 ";
 
-/// The numbers of a row. Those that it hasn't are as they can't be.
+/// Returns the numbers of a row. Those that are missing have an invalid value.
 fn numbers_of(row: &str) -> [u32; 7] {
     let mut numbers = [u32::MAX; 7];
     for (number, word) in numbers.iter_mut().zip(row.split(' ')) {
@@ -32,7 +32,7 @@ fn numbers_of(row: &str) -> [u32; 7] {
     numbers
 }
 
-/// The settings of equipment that listens, with these numbers, if there are such.
+/// Returns the settings of equipment that listens, with these numbers, if there are such settings.
 fn settings_of(numbers: [u32; 7]) -> Result<Option<Settings>, Stop> {
     let [device, t3, t6, t7, t8, max, depth] = numbers;
     let device = u16::try_from(device).ok().ok_or(Stop::Line)?;
@@ -64,14 +64,14 @@ fn the_limits_of_settings(rt: HostRuntime) -> Result<(), Stop> {
     check_rows(&rt, PAST, false)
 }
 
-/// The ends, the device, the greatest size and the depth.
+/// Returns the role and the side, the device ID, the maximum size and the depth.
 fn ends_of(settings: Settings) -> InlineText<160> {
     let ends = (settings.role(), settings.link());
     let limits = (settings.device(), settings.max(), settings.depth());
     InlineText::of(format_args!("{ends:?} {limits:?}"))
 }
 
-/// T3, T6, T7, T8, the version, and that of several connections.
+/// Returns T3, T6, T7, T8, the version, and the version for several connections.
 fn timeouts_of(settings: Settings) -> InlineText<160> {
     let timeouts = (settings.t3(), settings.t6(), settings.t7(), settings.t8());
     let versions = (settings.version(), settings.several().version());

@@ -1,4 +1,4 @@
-//! Sessions of a host whose last entry breaks several rules: the first one is told.
+//! Sessions of a host whose last entry breaks several rules: the result is the first one.
 
 pub const ORDERS: &str = "# Backwards before NotUp
 selected

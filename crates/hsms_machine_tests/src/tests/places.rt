@@ -1,11 +1,11 @@
-//! Which line an entry closes: the log of a late reply, whose lines are counted from 1.
+//! The line that an entry closes: the log of a late reply, whose lines are counted from 1.
 
 ghost use Rattle.std.specs.Prelude.{◌≤◌};
 
 use super::{Abort, AllocError, Entry, EntryRef, Global, Stop, assert_so, happened, settings};
 use hsms_machine::Places;
 
-/// An entry closes what stands in this line.
+/// Asserts that an entry closes the entry in this line.
 fn assert_closes(rt: &impl Abort, places: &Places, entry: &Entry, want: Option<u64>, name: &str) {
     assert_so(rt, places.closes(&entry.as_ref()) == want, name);
 }
@@ -14,7 +14,7 @@ fn assert_oldest(rt: &impl Abort, places: &Places, want: Option<u64>) {
     assert_so(rt, places.oldest_data() == want, "the oldest");
 }
 
-/// A sent primary meets the one of this line.
+/// Asserts that a sent primary has the system bytes of the one in this line.
 fn assert_outcome(
     rt: &impl Abort,
     alloc: Global,
@@ -27,7 +27,7 @@ fn assert_outcome(
     Ok(())
 }
 
-/// Notes an entry. Where memory was refused, a second try meets no refusal.
+/// Records an entry. If an allocation fails, a retry succeeds.
 fn note(places: &mut Places, place: u64, entry: &EntryRef<'_>) -> Result<(), AllocError>
     requires rising { places.old.last_time ≤ place }
     ensures last { places.new.last_time ≤ place }
@@ -38,7 +38,7 @@ fn note(places: &mut Places, place: u64, entry: &EntryRef<'_>) -> Result<(), All
     }
 }
 
-/// What stands in this place closes what was wanted, and is noted.
+/// Checks that the entry in this line closes the expected one, and records it.
 fn note_line(
     rt: &impl Abort,
     alloc: Global,

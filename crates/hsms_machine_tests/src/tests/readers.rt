@@ -1,6 +1,6 @@
-//! What the readers of a tracker tell, and a frame of the greatest size.
+//! What the readers of a tracker return, and a frame of the maximum size.
 
-/// With 245 octets in its item a frame has 257, of which 256 are allowed.
+/// With 245 bytes in its item a frame has 257 bytes, and 256 are allowed.
 pub const SIZES: &str = "# the greatest size is sent
 selected
 5 > 00000101000000000002 zeros 244
@@ -27,7 +27,7 @@ selected
 = None, 0 waiting
 ";
 
-/// What the readers tell after each entry.
+/// What the readers return after each entry.
 pub const READ: &str = "# the readers
 told Before, 0 waiting, 0 open, due None
 0 up
@@ -64,7 +64,7 @@ told NotSelected, 0 waiting, 0 open, due Some(10007)
 told NotSelected, 0 waiting, 1 open, due Some(10007)
 ";
 
-/// Two primaries of an equipment that listens expire. Then come what it may not send or take.
+/// Two primaries of equipment that listens expire. Then follows what it may not send or accept.
 pub const LISTENING: &str = "# two primaries expire
 0 up
 10 < ffff0000000100000001

@@ -1,4 +1,4 @@
-//! How a log is gone on with behind an entry that breaks a rule: the log of a late reply, and what else may stand there.
+//! The repair of a log after an entry that breaks a rule: the log of a late reply, and other entries in its place.
 
 use super::{
     Abort, EntryRef, Global, InlineText, Stop, Tracker, assert_said, check_lines, happened,
@@ -10,7 +10,7 @@ const ASKED: &str = "selected
 1000 > 00008101000000000002
 ";
 
-/// Replies, the rules that they break, and the remedies.
+/// Replies, the rules that they break, and their repairs.
 const REPLIES: &str = "46001 < 00000102000000000002 = T3Overdue ExpireFirst(46000, 2)
 1001 < 00000102000000000003 = NoTransaction Discard
 1001 > 00000102000000000003 = NoTransaction LeaveOut
@@ -18,7 +18,7 @@ const REPLIES: &str = "46001 < 00000102000000000002 = T3Overdue ExpireFirst(4600
 999 < 00000102000000000002 = Backwards Raise(1000)
 ";
 
-/// The rule that a reply breaks, and its remedy.
+/// Returns the rule that a reply breaks, and its repair.
 fn repair_of(tracker: &Tracker, reply: &EntryRef<'_>) -> InlineText<160> {
     match tracker.check_ref(reply) {
         Some(rule) => {

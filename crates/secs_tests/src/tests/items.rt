@@ -11,14 +11,14 @@ use std::process::Abort;
 
 const DEPTH: u8 = 32;
 
-/// A copy is the same item.
+/// Checks that a copy equals the item.
 fn check_copy(rt: &impl Abort, alloc: Global, item: &Item) -> Result<(), AllocError> {
     let copy = own(item.copy(alloc)?);
     assert_so(rt, copy.item == *item, "a copy");
     Ok(())
 }
 
-/// An item is encoded so.
+/// Checks the encoding of an item.
 fn check_encoded(
     rt: &impl Abort,
     alloc: Global,
@@ -30,7 +30,7 @@ fn check_encoded(
     Ok(())
 }
 
-/// The octets are a text, of this item or of nothing.
+/// Checks that the bytes are a text, of this item or empty.
 fn check_text(
     rt: &impl Abort,
     alloc: Global,
@@ -48,7 +48,7 @@ fn check_text(
     Ok(())
 }
 
-/// An item is written so, it is copied, and these are its shortest octets, which are a text too.
+/// Checks the `Debug` text, the copy and the shortest encoding of an item. The encoding must also be a text.
 fn check_item(
     rt: &impl Abort,
     alloc: Global,
@@ -62,7 +62,7 @@ fn check_item(
     check_text(rt, alloc, shortest, DEPTH, name)
 }
 
-/// The octets are one item, whose shortest octets are these, and which is written so.
+/// Checks that the bytes are one item with this shortest encoding and this `Debug` text.
 fn recode(
     rt: &impl Abort,
     alloc: Global,
@@ -77,8 +77,8 @@ fn recode(
     check_item(rt, alloc, &read.item, shortest, name)
 }
 
-/// Octets of an item, its shortest octets, or none where they are the same, and what is written of it: longer fields and
-/// other truths first, characters, truths and numbers then, and at last one of each type.
+/// The bytes of an item, its shortest encoding (empty if it is the same), and its `Debug` text. Longer fields and other
+/// truth values come first, then characters, truth values and numbers, and finally one of each type.
 const ITEMS: &[(&[u8], &[u8], &str)] = &[
     (b"\x42\x00\x02AB", b"\x41\x02AB", "Ascii([65, 66])"),
     (b"\xab\x00\x00\x00", b"\xa9\x00", "U2([])"),
@@ -140,7 +140,7 @@ fn each_type(rt: HostRuntime) -> Result<(), ItemFault> {
     recode_each(&rt, rt.alloc(), ITEMS)
 }
 
-/// What is written of an item, and its body.
+/// Checks the `Debug` text of an item and its body.
 fn check_body(
     rt: &impl Abort,
     alloc: Global,
@@ -172,14 +172,14 @@ fn is_another(item: &Item, other: Item) -> bool {
     *item != other.item
 }
 
-/// The lists aren't an empty list, nor are no characters the same in both formats.
+/// Returns true if empty items of two text formats differ, and if `lists` differs from an empty list.
 fn are_others(alloc: Global, lists: &Item) -> bool {
     let characters = own(Item::Ascii(Vec::new(alloc)));
     is_another(&characters.item, Item::Jis8(Vec::new(alloc)))
         && is_another(lists, Item::List(Vec::new(alloc)))
 }
 
-/// Two lists, of which the second one is empty.
+/// Checks two lists, of which the second one is empty.
 fn check_lists(rt: &impl Abort, alloc: Global, lists: &Item) -> Result<(), ItemFault> {
     assert_so(rt, nesting(lists) == 2, "a nesting");
     assert_so(rt, are_others(alloc, lists), "another item");
@@ -193,7 +193,7 @@ fn lists_and_formats_differ(rt: HostRuntime) -> Result<(), ItemFault> {
     check_lists(&rt, rt.alloc(), &read.item)
 }
 
-/// Texts at their depths, and what is written of their items. An item of no characters nests in no list.
+/// Texts, their depths, and the `Debug` texts of their items. An item without characters is nested in no list.
 const TEXTS: &[(&[u8], u8, &str)] = &[
     (b"", DEPTH, ""),
     (LISTS, 2, "List([List([])])"),
@@ -216,7 +216,7 @@ fn texts(rt: HostRuntime) -> Result<(), ItemFault> {
     check_texts(&rt, rt.alloc(), TEXTS)
 }
 
-/// The octets have this fault, read as a text, which is told from their measure alone.
+/// Returns true if the bytes, read as a text, have this error. Measuring alone must find it.
 fn has_text_fault(alloc: Global, octets: &[u8], depth: u8, fault: ItemFault) -> bool
     requires { depth ≤ 100 }
 {
@@ -224,7 +224,7 @@ fn has_text_fault(alloc: Global, octets: &[u8], depth: u8, fault: ItemFault) -> 
         && decode_text(alloc, octets, depth).err() == Some(fault)
 }
 
-/// The octets have this fault, read as an item at their front, which is told from their measure alone.
+/// Returns true if the bytes, read as an item at the start, have this error. Measuring alone must find it.
 fn has_front_fault(alloc: Global, octets: &[u8], depth: u8, fault: ItemFault) -> bool
     requires { depth ≤ 100 }
 {
@@ -232,7 +232,7 @@ fn has_front_fault(alloc: Global, octets: &[u8], depth: u8, fault: ItemFault) ->
         && decode_front(alloc, octets, depth).err() == Some(fault)
 }
 
-/// The octets have this fault, read as an item at their front and as a text, where there are any.
+/// Checks that the bytes have this error, read as an item at the start and, unless they are empty, as a text.
 fn expect_fault(rt: &impl Abort, alloc: Global, octets: &[u8], depth: u8, fault: ItemFault)
     requires { depth ≤ 100 }
 {
@@ -242,10 +242,10 @@ fn expect_fault(rt: &impl Abort, alloc: Global, octets: &[u8], depth: u8, fault:
     assert_so(rt, is_of_text, "the fault of a text");
 }
 
-// The tests whose names begin with `no_growth` ask for no memory, but for what they make beforehand. That is seen from
-// outside, where each allocation is refused in turn.
+// The tests whose names begin with `no_growth` allocate only what they prepare beforehand. This is tested from outside,
+// by a test that makes each allocation fail in turn.
 
-/// Octets at their depths, and their faults. The last ones are the fronts of an item.
+/// Bytes, their depths and their errors. The last ones are prefixes of an item.
 const FAULTS: &[(&[u8], u8, ItemFault)] = &[
     (b"", DEPTH, ItemFault::Truncated { at: 0 }),
     (b"\xa9", DEPTH, ItemFault::Truncated { at: 0 }),
@@ -285,7 +285,7 @@ fn expect_faults(rt: &impl Abort, alloc: Global, faults: &[(&[u8], u8, ItemFault
     }
 }
 
-/// Two octets nest in no list, and a text has no more behind it.
+/// Checks that two bytes are nested in no list, and that bytes after a text are an error.
 fn assert_ends(rt: &impl Abort, alloc: Global, octets: &[u8]) {
     assert_so(rt, measure_front(b"\x41\x00", 0) == Ok(2), "a measure");
     let trailing = ItemFault::Trailing { at: 4 };
@@ -314,7 +314,7 @@ fn no_growth_for_lists_that_claim_too_much(rt: HostRuntime) {
     );
 }
 
-/// What two octets are: an item, which fault they have, or 6 for another one.
+/// Returns the class of two bytes: 0 for an item, 1 to 5 for an error, and 6 for any other error.
 fn kind_of(alloc: Global, octets: &[u8]) -> usize {
     match decode_front(alloc, octets, 1).err() {
         None => 0,
@@ -345,12 +345,12 @@ fn every_two_octets(rt: HostRuntime) {
     assert_so(&rt, counts == requested, "how many of each kind");
 }
 
-/// So many characters.
+/// Returns an item of `count` characters.
 fn characters(alloc: Global, count: usize) -> Result<Item, AllocError> {
     Ok(Item::Ascii(vec![in alloc; 0u8; count]?))
 }
 
-/// An item of the greatest length.
+/// Checks an item of the maximum length.
 fn check_maximum(rt: &impl Abort, alloc: Global, item: &Item) -> Result<(), ItemFault> {
     let octets = encode(alloc, item)?;
     let is_long = octets.len() == 4 + 0xff_ffff;
@@ -372,7 +372,7 @@ fn check_too_large(rt: &impl Abort, alloc: Global, item: Item) {
     assert_so(rt, fault == Some(ItemFault::TooLarge), "too large");
 }
 
-/// An item that is too large stands behind one that isn't.
+/// Checks an item that is too large inside a list, after one that is not.
 fn check_too_large_within(rt: &impl Abort, alloc: Global) -> Result<(), AllocError> {
     let small = b"AB".to_vec(alloc)?;
     let large = vec![in alloc; 0u8; 0x100_0000]?;
@@ -381,7 +381,7 @@ fn check_too_large_within(rt: &impl Abort, alloc: Global) -> Result<(), AllocErr
     Ok(())
 }
 
-// Five allocations are its own.
+// Five allocations are the test's own.
 #[test]
 fn no_growth_for_what_is_too_large(rt: HostRuntime) -> Result<(), AllocError> {
     let alloc = rt.alloc();

@@ -7,7 +7,7 @@ use secs_text::{
 use std::alloc::{AllocError, Global};
 use std::process::Abort;
 
-/// How the message of a text is printed, or its fault.
+/// Returns the printed form of a text's message, or the text's error.
 fn reading_of(alloc: Global, text: &[u8], depth: u8) -> Result<String, TextFault> {
     match read(alloc, text, depth.min(100)) {
         Ok(message) => print(alloc, &message),
@@ -16,7 +16,7 @@ fn reading_of(alloc: Global, text: &[u8], depth: u8) -> Result<String, TextFault
     }
 }
 
-/// A text, how deep it may nest, and its fault, or how its message is printed. Of the last one 101 lists begin.
+/// A text, its maximum depth, and its error or the printed form of its message. The last one begins 101 lists.
 const READINGS: &[(&str, u8, &str)] = &[
     ("S1F1 W <U1 256> .", 32, "Number { at: 11 }"),
     ("S1F1 <B [2] 0x00> .", 32, "Count { at: 8 }"),
@@ -102,7 +102,7 @@ fn faults_and_printed(rt: HostRuntime) -> Result<(), TextFault> {
     check_readings(&rt, rt.alloc(), READINGS)
 }
 
-/// The parts of a message, and how it is printed.
+/// Returns the parts of a message and its printed form.
 fn parts_of(alloc: Global, message: &Message) -> Result<String, TextFault> {
     let head = (message.stream(), message.function(), message.wait());
     let printed = print(alloc, message)?;
@@ -137,7 +137,7 @@ fn parts(rt: HostRuntime) -> Result<(), TextFault> {
     check_parts(&rt, rt.alloc(), &message, READ)
 }
 
-/// How many messages a text has, or its fault.
+/// Returns the number of messages of a text, or its error.
 fn count_of(alloc: Global, text: &[u8]) -> Result<Result<usize, TextFault>, TextFault> {
     match read_all(alloc, text, 32) {
         Ok(messages) => Ok(Ok(messages.len())),
@@ -170,7 +170,7 @@ fn several(rt: HostRuntime) -> Result<(), TextFault> {
     check_counts(&rt, rt.alloc(), COUNTS)
 }
 
-/// Octets that were given, as far as there was memory for them.
+/// The bytes that were passed to the output, as long as memory was available.
 #[derive(Drop)]
 struct Kept {
     octets: Vec<u8>,
@@ -188,7 +188,7 @@ impl Output for Kept {
 }
 
 impl Kept {
-    /// The octets, unless there was no memory.
+    /// Returns the bytes, or an error if an allocation failed.
     fn whole(self) -> Result<Vec<u8>, AllocError> {
         let Kept { octets, is_whole } = self;
         if is_whole {
@@ -199,7 +199,8 @@ impl Kept {
     }
 }
 
-/// What is printed of a text, or its fault, unless there is no memory.
+/// Returns the printed form of a message text, or the `Debug` text of its error. Returns `Memory` if an allocation
+/// failed.
 fn printed_text(alloc: Global, head: Head, text: &[u8], depth: u8) -> Result<Vec<u8>, TextFault> {
     let mut block = Block::new(alloc)?;
     let mut out = Kept {
@@ -233,7 +234,7 @@ const REPORT: Head = Head {
     wait: true,
 };
 
-/// A text, how deep it may nest, and how it is printed behind the head of a report.
+/// A message text, its maximum depth, and its printed form after the head of a report.
 const SPELLED: &[(&[u8], u8, &str)] = &[
     (b"", 32, "S6F11 W ."),
     (
@@ -307,7 +308,7 @@ const BARE: Head = Head {
     wait: false,
 };
 
-/// Octets that are no text at this depth, and their fault.
+/// Bytes that are not a message text at this depth, and their error.
 const NO_TEXTS: &[(&[u8], u8, &str)] = &[
     (b"\x01\x01\x01\x00", 1, "Deep { at: 2 }"),
     (b"\xa5\x01\x00\x00", 32, "Trailing { at: 3 }"),
@@ -320,7 +321,8 @@ fn from_octets(rt: HostRuntime) -> Result<(), TextFault> {
     check_encodings(&rt, rt.alloc(), BARE, NO_TEXTS)
 }
 
-/// Hears messages: of each its stream, its function, 1 where a reply is wanted, and its text, or `?` for none.
+/// A receiver of messages that records the stream, the function, 1 if a reply is requested, and the text of each, or
+/// `?` without one.
 #[derive(Drop)]
 struct Hearing {
     reception: Vec<u8>,
@@ -340,7 +342,7 @@ impl Receiver for Hearing {
     }
 }
 
-/// What is heard of the messages of a text.
+/// Returns the record of the messages of a text.
 fn reception_of(alloc: Global, text: &[u8], depth: u8) -> Result<Vec<u8>, TextFault> {
     let mut receiving = Hearing {
         reception: Vec::new(alloc),
@@ -349,7 +351,7 @@ fn reception_of(alloc: Global, text: &[u8], depth: u8) -> Result<Vec<u8>, TextFa
     Ok(receiving.reception)
 }
 
-/// A text, and what is heard of its messages.
+/// A text, and the record of its messages.
 const HEARD: &[(&str, &[u8])] = &[
     (" \n", b""),
     ("S1F1 W . S2F3 .", b"\x01\x01\x01\x02\x03\x00"),
@@ -392,7 +394,7 @@ fn onto_octets(rt: HostRuntime) -> Result<(), TextFault> {
     check_received(&rt, rt.alloc(), HEARD)
 }
 
-/// A text of these octets between quotes.
+/// Returns the notation of a message with these bytes between quotes.
 fn long_text(alloc: Global, octets: &[u8]) -> Result<Vec<u8>, AllocError> {
     let mut text = Vec::from_slice(alloc, b"S1F1 <A \"")?;
     text.extend_from_slice(octets)?;
@@ -400,7 +402,7 @@ fn long_text(alloc: Global, octets: &[u8]) -> Result<Vec<u8>, AllocError> {
     Ok(text)
 }
 
-/// Behind the head an item has this header, and so many octets.
+/// Returns true if, after the head, an item has this header and `count` bytes.
 fn is_long(reception: &[u8], header: &[u8], count: usize) -> bool {
     let item = reception.get(3..).unwrap_or(b"");
     match item.strip_prefix(header) {
@@ -409,13 +411,13 @@ fn is_long(reception: &[u8], header: &[u8], count: usize) -> bool {
     }
 }
 
-/// What is heard of a text of these octets between quotes.
+/// Returns the record of a message with these bytes between quotes.
 fn received_long(alloc: Global, octets: &[u8]) -> Result<Vec<u8>, TextFault> {
     let text = long_text(alloc, octets)?;
     reception_of(alloc, &text, 0)
 }
 
-/// So many octets between quotes are an item with this header.
+/// Checks the header of an item with the given number of bytes between quotes.
 fn check_long(
     rt: &impl Abort,
     alloc: Global,

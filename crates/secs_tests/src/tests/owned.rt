@@ -5,7 +5,7 @@ ghost use Rattle.std.specs.Prelude.{◌≤◌};
 use secs_item::{Item, ItemFault, decode_front};
 use std::alloc::Global;
 
-/// An item. Its drop is written out: a proof over one that is dropped has one step for it, not one for each format.
+/// An owned item. Its `Drop` is written out so that a proof has one step for a dropped value, not one for each format.
 pub struct OwnItem {
     pub item: Item,
 }
@@ -17,12 +17,12 @@ impl Drop for OwnItem {
     }
 }
 
-/// This item.
+/// Returns this item as an owned one.
 pub fn own(item: Item) -> OwnItem {
     OwnItem { item }
 }
 
-/// The item at the front of octets, and how many of them it has.
+/// Returns the item at the start of the bytes and the number of its bytes.
 pub fn front_of(alloc: Global, octets: &[u8], depth: u8) -> Result<(OwnItem, usize), ItemFault>
     requires { depth ≤ 100 }
 {

@@ -1,4 +1,4 @@
-//! Reading items from notation straight onto octets.
+//! Encoding of items from their notation straight to bytes.
 
 ghost use Rattle.std.specs.Prelude.{◌≡◌, ◌≤◌, ◌+◌};
 ghost use Rattle.secs_item.specs.Item.{list, no_elements};
@@ -14,8 +14,8 @@ use crate::token::{Count, Token};
 use crate::tokens::Tokens;
 use secs_item::{Format, patch_header};
 
-/// Reads the elements of a list, after its type name and its count, and adds the list's octets. Lists in it may be
-/// nested `depth` deep. Says whether the list and each element have octets.
+/// Reads the elements of a list, after its type name and its count, and appends the list's encoding. Lists in it may be
+/// nested at most `depth` deep. Returns true if the list and each of its elements have an encoding.
 #[cycle(parse_item)]
 fn elements(
     out: &mut Vec<u8>,
@@ -49,9 +49,9 @@ fn elements(
     Ok(patch_header(out, start, Format::List, number)?)
 }
 
-/// Reads the item whose `<` stood at `opening`, and adds its octets. Lists may be nested `depth` deep. Says whether the
-/// item has octets: three length octets can count each body and each list of it. Else those that were added don't
-/// count.
+/// Reads the item whose `<` is at offset `opening`, and appends its encoding. Lists may be nested at most `depth` deep.
+/// Returns true if the item has an encoding: three length bytes can count each of its bodies and lists. Otherwise the
+/// appended bytes are meaningless.
 #[cycle(parse_item)]
 pub fn item(
     out: &mut Vec<u8>,

@@ -1,4 +1,4 @@
-//! Runs of values that are single octets, each a short word behind one space, as they are printed.
+//! Runs of values that are single bytes, each a short word after one space, as they are printed.
 
 ghost use Rattle.std.specs.Prelude.{◌≡◌, ◌≤◌, ◌<◌, ◌+◌, ◌*◌, ◌/◌, ℕ, List, length, take, drop, OnOk};
 ghost use Rattle.secs_item.specs.Format.{value_size};
@@ -13,13 +13,14 @@ use crate::tokens::Tokens;
 use secs_item::Format;
 use std::alloc::AllocError;
 
-/// How many values are read at a time.
+/// The number of values that are read at a time.
 const RUN: usize = 64;
 
-/// How many words are read before it is asked whether there are more.
+/// The number of words that are read before the next check for the end.
 const GROUP: usize = 8;
 
-/// Reads words, from one place among them up to another, as far as they are right, and tells how far.
+/// Reads the words with the indexes `from..to`, up to the first invalid one. Returns the index after the last word
+/// read.
 #[inline(always)]
 fn read_words<const N: usize, W: ShortWord<N>>(
     text: &[u8],
@@ -49,8 +50,8 @@ fn read_words<const N: usize, W: ShortWord<N>>(
     to
 }
 
-/// Reads the words at the front, at most as many as there is room for, and tells how many. No word goes on behind the
-/// last.
+/// Reads the words at the start, at most 64, and returns their number. The last word is complete: no byte of a word
+/// follows it.
 #[inline(never)]
 fn read_run<const N: usize, W: ShortWord<N>>(text: &[u8], octets: &mut [u8; 64]) -> usize
     requires some { 0 < N }
@@ -77,7 +78,7 @@ fn read_run<const N: usize, W: ShortWord<N>>(text: &[u8], octets: &mut [u8; 64])
     count
 }
 
-/// Adds the octets of the words that come next, as far as they stand as they are printed.
+/// Appends the bytes of the next words, up to the first one that is not spaced as it is printed.
 #[inline(always)]
 pub fn parse_run<const N: usize, W: ShortWord<N>>(
     out: &mut Vec<u8>,

@@ -1,4 +1,4 @@
-//! Values from their words onto octets.
+//! Encoding of values from their words to bytes.
 
 ghost use Rattle.std.specs.Prelude.{◌≡◌, ◌≤◌, ◌+◌, true, false, length, IfOk, OnOk};
 ghost use Rattle.secs_item.specs.Format.{is_list, value_size};
@@ -16,7 +16,7 @@ use crate::tokens::Tokens;
 use secs_item::{Format, octets_known};
 use std::alloc::AllocError;
 
-/// Adds the octets of the value that a word spells, if it spells one.
+/// Appends the bytes of the value that a word represents. Returns false if it represents none.
 #[inline(always)]
 fn push_word<const N: usize, W: WordFormat<N>>(
     out: &mut Vec<u8>,
@@ -33,7 +33,8 @@ fn push_word<const N: usize, W: WordFormat<N>>(
     Ok(true)
 }
 
-/// Adds the octets of the value that a word spells in an item of this format, if it spells one.
+/// Appends the bytes of the value that a word represents in an item of this format. Returns false if it represents
+/// none.
 #[inline(always)]
 fn push_value(out: &mut Vec<u8>, format: Format, word: &[u8]) -> Result<bool, AllocError>
     ensures octets { IfOk result (λ is_value. AppendsBytes is_value out.old.items out.new.items (word_octets format word.now)) }
@@ -58,8 +59,8 @@ fn push_value(out: &mut Vec<u8>, format: Format, word: &[u8]) -> Result<bool, Al
     }
 }
 
-/// Adds the octets of the values that come next, where a value of this format is one octet, as far as their words stand
-/// as they are printed.
+/// Appends the bytes of the next values, up to the first word that is not spaced as it is printed. Appends nothing
+/// unless the values of this format are single bytes whose words have one length.
 fn parse_printed(out: &mut Vec<u8>, tokens: &mut Tokens, format: Format) -> Result<(), AllocError>
     ensures collected { OnOk result (CollectsMore format (left tokens.old) (left tokens.new) out.old.items out.new.items) }
     ensures no_longer { octets_left tokens.new ≤ octets_left tokens.old }
@@ -73,7 +74,7 @@ fn parse_printed(out: &mut Vec<u8>, tokens: &mut Tokens, format: Format) -> Resu
     }
 }
 
-/// Reads the values of an item up to its `>`, and adds their octets.
+/// Reads the values of an item up to its `>`, and appends their bytes.
 pub fn parse_values(
     out: &mut Vec<u8>,
     tokens: &mut Tokens,

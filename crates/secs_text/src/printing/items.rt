@@ -1,5 +1,4 @@
-//! Printing items straight from their octets. For each list that isn't at its end it is kept how many elements are
-//! still to come.
+//! Printing of items straight from their bytes. For each unfinished list it keeps the number of elements still to come.
 
 ghost use Rattle.std.specs.Prelude.{◌≡◌, ◌≤◌, ◌<◌, ◌+◌, ◌-◌, ◌/◌, ◌++◌, ℕ, List, Ok, false, true, length, drop, IsOk, codes, decimal};
 ghost use Rattle.secs_item.specs.declared.format.Format.TheVariants.{Ascii};
@@ -18,7 +17,7 @@ use crate::printing::values::{put_text, put_words};
 use crate::type_name::opening_word;
 use secs_item::{Format, MAX_DEPTH, read_header};
 
-/// Lays a number.
+/// Appends a number.
 #[inline(always)]
 fn append_count(block: &mut [u8], at: usize, count: usize) -> usize
     requires { at + 40 ≤ length block.old }
@@ -32,7 +31,7 @@ fn append_count(block: &mut [u8], at: usize, count: usize) -> usize
     }
 }
 
-/// Puts the opening of an item with a body of this length, after a space.
+/// Prints the opening of an item with a body of this length, after a space.
 #[inline(always)]
 pub fn put_opening<O: Output>(
     out: &mut O,
@@ -52,7 +51,7 @@ pub fn put_opening<O: Output>(
     append_byte(block, at, b']')
 }
 
-/// Puts what ends an item.
+/// Prints the end of an item.
 #[inline(always)]
 pub fn put_end<O: Output>(out: &mut O, block: &mut [u8], from: usize) -> usize
     requires { IsPlace block.old from }
@@ -62,7 +61,7 @@ pub fn put_end<O: Output>(out: &mut O, block: &mut [u8], from: usize) -> usize
     append_byte(block, at, b'>')
 }
 
-/// Puts an item of values that are single words, with this body, after a space.
+/// Prints an item of values that are single words, with this body, after a space.
 #[inline(always)]
 fn put_item_of_words<const N: usize, W: WordFormat<N>, O: Output>(
     out: &mut O,
@@ -83,7 +82,7 @@ fn put_item_of_words<const N: usize, W: WordFormat<N>, O: Output>(
     put_end(out, block, at)
 }
 
-/// Puts an item of values with this body, after a space. Each format has code of its own.
+/// Prints an item of values with this body, after a space. Each format has code of its own.
 #[inline(never)]
 pub fn put_item_of_values<O: Output>(
     out: &mut O,
@@ -122,8 +121,8 @@ pub fn put_item_of_values<O: Output>(
     }
 }
 
-/// Puts the elements of a list, each after a space, and what ends the list. The list's header was read where lists
-/// could be nested `depth` deep; it has `count` elements, and its body begins at `place`.
+/// Prints the elements of a list, each after a space, and the end of the list. The list's header was read where lists
+/// may be nested at most `depth` deep. The list has `count` elements, and its body begins at offset `place`.
 #[inline(never)]
 fn put_elements<O: Output>(
     out: &mut O,
@@ -178,7 +177,7 @@ fn put_elements<O: Output>(
     at
 }
 
-/// Puts the item at the front of octets that were measured, after a space.
+/// Prints the item at the start of bytes that were measured, after a space.
 pub fn put_item<O: Output>(
     out: &mut O,
     block: &mut [u8],

@@ -1,4 +1,4 @@
-//! Printing messages straight from their octets.
+//! Printing of messages straight from their bytes.
 
 ghost use Rattle.std.specs.Prelude.{◌≡◌, ◌≤◌, ◌++◌, ℕ, List, [], Option, Err, length, codes, decimal, if◌then◌else◌, IsOk, IfErr, OnOk, OnErr};
 ghost use Rattle.secs_item.specs.Fault.{TextFaults, IsReported, fault_at};
@@ -13,18 +13,18 @@ use crate::block_copy::{append_byte, append_slice, append_small};
 use crate::printing::items::put_item;
 use secs_item::{ItemFault, measure_text};
 
-/// What a message's notation begins with.
+/// The head of a message: the start of its notation.
 #[derive(Clone, Copy)]
 pub struct Head {
     /// The stream.
     pub stream: u8,
     /// The function.
     pub function: u8,
-    /// Whether a reply is wanted: the W bit.
+    /// Whether the message requests a reply: the W bit.
     pub wait: bool,
 }
 
-/// Puts a head.
+/// Prints a head.
 pub fn put_head<O: Output>(out: &mut O, block: &mut [u8], from: usize, head: Head) -> usize
     requires { IsPlace block.old from }
     ensures { Puts (O.Given out.old) block.old from (O.Given out.new) block.new result
@@ -42,7 +42,7 @@ pub fn put_head<O: Output>(out: &mut O, block: &mut [u8], from: usize, head: Hea
     }
 }
 
-/// Puts what ends a message.
+/// Prints the end of a message.
 pub fn put_stop<O: Output>(out: &mut O, block: &mut [u8], from: usize) -> usize
     requires { IsPlace block.old from }
     ensures { Puts (O.Given out.old) block.old from (O.Given out.new) block.new result (codes " .") }
@@ -51,7 +51,7 @@ pub fn put_stop<O: Output>(out: &mut O, block: &mut [u8], from: usize) -> usize
     append_slice(block, at, b" .")
 }
 
-/// Puts a message with this text, which was measured.
+/// Prints a message with this text, which was measured.
 fn put_message<O: Output>(
     out: &mut O,
     block: &mut [u8],
@@ -76,13 +76,13 @@ fn put_message<O: Output>(
     put_stop(out, block, at)
 }
 
-/// Prints the message that has this head and this text (SEMI E5), straight from the text's octets. Its printed form
-/// goes into the block, behind what that holds; where the block is full, `out` is given what it held. The lists of the
-/// text's item are nested at most `depth` deep, and the depth is at most 100. Takes no memory.
+/// Prints the message that has this head and this text (SEMI E5), straight from the text's bytes. Appends its printed
+/// form to the block, and passes the block's bytes to `out` whenever the block is full. The lists of the text's item
+/// are nested at most `depth` deep, and `depth` is at most 100. Does not allocate.
 ///
 /// # Errors
 ///
-/// Where the octets are no message's text: as [`measure_text`] tells it. Nothing is printed then.
+/// Returns the same errors as [`measure_text`] if the bytes are not a message text. It then prints nothing.
 pub fn print_text<O: Output>(
     out: &mut O,
     block: &mut Block,

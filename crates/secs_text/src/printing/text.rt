@@ -1,4 +1,4 @@
-//! Octets of text: runs of printable octets in quotes, every other octet in hexadecimal.
+//! Text bytes: runs of printable bytes in quotes, every other byte in hexadecimal.
 
 ghost use Rattle.std.specs.Prelude.{◌≡◌, ◌≤◌, ◌<◌, ◌+◌, ◌*◌, ◌++◌, ℕ, List, [], true, length, codes, if◌then◌else◌};
 ghost use Rattle.std.specs.List.{list_all};
@@ -9,7 +9,7 @@ ghost use Rattle.secs_text.specs.Printed.{printed_octet, printed_text};
 use crate::block_copy::{append_byte, append_octet, append_slice, append_word};
 use crate::byte_class::is_quotable;
 
-/// Lays the opening of a quote, unless one is open.
+/// Appends an opening quote, unless a quote is open.
 #[inline(always)]
 fn append_quote(block: &mut [u8], at: usize, quoted: bool) -> usize
     requires { at + 2 ≤ length block.old }
@@ -21,7 +21,7 @@ fn append_quote(block: &mut [u8], at: usize, quoted: bool) -> usize
     append_slice(block, at, b" \"")
 }
 
-/// Lays an octet of text, where a quote is open or not.
+/// Appends a text byte. `in_quotes` says whether a quote is open.
 #[inline(always)]
 fn append_text_octet(block: &mut [u8], at: usize, in_quotes: bool, octet: u8) -> usize
     requires { at + 16 ≤ length block.old }
@@ -39,7 +39,7 @@ fn append_text_octet(block: &mut [u8], at: usize, in_quotes: bool, octet: u8) ->
     append_octet(block, at, octet)
 }
 
-/// Lays octets of text one by one, where a quote is open or not, and tells whether one is open behind them.
+/// Appends text bytes one by one. `quoted` says whether a quote is open. Returns whether one is open after them.
 fn append_octets(block: &mut [u8], from: usize, quoted: bool, octets: &[u8]) -> (usize, bool)
     requires { from + 48 * length octets.now ≤ length block.old }
     ensures text { (text : List ℕ) × AppendsText block.old block.new from text result.0
@@ -56,7 +56,7 @@ fn append_octets(block: &mut [u8], from: usize, quoted: bool, octets: &[u8]) -> 
     (at, in_quotes)
 }
 
-/// Lays eight octets of text, where a quote is open or not, and tells whether one is open behind them.
+/// Appends eight text bytes. `quoted` says whether a quote is open. Returns whether one is open after them.
 #[inline(always)]
 fn append_run(block: &mut [u8], from: usize, quoted: bool, octets: &[u8; 8]) -> (usize, bool)
     requires { from + 48 * length octets.now ≤ length block.old }
@@ -76,7 +76,7 @@ fn append_run(block: &mut [u8], from: usize, quoted: bool, octets: &[u8; 8]) -> 
     (append_word::<8>(block, at, octets.as_slice(), 8), true)
 }
 
-/// Lays octets of text, where a quote is open or not, and tells whether one is open behind them.
+/// Appends text bytes. `quoted` says whether a quote is open. Returns whether one is open after them.
 pub fn append_text(block: &mut [u8], from: usize, quoted: bool, octets: &[u8]) -> (usize, bool)
     requires { from + 48 * length octets.now ≤ length block.old }
     ensures text { (text : List ℕ) × AppendsText block.old block.new from text result.0

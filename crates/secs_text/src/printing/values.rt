@@ -1,4 +1,4 @@
-//! Printing the values of an item straight from its body.
+//! Printing of an item's values straight from its body.
 
 ghost use Rattle.std.specs.Prelude.{◌≡◌, ◌≤◌, ◌+◌, ◌*◌, false, true, length};
 ghost use Rattle.secs_text.specs.BlockOutput.{AppendsText, IsPlace, Puts, words_of};
@@ -10,10 +10,10 @@ use crate::block_copy::append_byte;
 use crate::formats::WordFormat;
 use crate::printing::text::append_text;
 
-/// How many octets of a body are laid at a time.
+/// The number of bytes of a body that are printed at a time.
 const CHUNK: usize = 512;
 
-/// Lays the words of values, each after a space. What is left over behind whole values isn't looked at.
+/// Appends the words of values, each after a space. Ignores the bytes after the last complete value.
 fn append_words<const N: usize, W: WordFormat<N>>(
     block: &mut [u8],
     at: usize,
@@ -34,7 +34,7 @@ fn append_words<const N: usize, W: WordFormat<N>>(
     end
 }
 
-/// Puts the words of values, each after a space.
+/// Prints the words of values, each after a space.
 pub fn put_words<const N: usize, W: WordFormat<N>, O: Output>(
     out: &mut O,
     block: &mut [u8],
@@ -56,7 +56,7 @@ pub fn put_words<const N: usize, W: WordFormat<N>, O: Output>(
     append_words::<N, W>(block, at, rest)
 }
 
-/// Puts octets of text.
+/// Prints text bytes.
 pub fn put_text<O: Output>(out: &mut O, block: &mut [u8], from: usize, octets: &[u8]) -> usize
     requires { IsPlace block.old from }
     ensures { Puts (O.Given out.old) block.old from (O.Given out.new) block.new result

@@ -1,4 +1,4 @@
-//! Reading items: each list by its elements, each item of values by its octets.
+//! Reading of items: each list by its elements, each item of values by its bytes.
 
 ghost use Rattle.std.specs.Prelude.{◌≡◌, ◌≤◌, ◌+◌, length};
 ghost use Rattle.secs_item.specs.Item.{view, views, list, no_elements};
@@ -14,7 +14,7 @@ use crate::tokens::Tokens;
 use secs_item::{Format, Item, item_of_values};
 use std::alloc::Global;
 
-/// Reads items up to the `>` of their list. Lists in them may be nested `depth` deep.
+/// Reads items up to the `>` of their list. Lists in them may be nested at most `depth` deep.
 #[cycle(read_item)]
 #[tactic(auto, using(crate::proofs::Views::views_push, crate::proofs::Views::count_views))]
 fn elements(
@@ -41,7 +41,7 @@ fn elements(
     Ok(items)
 }
 
-/// Reads the item whose `<` stood at `opening`. Lists may be nested `depth` deep.
+/// Reads the item whose `<` is at offset `opening`. Lists may be nested at most `depth` deep.
 #[cycle(read_item)]
 pub fn item(
     alloc: Global,

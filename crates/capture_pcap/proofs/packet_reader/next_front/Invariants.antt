@@ -5,7 +5,7 @@ use Rattle.hsms_frame.specs.ReadAhead.{ReadsMore}
 use Rattle.capture_pcap.specs.BlockReader.{greatest_ahead}
 use Rattle.capture_pcap.proofs.packet_reader.next_front.Given as goal
 
--- more was read behind what was read before, the end wasn't found, and no read failed
+-- More was read after what was read before, the end was not found, and no read failed.
 abbrev pub invariant-loop-found : goal.invariant-loop-found
 invariant-loop-found g l =
     IfRecorded (g.R.Source.state l.initial.source).left (λ input. ReadsMore l.initial.ahead input l.ahead (g.R.Source.state l.source).left)
@@ -14,6 +14,6 @@ invariant-loop-found g l =
     × ((g.R.Source.state l.source).failures ≡ (g.R.Source.state l.initial.source).failures)
     × (length l.ahead ≤ greatest_ahead)
 
--- each part of a front is shorter than 16,777,232 octets
+-- An incomplete record or block is shorter than 16,777,232 bytes.
 abbrev pub decreases-loop-found : goal.decreases-loop-found
 decreases-loop-found g l = 16777232 - length l.ahead

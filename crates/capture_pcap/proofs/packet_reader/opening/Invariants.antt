@@ -5,7 +5,7 @@ use Rattle.capture_pcap.specs.File.{HasOpened, opening_at}
 use Rattle.hsms_frame.specs.ReadAhead.{ReadsMore}
 use Rattle.capture_pcap.proofs.packet_reader.opening.Given as goal
 
--- more was read behind what was read before, the end wasn't found, and no read failed
+-- More was read after what was read before, the end was not found, and no read failed.
 abbrev pub invariant-loop-found : goal.invariant-loop-found
 invariant-loop-found g l =
     IfRecorded (g.R.Source.state l.initial.source).left (λ input. ReadsMore l.initial.ahead input l.ahead (g.R.Source.state l.source).left)
@@ -15,6 +15,6 @@ invariant-loop-found g l =
     × IfOk l.found (HasOpened (length l.ahead))
     × (length l.ahead ≤ greatest_ahead)
 
--- each part of a header is shorter than 24 octets
+-- An incomplete header is shorter than 24 bytes.
 abbrev pub decreases-loop-found : goal.decreases-loop-found
 decreases-loop-found g l = 24 - length l.ahead

@@ -1,4 +1,4 @@
-//! Files that are read in pieces of each size.
+//! Files that are read in chunks of each size.
 
 ghost use Rattle.std.specs.Prelude.{◌<◌};
 
@@ -9,7 +9,7 @@ use hsms_frame::Feed;
 use std::alloc::Global;
 use std::process::Abort;
 
-// What a step finds: which packet, with its number, or what else; or its fault.
+// What a step finds: which packet, with its number, or what else; or its error.
 type Found = Result<(&'static str, u64), FileFault>;
 
 const SYN: Found = Ok(("syn", 1));
@@ -20,7 +20,7 @@ const PASSED: Found = Ok(("passed", 0));
 
 const END: Found = Ok(("end", 0));
 
-// What stands at the RST is no record.
+// At the RST there is no record.
 const NO_RECORD: Found = Err(FileFault::Capture {
     place: 80,
     fault: CaptureFault::Length,
@@ -31,8 +31,8 @@ const NO_CAPTURE: Found = Err(FileFault::Capture {
     fault: CaptureFault::Unknown,
 });
 
-// A file of which so many octets are there, how many come at once, what its steps find, and the
-// place that they come to; or why it is not opened.
+// A file, the number of its bytes that are present, the chunk size, what its steps find, and the final offset; or why
+// the file is not opened.
 type File = (&'static [u8], usize, usize, &'static [Found], Option<u64>);
 
 const FILES: &[File] = &[
@@ -73,7 +73,7 @@ fn failed_reads_lose_nothing(rt: std::rt::HostRuntime) -> Result<(), FileFault> 
     can_continue(&rt, rt.alloc(), &mut packets, &mut broken)
 }
 
-// The source has failed, and the rest comes from another one.
+// Checks that the rest is read from another source after the first one failed.
 fn can_continue(
     rt: &impl Abort,
     alloc: Global,
@@ -85,7 +85,7 @@ fn can_continue(
     finds(rt, packets, &mut source, &[SYN, RESET])
 }
 
-// Opens a file, whose steps find this, and come to this place. One that isn't opened has this fault.
+// Opens a file, and checks what its steps find, and the final offset. A file that is not opened has this error.
 fn reads(
     rt: &impl Abort,
     alloc: Global,
@@ -116,7 +116,7 @@ fn comes_to(
     Ok(())
 }
 
-// Each step finds this.
+// Checks what each step finds.
 fn finds(
     rt: &impl Abort,
     packets: &mut Packets,
@@ -129,7 +129,7 @@ fn finds(
     Ok(())
 }
 
-// What the next step finds. Want of memory is handed up.
+// Returns what the next step finds. A failed allocation is passed on.
 fn found(packets: &mut Packets, source: &mut Feed) -> Result<Found, FileFault> {
     match packets.next(source) {
         Ok(Step::Packet(number, record)) => Ok(Ok((kind_in(packets, &record), number))),
@@ -140,7 +140,7 @@ fn found(packets: &mut Packets, source: &mut Feed) -> Result<Found, FileFault> {
     }
 }
 
-// Which packet was read.
+// Returns which packet was read.
 fn kind_in(packets: &Packets, record: &Record) -> &'static str {
     let subsequent = packets.octets().get(record.body..).unwrap_or(b"");
     kind_of(record, subsequent.get(..record.held).unwrap_or(b""))

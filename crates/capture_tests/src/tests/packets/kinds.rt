@@ -1,4 +1,4 @@
-//! Blocks of the other kinds, and numbers at their greatest.
+//! Blocks of the other kinds, and maximum numbers.
 
 use super::super::assert_so;
 use super::{Part, check_parts};
@@ -6,8 +6,8 @@ use capture_pcap::{CaptureFault, Format, Front, Interface, Order, Reader};
 use std::alloc::{AllocError, Global};
 use std::process::Abort;
 
-// A section of pcapng: an interface that counts 1,024 ticks a second from 1,700,000,000 seconds on and holds 40 octets of
-// a packet, an old packet block with the SYN and drops before it, and a simple block with the front of a longer packet.
+// A section of pcapng. Its interface counts 1,024 ticks a second from 1,700,000,000 seconds on, and captures 40 bytes
+// of a packet. An old packet block has the SYN and drops before it. A simple block has a prefix of a longer packet.
 pub const OLD: &[u8] = b"\
     \x0a\x0d\x0d\x0a\x1c\x00\x00\x00\x4d\x3c\x2b\x1a\x01\x00\x00\x00\
     \xff\xff\xff\xff\xff\xff\xff\xff\x1c\x00\x00\x00\x01\x00\x00\x00\
@@ -24,12 +24,12 @@ pub const OLD: &[u8] = b"\
     \x00\x00\x00\x00\x38\x00\x00\x00\
 ";
 
-// The header of a pcapng block, of which nothing else is there.
+// The header of a pcapng block, and nothing else of it.
 const LONG_BLOCK: &[u8] = b"\x06\x00\x00\x00\x00\x00\x00\x01\x00\x00\x00\x00";
 
 const TOO_LONG_BLOCK: &[u8] = b"\x06\x00\x00\x00\x04\x00\x00\x01\x00\x00\x00\x00";
 
-// The header of a pcap record, likewise.
+// The header of a pcap record, and nothing else of it.
 const LONG_RECORD: &[u8] = b"\x00\x00\x00\x00\x00\x00\x00\x00\x00\x00\x00\x01\x00\x00\x00\x01";
 
 const TOO_LONG_RECORD: &[u8] = b"\x00\x00\x00\x00\x00\x00\x00\x00\x01\x00\x00\x01\x01\x00\x00\x01";
@@ -62,7 +62,7 @@ fn the_longest_of_each(rt: std::rt::HostRuntime) -> Result<(), AllocError> {
     check_parts(&rt, rt.alloc(), &records, OF_RECORDS)
 }
 
-// A resolution, and the time of the old block, or its fault, behind an interface that has it.
+// A resolution, and the time of the old block after an interface with this resolution, or its error.
 type Resolved = (u8, Result<Option<u128>, CaptureFault>);
 
 const RESOLUTIONS: &[Resolved] = &[
@@ -93,7 +93,7 @@ fn check_resolutions(
     Ok(())
 }
 
-// A reader behind an interface that has this resolution.
+// Returns a reader after an interface with this resolution.
 fn described(alloc: Global, resolution: u8) -> Result<Reader, CaptureFault> {
     let mut reader = Reader::new(alloc, BLOCKS, 0);
     let interface = Interface {
@@ -106,7 +106,7 @@ fn described(alloc: Global, resolution: u8) -> Result<Reader, CaptureFault> {
     Ok(reader)
 }
 
-// The time of a packet, or its fault.
+// Returns the time of a packet, or its error.
 fn time_of(reader: &Reader, octets: &[u8]) -> Result<Option<u128>, CaptureFault> {
     match reader.front(octets)? {
         Front::Packet(record) => Ok(record.time),

@@ -5,7 +5,7 @@ use Rattle.cli_explain.specs.FailureGroups.{Fault, HasGroups}
 use Rattle.cli_explain.specs.GroupedAnnotations.{EachIsReported, RepresentAll, faults_with}
 use Rattle.cli_explain.proofs.annotation.group_notes.Given as goal
 
--- the notes so far are told, and their failures are counted
+-- The annotations so far are written, and their failures are counted.
 abbrev pub invariant-loop-note : goal.invariant-loop-note
 invariant-loop-note l =
     (each : List Note) × RepresentAll l.grouped.items each

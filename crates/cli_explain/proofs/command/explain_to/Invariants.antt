@@ -4,7 +4,7 @@ use Rattle.cli_explain.specs.FirstFailureOutput.{IsWritten}
 use Rattle.cli_explain.proofs.FormattedLines.{HasRead}
 use Rattle.cli_explain.proofs.command.explain_to.Given as goal
 
--- what was read was heard, and something of it was told
+-- What was read was processed, and some output was written.
 abbrev pub invariant-loop : goal.invariant-loop
 invariant-loop g l =
     let old = g.R.Source.state l.initial.source in

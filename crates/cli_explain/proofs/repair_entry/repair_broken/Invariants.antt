@@ -8,7 +8,7 @@ use Rattle.hsms_log.specs.Step.{entry_by}
 use Rattle.cli_explain.proofs.RepairRows.{Stepped}
 use Rattle.cli_explain.proofs.repair_entry.repair_broken.Given as goal
 
--- the first failure stays the first, and so many judgements were made
+-- The first failure stays the first, and this number of checks was made.
 abbrev pub invariant-loop : goal.invariant-loop
 invariant-loop l =
     let entry = entry_by l.fn.entry l.text in

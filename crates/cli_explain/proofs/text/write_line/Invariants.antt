@@ -3,7 +3,7 @@ use Rattle.cli_explain.specs.OutputBuffer.{Adds}
 use Rattle.cli_explain.specs.TextOutput.{LineSaid, NotesWritten}
 use Rattle.cli_explain.proofs.text.write_line.Given as goal
 
--- the line was written, and below it the notes so far
+-- The line is written, and below it the annotations so far.
 abbrev pub invariant-loop-note : goal.invariant-loop-note
 invariant-loop-note l =
     (line : List ℕ) × (rest : List ℕ) × LineSaid l.fn.shown_line line × NotesWritten (take l.note-index l.notes) rest

@@ -2,7 +2,7 @@ use Rattle.std.proofs.Common.{◌≡◌, ◌+◌, ◌-◌, vec_len}
 use Rattle.cli_filters.proofs.CompleteLines.{ReadSoFar}
 use Rattle.cli_filters.proofs.read_input.read_past.Given as goal
 
--- what was read so far is the front of the input, and its end wasn't found
+-- What was read so far is a prefix of the input, and its end was not found.
 abbrev pub invariant-loop-source : goal.invariant-loop-source
 invariant-loop-source g l =
     ReadSoFar (g.R.Source.state l.initial.source).left (g.R.Source.state l.source).left l.octets.items

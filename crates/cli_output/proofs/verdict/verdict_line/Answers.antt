@@ -4,7 +4,7 @@ use Rattle.hsms_log.specs.declared.verdict.Verdict.TheVariants.{Fail}
 use Rattle.cli_output.specs.Verdict.{verdict_line_of}
 use Rattle.cli_output.proofs.verdict.verdict_line.Goals as goal
 
--- words that are written otherwise
+-- An equal text in another form.
 same_words : {T E : Type 0} (octets : T → List ℕ) (r : Result T E) (xs ys : List ℕ) → IfOk r (λ words. octets words ≡ xs) → xs ≡ ys
     → IfOk r (λ words. octets words ≡ ys)
 same_words octets (Ok words) xs ys is same = is ∙ same

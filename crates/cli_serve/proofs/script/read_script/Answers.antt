@@ -14,14 +14,14 @@ use Rattle.cli_serve.specs.declared.script.Script.{Script}
 use Rattle.cli_serve.specs.Script.{IsNoScript, IsScript, replies_of, steps_of}
 use Rattle.cli_serve.proofs.script.read_script.Goals as goal
 
--- an input that was not read whole
+-- An input that was not read completely.
 stops_reading : (depth : ℕ) (input : List ℕ) (fault : ToolFault) (left : Option (List ℕ)) → IsPartOfInput input_limit input fault left
     → IsNoScript depth input fault left
 stops_reading depth input (Refused words) left part = inl part
 stops_reading depth input (Device word) left part = part
 stops_reading depth input Memory left part = tt
 
--- an input that was read whole, and is the notation of messages
+-- An input that was read completely, and is the notation of messages.
 reads_script : (depth : ℕ) (send answer : Bool) (octets input : List ℕ) (messages : List Message) (script : Script) → IsWholeInput input_limit octets input
     → Notations (contents messages) octets × AllWithin depth (contents messages) → script.replies.items ≡ replies_of answer messages
     → script.steps.items ≡ steps_of send answer messages → IsScript depth send answer script input

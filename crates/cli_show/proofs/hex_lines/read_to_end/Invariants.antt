@@ -4,7 +4,7 @@ use Rattle.cli_show.specs.ShowHex.{IsPlaced, line_limit}
 use Rattle.cli_show.proofs.LineEnds.{EndsSoFar}
 use Rattle.cli_show.proofs.hex_lines.read_to_end.Given as goal
 
--- more was read behind what was read before, the end wasn't found, and no read failed
+-- More was read after what was read before, the end was not found, and no read failed.
 abbrev pub invariant-loop-end : goal.invariant-loop-end
 invariant-loop-end g l =
     IfRecorded (g.R.Source.state l.initial.source).left (λ input. EndsSoFar l.max l.initial.ahead input l.ahead (g.R.Source.state l.source).left l.end)
@@ -12,6 +12,6 @@ invariant-loop-end g l =
     × ((g.R.Source.state l.source).ends ≡ (g.R.Source.state l.initial.source).ends)
     × ((g.R.Source.state l.source).failures ≡ (g.R.Source.state l.initial.source).failures)
 
--- what has no line's end is no longer than a line may be
+-- Bytes without a line's end are within the maximum length of a line.
 abbrev pub decreases-loop-end : goal.decreases-loop-end
 decreases-loop-end g l = line_limit l.max + 1 - length l.ahead

@@ -3,7 +3,7 @@ use Rattle.cli_show.specs.ReadAhead.{subsequent}
 use Rattle.cli_show.specs.ShowHex.{decoded_octets}
 use Rattle.cli_show.proofs.hex_message.octets_in.Given as goal
 
--- the octets so far, and behind them those of what is left
+-- The bytes so far, and after them those of what is left.
 abbrev pub invariant-loop-first : goal.invariant-loop-first
 invariant-loop-first l = decoded_octets l.text ≡ subsequent l.octets.items (decoded_octets l.rest)
 

@@ -4,7 +4,7 @@ use Rattle.hsms_frame.specs.Io.{IfRecorded}
 use Rattle.hsms_frame.specs.Framing.{FrontAs}
 use Rattle.cli_show.proofs.next_frame.next_message.Given as goal
 
--- more was read behind what was read before, the end wasn't found, and no read failed
+-- More was read after what was read before, the end was not found, and no read failed.
 abbrev pub invariant-loop-found : goal.invariant-loop-found
 invariant-loop-found g l =
     IfRecorded (g.R.Source.state l.initial.source).left (λ input. ReadsMore l.initial.ahead input l.ahead (g.R.Source.state l.source).left)
@@ -12,6 +12,6 @@ invariant-loop-found g l =
     × ((g.R.Source.state l.source).ends ≡ (g.R.Source.state l.initial.source).ends)
     × ((g.R.Source.state l.source).failures ≡ (g.R.Source.state l.initial.source).failures)
 
--- each part of a message is shorter than 4,294,967,310 octets
+-- Each part of a message is shorter than 4,294,967,310 bytes.
 abbrev pub decreases-loop-found : goal.decreases-loop-found
 decreases-loop-found g l = 4294967310 - length l.ahead

@@ -4,7 +4,7 @@ use Rattle.cli_show.specs.ReadAhead.{subsequent}
 use Rattle.cli_show.proofs.Runs.{Begun}
 use Rattle.cli_show.proofs.showing.show.Given as goal
 
--- the lines of the messages so far are written or held, the end wasn't found, and no device failed
+-- The lines of the messages so far are written or buffered, the end was not found, and no read or write failed.
 abbrev pub invariant-loop : goal.invariant-loop
 invariant-loop g l =
     IfRecorded (g.R.Source.state l.initial.source).left (λ input. Begun l.max l.depth input l.counter (subsequent l.ahead (g.R.Source.state l.source).left)

@@ -5,7 +5,7 @@ use Rattle.cli_show.specs.ReadAhead.{subsequent}
 use Rattle.cli_show.proofs.HexRuns.{BegunLines}
 use Rattle.cli_show.proofs.showing_hex.show_hex.Given as goal
 
--- what is shown of the lines so far is written or held, the end wasn't found, and no device failed
+-- What is shown of the lines so far is written or buffered, the end was not found, and no read or write failed.
 abbrev pub invariant-loop-passed : goal.invariant-loop-passed
 invariant-loop-passed g l =
     IfRecorded (g.R.Source.state l.initial.source).left (λ input. BegunLines (is_bare l.showing.form) l.showing.max l.showing.depth input l.passed (subsequent l.ahead (g.R.Source.state l.source).left)

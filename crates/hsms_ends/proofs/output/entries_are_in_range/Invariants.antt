@@ -3,7 +3,7 @@ use Rattle.std.specs.Prelude.{All}
 use Rattle.hsms_log.specs.LineFormat.{IsEntry}
 use Rattle.hsms_ends.proofs.output.entries_are_in_range.Given as goal
 
--- the entries that were passed are in range
+-- The entries processed so far are in range.
 abbrev pub invariant-loop-place : goal.invariant-loop-place
 invariant-loop-place l = (l.place ≤ length l.entries) × All IsEntry (take l.place l.entries)
 

@@ -2,7 +2,7 @@ use Rattle.std.proofs.Common.{length, ◌-◌, ◌≤◌, take, Ok}
 use Rattle.hsms_ends.specs.Output.{LogsAll}
 use Rattle.hsms_ends.proofs.output.log_rest.Given as goal
 
--- the entries that were passed are logged
+-- The entries processed so far are logged.
 abbrev pub invariant-loop-place : goal.invariant-loop-place
 invariant-loop-place g l =
     (l.place ≤ length l.entries)

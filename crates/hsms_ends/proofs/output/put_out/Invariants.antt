@@ -3,7 +3,7 @@ use Rattle.hsms_ends.specs.Link.{processed_nothing}
 use Rattle.hsms_ends.specs.Output.{PutsOut}
 use Rattle.hsms_ends.proofs.output.put_out.Given as goal
 
--- the entries that were passed are put out
+-- The entries processed so far are written.
 abbrev pub invariant-loop-place : goal.invariant-loop-place
 invariant-loop-place g l =
     (l.place ≤ length l.entries)

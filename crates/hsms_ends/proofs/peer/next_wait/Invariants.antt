@@ -2,7 +2,7 @@ use Rattle.std.proofs.Common.{length, ◌-◌, ◌≡◌, ◌≤◌, None, get_o
 use Rattle.hsms_ends.specs.ScriptedLink.{given_of, left_of, pass_over, wait_octets}
 use Rattle.hsms_ends.proofs.peer.next_wait.Given as goal
 
--- what was given and what is left is the same, and the place is one of the waits or behind them
+-- The bytes already returned and the remaining waits are unchanged. The index is at most the number of waits.
 abbrev pub invariant-loop-place : goal.invariant-loop-place
 invariant-loop-place l =
     let items : Vec ℕ Global → List ℕ = λ v. v.items in

@@ -2,7 +2,7 @@ use Rattle.std.proofs.Common.{◌-◌, ◌≤◌}
 use Rattle.hsms_ends.proofs.Reconnections.{SoFar}
 use Rattle.hsms_ends.proofs.reconnect.serve_again.Given as goal
 
--- the connections so far are down, and the next one goes on from them
+-- The connections so far are down, and the next one continues from them.
 abbrev pub invariant-loop-done : goal.invariant-loop-done
 invariant-loop-done g l =
     (l.done ≤ l.connections)

@@ -2,7 +2,7 @@ use Rattle.std.proofs.Common.{◌-◌, ◌<◌, ◌≤◌, drop, length}
 use Rattle.hsms_ends.specs.ServeSteps.{IsReady, TurnsSoFar}
 use Rattle.hsms_ends.proofs.turns.run.Given as goal
 
--- the turns so far are whole, the end is ready for the next, and there is room for what comes
+-- The turns so far are complete, the endpoint is ready for the next one, and there is space for received bytes.
 abbrev pub invariant-loop-done : goal.invariant-loop-done
 invariant-loop-done g l =
     (l.done ≤ l.turns) × IsReady l.end

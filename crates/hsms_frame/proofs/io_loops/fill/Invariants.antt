@@ -3,7 +3,7 @@ use Rattle.hsms_frame.specs.Io.{Takes}
 use Rattle.hsms_frame.specs.Frame.{IsOctets}
 use Rattle.hsms_frame.proofs.io_loops.fill.Given as goal
 
--- what was read so far is at the front of the slice
+-- What was read so far is at the front of the slice.
 abbrev pub invariant-loop-filled : goal.invariant-loop-filled
 invariant-loop-filled g l =
     (l.filled ≤ length l.into)

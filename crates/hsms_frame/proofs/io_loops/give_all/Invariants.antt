@@ -2,7 +2,7 @@ use Rattle.std.proofs.Common.{length, ◌-◌, ◌≡◌, ◌≤◌, ◌+◌, ta
 use Rattle.hsms_frame.specs.Io.{Grows}
 use Rattle.hsms_frame.proofs.io_loops.give_all.Given as goal
 
--- what was written so far is the front of the slice
+-- What was written so far is the front of the slice.
 abbrev pub invariant-loop-given : goal.invariant-loop-given
 invariant-loop-given g l =
     (l.given ≤ length l.octets)

@@ -3,7 +3,7 @@ use Rattle.std.proofs.lemmas.List.{length-drop, length-take, length-take-le}
 use Rattle.hsms_frame.proofs.Suffixes.{ends_following, ends_stay, front_is_kept, none_after, reads_after, within_after}
 use Rattle.hsms_frame.proofs.read_ahead.read_after.Goals as goal
 
--- the octets lie within the vector, and the pull has the room behind them
+-- The bytes are within the vector, and the pull has the room after them.
 within : (g : _) (c : goal.After-octets-1 g) → c.args.end ≤ length c.deref_mut.result.now
 within g c = omega (arith, c.requires, c.deref_mut.ensures.len)
 

@@ -2,7 +2,7 @@ use Rattle.std.proofs.Common.{◌≡◌, ◌≤◌, ◌+◌, ◌*◌}
 use Rattle.hsms_log.specs.Auditing.{RisesBy, HasRead}
 use Rattle.hsms_log.proofs.auditing.audit_within.Given as goal
 
--- the reader stands after what was read, and each read was counted
+-- The reader is in its state after what was read, and each read was counted.
 abbrev pub invariant-loop : goal.invariant-loop
 invariant-loop g l =
     let old = g.R.Source.state l.initial.source in

@@ -2,7 +2,7 @@ use Rattle.std.proofs.Common.{◌≡◌, ◌≤◌, ◌<◌, ◌*◌, ℕ, get_o
 use Rattle.hsms_log.specs.Digits.{AreRead, AreSmall, HasOther}
 use Rattle.hsms_log.proofs.digits.decode.Given as goal
 
--- the octets before this place are read, if all that stands for digits is small; else there is another octet
+-- The bytes before this index are read if all values for digits are small; otherwise some byte is not a digit.
 abbrev pub invariant-loop-i : goal.invariant-loop-i
 invariant-loop-i l = record {
   len : length l.octets ≡ length l.initial.octets;

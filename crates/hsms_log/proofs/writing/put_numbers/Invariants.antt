@@ -3,7 +3,7 @@ use Rattle.std.specs.List.{flat_map}
 use Rattle.hsms_log.specs.Writing.{HasWritten, spaced}
 use Rattle.hsms_log.proofs.writing.put_numbers.Given as goal
 
--- the numbers that were passed are written
+-- The numbers that were passed are written.
 abbrev pub invariant-loop-number : goal.invariant-loop-number
 invariant-loop-number g l =
     HasWritten (g.W.Sink.state l.initial.sink) (g.W.Sink.state l.sink) (flat_map spaced (take l.number-index l.numbers))

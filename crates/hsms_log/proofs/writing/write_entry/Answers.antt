@@ -10,7 +10,7 @@ use Rattle.hsms_log.proofs.Parts.{failed_first, failed_along, writes_then, write
 use Rattle.hsms_log.proofs.Written.{entry_written}
 use Rattle.hsms_log.proofs.writing.write_entry.Goals as goal
 
--- the time was not written whole
+-- The time was not written completely.
 time_failed : (old new : SinkState) (entry : Entry) → HasFailed old new (decimal entry.time) → HasFailed old new (entry_line entry ++ 10 ∷ [])
 unfolding entry_line
 time_failed old new entry h =
@@ -19,7 +19,7 @@ time_failed old new entry h =
     failed_along old new (time ++ (rest ++ 10 ∷ [])) ((time ++ rest) ++ 10 ∷ []) (sym (append_assoc time rest (10 ∷ [])))
     (failed_first old new time (rest ++ 10 ∷ []) h)
 
--- it was
+-- The time was written.
 time_written : {F : Type 0} (r : Result (Unit {0}) F) (old mid new : SinkState) (entry : Entry) → HasWritten old mid (decimal entry.time)
     → Writes r mid new (32 ∷ (event_text entry.event ++ 10 ∷ [])) → Writes r old new (entry_line entry ++ 10 ∷ [])
 unfolding entry_line

@@ -10,13 +10,13 @@ use Rattle.hsms_log.proofs.Parts.{failed_first, failed_along, writes_then, write
 use Rattle.hsms_log.proofs.Written.{settings_written}
 use Rattle.hsms_log.proofs.writing.write_settings.Goals as goal
 
--- the words were not written whole
+-- The words were not written completely.
 opening_failed : (old new : SinkState) (s : Parameters) → HasFailed old new (opening_of s) → HasFailed old new (settings_line s ++ 10 ∷ [])
 opening_failed old new s h =
     let rest = flat_map spaced (numbers_of s) ++ 10 ∷ [] in
     failed_along old new (opening_of s ++ rest) (settings_line s ++ 10 ∷ []) (line_parts s) (failed_first old new (opening_of s) rest h)
 
--- they were
+-- The words were written.
 opening_written : {F : Type 0} (r : Result (Unit {0}) F) (old mid new : SinkState) (s : Parameters) → HasWritten old mid (opening_of s)
     → Writes r mid new (flat_map spaced (numbers_of s) ++ 10 ∷ []) → Writes r old new (settings_line s ++ 10 ∷ [])
 opening_written r old mid new s h k =

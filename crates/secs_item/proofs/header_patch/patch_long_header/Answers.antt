@@ -18,11 +18,11 @@ field_three n more =
     let second : nat_lt n (256 ^ 2) ≡ false = le-ltb n (256 ^ 2) more in
     rw (first, second) refl
 
--- an octet is put in behind these octets
+-- A byte is inserted after these bytes.
 inserted : (front back now : List ℕ) (i octet : ℕ) → now ≡ front ++ back → length front ≡ i → insert now i octet ≡ front ++ octet ∷ back
 inserted front back now i octet is long = rw (is, take_at front back i long, drop_at front back i long) refl
 
--- one of the first n octets
+-- One of the first `n` bytes.
 octet_of : (octets all : List ℕ) (n i : ℕ) → take n octets ≡ all → i < n → get_or octets i 0 ≡ get_or all i 0
 octet_of octets all n i is less = sym (get_or-take n octets i 0 less) ∙ ap (λ o. get_or o i 0) is
 

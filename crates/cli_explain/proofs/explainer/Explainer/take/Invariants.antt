@@ -3,7 +3,7 @@ use Rattle.cli_explain.specs.FirstFailureOutput.{KeepsShown}
 use Rattle.cli_explain.specs.LinesProcessed.{HasProcessed}
 use Rattle.cli_explain.proofs.explainer.Explainer.take.Given as goal
 
--- what was passed was heard
+-- The bytes passed so far were processed.
 abbrev pub invariant-loop-part : goal.invariant-loop-part
 invariant-loop-part l =
     (done : List ℕ) × (l.octets ≡ done ++ l.rest)

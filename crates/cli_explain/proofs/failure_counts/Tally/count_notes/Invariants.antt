@@ -3,7 +3,7 @@ use Rattle.cli_explain.specs.FirstFailure.{failed_at}
 use Rattle.cli_explain.specs.AnnotatedFailure.{either, first_why}
 use Rattle.cli_explain.proofs.failure_counts.Tally.count_notes.Given as goal
 
--- with the notes that are left the first failure is that of all of them
+-- With the annotations that are left, the first failure is that of all of them.
 abbrev pub invariant-loop-note : goal.invariant-loop-note
 invariant-loop-note l =
     (either l.self.first (failed_at l.line (first_why (drop l.note-index l.notes))) ≡ either l.initial.self.first (failed_at l.line (first_why l.notes)))

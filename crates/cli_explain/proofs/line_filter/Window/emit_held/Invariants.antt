@@ -3,7 +3,7 @@ use Rattle.cli_options.specs.declared.explain_options.OutputFormat.TheVariants.{
 use Rattle.cli_explain.specs.OutputBuffer.{AddsSome}
 use Rattle.cli_explain.proofs.line_filter.Window.emit_held.Given as goal
 
--- what the lines so far say was told behind what was told before
+-- The output of the lines so far is appended to the earlier output.
 abbrev pub invariant-loop-held : goal.invariant-loop-held
 invariant-loop-held l =
     (l.initial.self.excerpt.form ≡ Text → AddsSome l.fn.page l.page) × (l.self.excerpt ≡ l.initial.self.excerpt)

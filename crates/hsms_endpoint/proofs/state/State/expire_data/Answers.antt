@@ -7,7 +7,7 @@ use Rattle.hsms_endpoint.specs.Expiring.{HasExpired, overdue_of}
 use Rattle.hsms_endpoint.proofs.ExpiredData.{begun_to_expire, first_overdue, data_in_time, fewer_left, one_expired, t3_valid}
 use Rattle.hsms_endpoint.proofs.state.State.expire_data.Goals as goal
 
--- what the loop looks at, said of the end
+-- The condition of the loop, in terms of the endpoint.
 input_event : (end : State) (limit : ℕ) (oldest : Option (ℕ × Header)) (answer : Option Header) → answer ≡ overdue_of limit end.moment oldest → limit ≡ end.settings.t3 → oldest ≡ oldest_of end.tracker.sent_data
     → overdue_of end.settings.t3 end.moment (oldest_of end.tracker.sent_data) ≡ answer
 input_event end limit oldest answer is limit_is oldest_is = sym (is ∙ ap (λ n. overdue_of n end.moment oldest) limit_is ∙ ap (λ o. overdue_of end.settings.t3 end.moment o) oldest_is)

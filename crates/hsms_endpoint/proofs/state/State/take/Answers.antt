@@ -20,7 +20,7 @@ use Rattle.hsms_endpoint.proofs.state.State.take.Goals as goal
 
 -- ---- Select.req
 
--- the status is 1 where the session stands already
+-- The status is 1 if the session is already selected.
 select_frame : (request inside : Header) (selected given : Bool) (status : ℕ) (header : Header) (frame : Frame) → inside ≡ request → given ≡ selected → status ≡ from_bool given → header ≡ control_header_of 2 status inside.system → frame ≡ bare header
     → frame ≡ select_rsp request (if selected then 1 else 0)
 select_frame request inside selected given status header frame same is status_is header_is frame_is =

@@ -4,7 +4,7 @@ use Rattle.std.proofs.lemmas.Result.{IfOk-from_err}
 use Rattle.hsms_frame.proofs.Suffixes.{bound_ahead, bound_kept, count_before, memory_fails, more_ahead, moved_is_there, no_answer, no_end_found, none_ahead, on_err, read_failed, reads_more, stays_on_err, still_there, within_room}
 use Rattle.hsms_frame.proofs.read_ahead.Ahead.read_more.Goals as goal
 
--- the octets that were there, once there is room behind them, or none for want of memory
+-- The bytes that were buffered, once there is room after them, or none after a failed allocation.
 there : (g : _) (c : goal.After-from_residual g) → slice_range c.make_room.new.octets.items 0 c.move_to_front-self-inside.result ≡ c.args.self.now
 there g c =
     let e = c.move_to_front-self-inside.ensures in
@@ -34,7 +34,7 @@ returns-in_err-make_room-clause-ends g c = no_end_found _ _ _ c.from_residual.en
 pub returns-in_err-make_room-clause-failures : goal.returns-in_err-make_room-clause-failures
 returns-in_err-make_room-clause-failures g c = memory_fails _ _ c.from_residual.ensures.1
 
--- the same where the read failed
+-- The bytes that were buffered, if the read failed.
 there_too : (g : _) (c : goal.After-from_residual-in_err-count g) → slice_range c.read_after.new.octets.items 0 c.move_to_front-self-inside.result ≡ c.args.self.now
 there_too g c =
     let e = c.move_to_front-self-inside.ensures in

@@ -2,7 +2,7 @@ use Rattle.std.proofs.Common.{◌≡◌, ◌+◌, ◌≤◌, ◌++◌, List, ℕ
 use Rattle.hsms_log.specs.LineReader.{StateInvariant}
 use Rattle.hsms_log.proofs.line_reader.LineReader.take.Given as goal
 
--- the reader stands after the octets that were passed
+-- The reader is in its state after the bytes that were passed.
 abbrev pub invariant-loop-part : goal.invariant-loop-part
 invariant-loop-part l =
     (done : List ℕ) × (l.octets ≡ done ++ l.rest)

@@ -8,7 +8,7 @@ use Rattle.hsms_machine.proofs.Mapped.{lookup-find, find-some}
 use Rattle.hsms_machine.proofs.KeptTransactions.{value-subsequent, found_passes, found_at, removed_at, unused_following, unused_none, uses-drop, apart-drop}
 use Rattle.hsms_machine.proofs.transaction_map.Queue.found.Goals as goal
 
--- the oldest
+-- The oldest.
 pub returns-then-oldest-system-clause-found : goal.returns-then-oldest-system-clause-found
 returns-then-oldest-system-clause-found c =
     let es = c.self.inside.items.entries in
@@ -33,7 +33,7 @@ pub returns-then-oldest-system-clause-apart : goal.returns-then-oldest-system-cl
 returns-then-oldest-system-clause-apart c =
     subst AreApart c.self.view_is (apart-drop c.self.inside.closed (values_of c.self.inside.items.entries) c.self.invariant.apart)
 
--- none
+-- None.
 pub returns-in_err-place-clause-found : goal.returns-in_err-place-clause-found
 returns-in_err-place-clause-found c =
     let es = c.self.inside.items.entries in
@@ -46,7 +46,7 @@ pub returns-in_err-place-clause-apart : goal.returns-in_err-place-clause-apart
 returns-in_err-place-clause-apart c =
     subst AreApart c.self.view_is (apart-drop c.self.inside.closed (values_of c.self.inside.items.entries) c.self.invariant.apart)
 
--- a closed one
+-- A closed one.
 pub returns-then-place-self-clause-found : goal.returns-then-place-self-clause-found
 returns-then-place-self-clause-found c =
     let es = c.self.inside.items.entries in
@@ -61,7 +61,7 @@ pub returns-then-place-self-clause-apart : goal.returns-then-place-self-clause-a
 returns-then-place-self-clause-apart c =
     subst AreApart c.self.view_is (apart-drop c.self.inside.closed (values_of c.self.inside.items.entries) c.self.invariant.apart)
 
--- an open one behind the oldest
+-- An open one after the oldest.
 pub returns-clause-found : goal.returns-clause-found
 returns-clause-found c =
     let es = c.self.inside.items.entries in

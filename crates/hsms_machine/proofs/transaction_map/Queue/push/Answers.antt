@@ -7,7 +7,7 @@ use Rattle.hsms_machine.proofs.KeptTransactions.{kept-push, open-push, kept-drop
 use Rattle.hsms_machine.proofs.Runs.{on_err}
 use Rattle.hsms_machine.proofs.transaction_map.Queue.push.Goals as goal
 
--- none had the system bytes
+-- None had the system bytes.
 pub invariant_of-self-then-is_none : goal.invariant_of-self-then-is_none
 invariant_of-self-then-is_none c =
     let opened = c.args.transaction in
@@ -28,7 +28,7 @@ returns-then-is_none-clause-ok c =
     ap (λ entries. drop closed (values_of entries)) (c.in_ok-insert.ensures.entries ∙ insert_entry-new nat_eq items opened.header.system opened none)
     ∙ open-push closed items.entries opened c.self.invariant.within ∙ ap (λ l. l ++ opened ∷ []) c.self.view_is
 
--- a closed one had them
+-- A closed one had them.
 pub invariant_of-self-in_err-insert-2 : goal.invariant_of-self-in_err-insert-2
 invariant_of-self-in_err-insert-2 c =
     let opened = c.args.transaction in

@@ -1,0 +1,148 @@
+#!/usr/bin/env python3
+"""Compares `hsms explain` with the reference: as text and as JSON, of all lines and with filters.
+
+It also compares the HTML page with the text, the last line with the output of `hsms audit`, and the text of each rule
+with `hsms audit --help`.
+
+Use: tests/gate/explain_reference.py [LOGS] [SEED]. LOGS is the number of random logs (default 500), SEED is 1 by
+default. Each log also comes with some of its lines repeated, and there are twice as many corrupt logs. The logs in
+examples/, those of the edge cases and some with markup come as well. It runs what `rt ci` has built. The shortest log
+with another output is printed in hexadecimal. The last line is `N passed, M failed`.
+"""
+import glob
+import json
+import os
+import sys
+import zlib
+from concurrent.futures import ProcessPoolExecutor
+from typing import List, Optional
+
+sys.dont_write_bytecode = True
+sys.path.insert(0, os.path.abspath(f"{__file__}/../../.."))
+
+from tests.support import html_check
+from tests.support.command import LONGEST_SHOWN, TOP, answer_of
+from tests.support.reference import edge_cases, explain, random_logs, reasons
+from tests.support.reference.explain import WHOLE, Excerpt
+from tests.support.reference.random_messages import Chance
+
+# The first line of a log.
+EMPTY = b"hsms-log 1 host active 0 45000 6000 10000 5000 1048576 32\n"
+
+
+def example_logs() -> List[bytes]:
+    found = []
+    for path in sorted(glob.glob(f"{TOP}/examples/**/*.log", recursive=True)):
+        with open(path, "rb") as file:
+            found.append(file.read())
+    return found
+
+
+def repeated(log: bytes) -> bytes:
+    """The log with some of its lines several times, which fail alike then."""
+    chance = Chance(f"repeated {zlib.crc32(log)}")
+    first, *lines = log.split(b"\n")
+    return b"\n".join([first, *(line for line in lines for _ in range(chance.one(1, 1, 1, 2, 6)))])
+
+
+def many_sorts() -> bytes:
+    """More kinds of failures than are distinguished, five of each kind."""
+    kinds = [(stream, function) for function in range(16) for stream in range(17)]
+    frames = [b"2 < 0001%02x%02x0000%08x\n" % (stream, function, at) for at, (stream, function) in enumerate(kinds)]
+    return EMPTY + b"0 up\n0 > ffff0000000100000001\n1 < ffff0000000200000001\n" + b"".join(frames) * 5
+
+
+def many_kinds() -> bytes:
+    """More kinds of primaries than are distinguished, in both directions, some with slow replies."""
+    lines, now = [b"0 up\n0 > ffff0000000100000001\n1 < ffff0000000200000001\n"], 1
+    for at in range(200):
+        mark, reply = (b">", b"<") if at % 3 else (b"<", b">")
+        stream, function, after = at % 40, at // 80 * 2 + 1, 2 ** (at % (16 if at % 3 else 40)) * 11 // 8
+        header = b"%02x0000%08x" % (function, at)
+        lines.append(b"%d %s 0000%02x%s\n" % (now, mark, stream + 128, header))
+        now += after
+        if at % 7:
+            header = b"%02x0000%08x" % (0 if at % 11 == 0 else function + 1, at)
+            lines.append(b"%d %s 0000%02x%s\n" % (now, reply, stream, header))
+    return EMPTY + b"".join(lines)
+
+
+def markup() -> List[bytes]:
+    """Logs whose lines would be markup in a page, or end it, or have a meaning of their own there."""
+    words = [b"<script>alert(1)</script>", b"</pre></details></div></main><h1>", b"<!-- ", b"-->", b"<![CDATA["]
+    words += [b"</style>", b"\"><img src=x onerror='alert(1)'>", b"&lt;b&gt; &amp; &#60; &copy &", b"' \" ` < > & \\ ="]
+    words += [b"<?xml ?>", b"\xe6\x97\xa5\xe6\x9c\xac <b>", b"\x80\xff<\xc3", b"\xef\xbf\xbe\xc2\x85\xe2\x80\xae<i>"]
+    words += [b"\x00\x01<\x1b[31m\x7f\t|"]
+    items = [b"%04x" % (0x4100 + len(it)) + it.hex().encode() for it in words]
+    frames = [b"%d > 00008b01%04x%08x%s\n" % (at, 0, at + 2, it) for at, it in enumerate(items)]
+    comments = [b"# %s\n" % it for it in words]
+    lines = b"".join(it for both in zip(comments, frames) for it in both)
+    selected = b"0 up\n0 > ffff0000000100000001\n0 < ffff0000000200000001\n"
+    unreadable = b"".join(b"%s\n" % it for it in words)
+    return [EMPTY + selected + lines, EMPTY + unreadable, unreadable, *words, EMPTY + lines + unreadable]
+
+
+def excerpt_of(log: bytes) -> Excerpt:
+    """An excerpt, drawn by the log: mostly of failures, and within some of its lines."""
+    chance = Chance(f"excerpt {zlib.crc32(log)}")
+    lines = log.count(b"\n") + 2
+    around = chance.one(0, 1, 2, 5) if chance.happens(0.75) else None
+    first = chance.randint(1, lines) if chance.happens(0.5) else 1
+    last = chance.randint(1, lines) if chance.happens(0.5) else None
+    return Excerpt(around, first, last, chance.happens(0.5))
+
+
+def difference(log: bytes) -> Optional[str]:
+    """The output for a log and the expected output, if they differ."""
+    audited = answer_of(["audit"], log)
+    for excerpt in (WHOLE, excerpt_of(log)):
+        words, wanted = ["explain", *excerpt.words()], explain.explain(log, excerpt)
+        told = answer_of(words, log)
+        in_json, in_html = (answer_of([*words, "--format", form], log) for form in ("json", "html"))
+        are_answers = all((it.status, it.error) == (audited.status, b"") for it in (told, in_json, in_html))
+        is_text = told.output == wanted.text and wanted.text.endswith(audited.output)
+        if not (are_answers and is_text and objects_of(in_json.output) == [list(it.items()) for it in wanted.objects]):
+            shown = f"log: {log[:LONGEST_SHOWN].hex()}\nreference: {wanted}"
+            return f"{' '.join(words)}\n{shown}\ncommand: {told}\nin JSON: {in_json}\naudit: {audited}"
+        fault = html_check.fault_of(in_html.output, wanted.unescaped, excerpt.is_utc)
+        if fault:
+            return f"{' '.join(words)} --format html\nlog: {log[:LONGEST_SHOWN].hex()}\n{fault}\npage: {in_html}"
+    return None
+
+
+def objects_of(output: bytes) -> Optional[List[object]]:
+    """The members of the objects of JSON, in their order, where each line is one."""
+    lines = output.decode().split("\n")
+    try:
+        return [list(json.loads(line).items()) for line in lines[:-1]] if lines[-1] == "" else None
+    except ValueError:
+        return None
+
+
+def help_of_rules() -> Optional[str]:
+    """The help of the audit, where a rule has other words there."""
+    told = answer_of(["audit", "--help"], b"").output.decode()
+    rows = [f"  {rule:<13}  {words}\n" for rule, words in explain.SENTENCES.items() if rule != "unreadable"]
+    return None if all(row in told for row in rows) else told
+
+
+def main() -> int:
+    count, seed = int(sys.argv[1]) if len(sys.argv) > 1 else 500, sys.argv[2] if len(sys.argv) > 2 else "1"
+    random = [random_logs.random_log(Chance(f"{seed} explain {number}")) for number in range(count)]
+    fixed = [*example_logs(), *random_logs.logs_at_edges(), *edge_cases.logs(), *markup()]
+    logs = [*fixed, *random, *reasons.damaged_logs(seed, 2 * count)]
+    logs += [many_sorts(), many_kinds(), *(repeated(log) for log in random + example_logs())]
+    with ProcessPoolExecutor() as pool:
+        differences = [(len(log), told) for log, told in zip(logs, pool.map(difference, logs)) if told]
+    if differences:
+        print(min(differences)[1])
+    words = help_of_rules()
+    if words:
+        print(words)
+    failed = len(differences) + bool(words)
+    print(f"{len(logs) + 1 - failed} passed, {failed} failed")
+    return 1 if failed else 0
+
+
+if __name__ == "__main__":
+    sys.exit(main())
