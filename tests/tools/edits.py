@@ -35,7 +35,10 @@ line is `N passed, M failed`.
     edits.py --equivalent [NAME..]    tries all equivalent edits, or these
     edits.py --compile [CRATE..]      checks that each edit can be applied and compiles, and proves nothing
     edits.py --beside FOLDER          tries the edits in tests/must-fail/ while `rt ci` proves all crates
+    edits.py --anew ..                tries them even if they passed before
 
+With --beside, the edits of a crate are not tried again if they passed on this machine and nothing that their checks read
+has changed since: kept_edits.py keeps a sum for each crate.
 If neither ./build nor `rt ci` has built the crates below, ./build does it first. With --beside, the edits of a crate
 begin when the crates below it are proved, according to the log `proofs` in FOLDER. `rt ci` has ended when the folder
 has a file `ended` with its status. Until there is a file `alone`, the checks leave one processor to others. They
@@ -59,6 +62,7 @@ from dataclasses import dataclass
 sys.dont_write_bytecode = True
 sys.path.insert(0, os.path.abspath(f"{__file__}/../../.."))
 
+from tests.support import kept_edits
 from tests.support.build_dirs import (
     READ, TOP, check_command, crates_below, crates_listed, link, processors, proved_crates, room_for,
 )
@@ -960,6 +964,19 @@ def tried(crate, bodies, equivalent, is_proved, lanes, is_beside=False, compilin
     return trial.passed, len(trial.failed)
 
 
+def tried_or_kept(crate, bodies, anew, call):
+    """Returns what was kept of a crate's edits, or else tries them and keeps that all passed."""
+    total = kept_edits.sum_of(crate)
+    passed = 0 if anew else kept_edits.passed_before(crate, total)
+    if passed:
+        print(f"{crate}: {len(bodies)} wrong bodies passed before, and nothing that they read has changed", flush=True)
+        return passed, 0
+    passed, failed = call(crate)
+    if not failed:
+        kept_edits.keep(crate, total, passed)
+    return passed, failed
+
+
 def try_one(crate, name, body):
     """Tries one edit, and writes what the check says of it."""
     path = next((it for it in files_of(crate) if name_of(it) == name), None)
@@ -1048,6 +1065,7 @@ def main():
     parser.add_argument("--one", action="store_true", help="tries one edit: CRATE NAME [BODY]")
     parser.add_argument("--equivalent", action="store_true", help="tries all equivalent edits, or those of these names")
     parser.add_argument("--compile", action="store_true", help="checks that edits compile")
+    parser.add_argument("--anew", action="store_true", help="tries edits even if they passed before")
     parser.add_argument("--beside", default="", metavar="FOLDER", help="tries them while `rt ci` runs, which tells there what is proved")
     asked = parser.parse_args()
     if asked.one:
@@ -1077,7 +1095,8 @@ def main():
     of_crate = lambda crate: tried(
         crate, bodies.get(crate, []), equivalent_of(crate), is_proved(crate), lanes, bool(asked.beside), asked.compile
     )
-    results = each_in_its_turn(proofs, crates, of_crate)
+    in_the_gate = lambda crate: tried_or_kept(crate, bodies[crate], asked.anew, of_crate)
+    results = each_in_its_turn(proofs, crates, in_the_gate if asked.beside else of_crate)
     if results is None:
         return 1
     failed = sum(failed for _, failed in results) + len(wrong)
