@@ -1,9 +1,9 @@
 #!/usr/bin/env python3
-"""Compares the public items of the crates with those that the papers ask for and those that DECISIONS lists.
+"""Compares the public items of the crates with those that were asked for and those that DECISIONS lists.
 
-An item is a function, constant, type or trait that a crate exports, or a method, field or variant of a type that the
-papers ask for. `ASKED` has the items of the papers. Each other item has to be, in backquotes, in the list "Public
-beyond what was asked for" of docs/DECISIONS.md, in the entry of its crate, and each item of the list has to be public.
+An item is a function, constant, type or trait that a crate exports, or a method, field or variant of a type that was
+asked for. `ASKED` has what was asked for. Each other item has to be, in backquotes, in the list "Public beyond what was
+asked for" of docs/DECISIONS.md, in the entry of its crate, and each item of the list has to be public.
 The modules `laws` are skipped. A listed type includes its fields, variants and methods.
 
 It reads sources alone. The last line is `N passed, M failed`.
