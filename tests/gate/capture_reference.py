@@ -622,17 +622,17 @@ def wide_cases(log: List[str]) -> Iterator[Case]:
     more = log + ["# packet 6", f"{BEGIN // 1000 + 3} down"]
     yield "two peers, in a log", one_after_another(other), Options(log="host"), more, "Peer packet=9", 2
     others = ["# not judged: 1 session of other addresses (--peer)"]
-    yield "one of two peers", one_after_another(other), Options(with_="10.0.0.1"), one + others, None, 0
-    yield "both, by the address of the one that listens", one_after_another(other), Options(with_="10.0.0.2"), one + [
+    yield "one of two peers", one_after_another(other), Options(peer="10.0.0.1"), one + others, None, 0
+    yield "both, by the address of the one that listens", one_after_another(other), Options(peer="10.0.0.2"), one + [
         line.replace("10.0.0.1", "10.0.0.3") for line in one], None, 0
     none = ["# not judged: 2 sessions of other addresses (--peer)"]
-    yield "none of two peers", one_after_another(other), Options(with_="::1"), none, "NoConnection", 2
+    yield "none of two peers", one_after_another(other), Options(peer="::1"), none, "NoConnection", 2
     again = [f"# packet {int(line.split()[2]) + 6}" if line.startswith("#") else
              f"{int(line.split()[0]) + 1000} {line.split(' ', 1)[1]}" for line in more[1:]]
-    first = Options(log="host", with_="10.0.0.1")
+    first = Options(log="host", peer="10.0.0.1")
     yield "one of two peers, in a log", one_after_another(other), first, more + others, None, 0
     later = [more[0]] + again
-    second_one = Options(log="host", with_="10.0.0.3")
+    second_one = Options(log="host", peer="10.0.0.3")
     yield "the other one, in a log", one_after_another(other), second_one, later + others, None, 0
     yield "a port again, in a log", one_after_another(same), Options(log="host"), more + again, None, 0
     equals = selected(Capture(ports=(5000, 5000))).capture.octets
@@ -642,7 +642,7 @@ def wide_cases(log: List[str]) -> Iterator[Case]:
     yield "addresses of IPv6", selected(Capture("pcapng>", is_ipv6=True)).capture.octets, Options(), [
         line.replace("10.0.0.1", "[fe80::1]").replace("10.0.0.2", "[fe80::2]") for line in short], None, 0
     yield "with an address of IPv6", selected(Capture("pcapng>", is_ipv6=True)).capture.octets, Options(
-        with_="FE80:0:0:0::0.0.0.1"), [line.replace("10.0.0.1", "[fe80::1]").replace("10.0.0.2", "[fe80::2]") for line in short], None, 0
+        peer="FE80:0:0:0::0.0.0.1"), [line.replace("10.0.0.1", "[fe80::1]").replace("10.0.0.2", "[fe80::2]") for line in short], None, 0
     cut = lines_of("incomplete packet=12 pass entries=3 sent=1 taken=1")
     yield "a port again, cut", one_after_another(same)[:-1], Options(), one + cut, "CutOff", 2
     replaced = contents(f"{TOP}/tests/captures/replaced.pcap")
@@ -735,7 +735,7 @@ def unjudged_cases(log: List[str]) -> Iterator[Case]:
     given_port = with_more([(41000, 5000)], octets=capture.octets)
     named = [line.replace(":5000", ":5001") for line in open_one]
     yield "a port is given", given_port, Options(port=5001), named + [f"{at_one}5000"], None, 0
-    peer = Options(with_="10.0.0.1")
+    peer = Options(peer="10.0.0.1")
     elsewhere = with_more([(41000, 5000), (41000, 5010)], hosts=(3, 4))
     of_others = "# not judged: 2 sessions of other addresses (--peer)"
     yield "an address is given", elsewhere, peer, passes + [of_others], None, 0

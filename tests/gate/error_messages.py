@@ -335,7 +335,7 @@ def at_terminal():
 
 def helped():
     """Each help has the option."""
-    option = "\n  -v, --verbose  Explain each fault: what happened, and what to do\n"
+    option = "\n  -v, --verbose  Explain errors: what happened, and what to do\n"
     for words in ([], ["show"], ["audit"], ["explain"], ["capture"], ["encode"], ["serve"]):
         run = subprocess.run([PROGRAM, *words, "--help"], capture_output=True, timeout=SOON)
         same((run.returncode, option in run.stdout.decode()), (0, True))

@@ -379,4 +379,4 @@ def damaged(seed) -> Made:
         octets[place:place] = rng.getrandbits(128).to_bytes(16, "big")[:rng.choice([1, 4, 16])]
     peer = rng.choice(["10.0.0.1", "10.0.0.2", "10.0.0.4", "fe80::1"]) if rng.random() < 0.2 else None
     port = rng.choice([5010, 5005]) if rng.random() < 0.1 else 5000
-    return Made(bytes(octets), replace(whole.options, with_=peer, port=port))
+    return Made(bytes(octets), replace(whole.options, peer=peer, port=port))

@@ -408,7 +408,7 @@ def captures(chance: Chance) -> Iterator[Many]:
     made = session_generator.made(str(chance.random()))
     for given in branches(chance, "capture", bytes(made.octets), OF_CAPTURES):
         peer = chance.one("10.0.0.1", "10.0.0.2", "10.0.0.4", "fe80::1") if chance.happens(0.1) else None
-        options = replace(made.options, log=chance.one(None, None, "host", "equipment"), with_=peer)
+        options = replace(made.options, log=chance.one(None, None, "host", "equipment"), peer=peer)
         read = capture_audit.capture(given, options)
         told = "log" if options.log else "a failure" if read.status == 1 else "no failure" if read.lines else "nothing"
         fault = read.fault.split(" packet=")[0].split(" octet=")[0] if read.fault else "no fault"

@@ -26,7 +26,7 @@ class Options:
     """The options of the command, each as it is where it is left out."""
 
     port: int = 5000
-    with_: Optional[str] = None
+    peer: Optional[str] = None
     active: str = "host"
     log: Optional[str] = None
     device: int = 0
@@ -45,7 +45,7 @@ class Options:
     def looks_at(self, segment: Segment) -> bool:
         """Whether an end of the segment's connection has the address that is asked for, if one is."""
         ends = [ip_address(address.strip("[]")) for address, _ in (segment.source, segment.target)]
-        return not self.with_ or ip_address(self.with_) in ends
+        return not self.peer or ip_address(self.peer) in ends
 
     def role_of(self, end: int) -> str:
         return self.active if end == ACTIVE else OTHER_ROLE[self.active]
