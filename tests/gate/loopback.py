@@ -831,7 +831,7 @@ def help_tells_every_option():
     run = subprocess.run([PROGRAM, "serve", "--help"], capture_output=True, timeout=SOON)
     same((run.returncode, run.stderr), (0, b""))
     for word in (
-        "role link address port device t3 t6 t7 t8 max depth first-system turns mdln softrev send answer all-sent linktest again once connections t5"
+        "role link address port device t3 t6 t7 t8 max depth first-system turns mdln softrev send answer all-sent linktest reconnect once connections t5"
     ).split():
         same((word, f"--{word} " in run.stdout.decode()), (word, True))
 

@@ -110,7 +110,7 @@ def part_of(crate, words):
     yield ""
     for file in sorted({word.file for word in words} - {"Laws"}):
         names = [name for name in definitions_of(crate, file) if Word(crate, file, name) in words]
-        yield f"[`{crate}/specs/{file}.antt`](../crates/{crate}/specs/{file}.antt)"
+        yield f"`crates/{crate}/specs/{file}.antt`:"
         yield ""
         for name in names:
             sentence = sentence_of(comment_above(crate, file, name))
