@@ -113,16 +113,20 @@ fn serve_and_audit<R: Abort + Clock + Net>(
 }
 
 // Checks that a peer receives these bytes and no more.
-fn check_received<S: Read>(rt: &impl Abort, stream: &mut S, want: &[u8]) {
-    let mut received = [0u8; 64];
-    let mut count = 0usize;
-    for _ in 0..received.len() {
-        match stream.read(&mut received[count..]) {
-            Ok(more) if more > 0 => count = count.saturating_add(more).min(64),
-            _ => break,
-        }
-    }
-    assert_so(rt, &received[..count] == want, "what the peer receives");
+fn check_received<S: Read>(rt: &impl Abort, stream: &mut S, want: &[u8; 28]) {
+    let mut received = [0u8; 28];
+    assert_so(
+        rt,
+        stream.read_exact(&mut received).is_ok(),
+        "the peer receives",
+    );
+    assert_so(rt, received == *want, "what the peer receives");
+    let mut more = [0u8; 1];
+    assert_so(
+        rt,
+        matches!(stream.read(&mut more), Ok(0)),
+        "the peer receives no more",
+    );
 }
 
 fn check_passive<R: Abort + Clock + Net>(
@@ -174,8 +178,8 @@ fn check_active<R: Abort + Clock + Net>(
 fn equipment_is_selected_tested_and_left(rt: HostRuntime) -> Result<(), AllocError> {
     let alloc = rt.alloc();
     let words = words_for(alloc, "equipment", "passive", free_port(&rt).unwrap_or(0))?;
-    match parse(alloc, &words) {
-        Ok(Request::Serve(service)) => check_passive(&rt, alloc, &service),
+    match &parse(alloc, &words) {
+        Ok(Request::Serve(service)) => check_passive(&rt, alloc, service),
         Err(ToolFault::Memory) => Err(AllocError),
         _ => failed(&rt, false, "the command line asks for a service"),
     }
@@ -190,8 +194,8 @@ fn host_selects_and_leaves(rt: HostRuntime) -> Result<(), AllocError> {
     };
     let port = listener.local_addr().map_or(0, |address| address.port());
     let words = words_for(alloc, "host", "active", port)?;
-    match parse(alloc, &words) {
-        Ok(Request::Serve(service)) => check_active(&rt, alloc, &service, listener),
+    match &parse(alloc, &words) {
+        Ok(Request::Serve(service)) => check_active(&rt, alloc, service, listener),
         Err(ToolFault::Memory) => Err(AllocError),
         _ => failed(&rt, false, "the command line asks for a service"),
     }

@@ -7,7 +7,7 @@ use super::{
     octets_of_all, settings,
 };
 use hsms_ends::{Scripted, ServeFault, Served, Step, serve};
-use hsms_log::{Summary, Verdict, judge};
+use hsms_log::{Summary, Verdict, audit_text};
 
 pub const EQUIPMENT_LINE: &str =
     "hsms-log 1 equipment passive 0 45000 6000 10000 5000 1048576 32\n";
@@ -106,7 +106,7 @@ pub fn answer_of(
 
 /// Returns the summary of a log, which has to pass the audit.
 pub fn audited(alloc: Global, log: &[u8]) -> Result<Summary, Stop> {
-    match judge(alloc, log)? {
+    match audit_text(alloc, log)? {
         Verdict::Pass(summary) => Ok(summary),
         Verdict::Fail { .. } => Err(Stop::Verdict),
     }

@@ -5,7 +5,7 @@ ghost use Rattle.std.specs.Prelude.{◌<◌};
 use super::connection::{answer_of, audited, link_of, log_of, settings_of};
 use super::{Abort, AllocError, Global, Role, Stop, Store, assert_octets, assert_so};
 use hsms_ends::{Scripted, ServeFault, Served};
-use hsms_log::{Summary, Verdict, judge};
+use hsms_log::{Summary, Verdict, audit_text};
 
 /// Select.req, Linktest.req and Separate.req of the host.
 const SAID: &str = "ffff0000000100000001
@@ -112,7 +112,7 @@ fn assert_refused(rt: &impl Abort, alloc: Global, fault: ServeFault, link: &Scri
     assert_fault(rt, Some(fault), ServeFault::Memory);
     assert_front(rt, link, log);
     assert_so(rt, log.written().ends_with(b"\n"), "whole lines");
-    let verdict = judge(alloc, log.written());
+    let verdict = audit_text(alloc, log.written());
     assert_so(
         rt,
         matches!(verdict, Ok(Verdict::Pass(_))),

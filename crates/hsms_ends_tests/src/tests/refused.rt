@@ -6,7 +6,7 @@ use super::{
     settings,
 };
 use hsms_ends::{Scripted, ServeFault, Served, Step, serve};
-use hsms_log::{Verdict, judge};
+use hsms_log::{Verdict, audit_text};
 use std::process::Abort;
 
 /// A connection: what the peer sends, one message for each wait; the lines that each call of the endpoint adds to the
@@ -123,7 +123,7 @@ fn assert_answer(rt: &impl Abort, answer: Result<Served, ServeFault>, calls: usi
 }
 
 fn assert_not_failing(rt: &impl Abort, alloc: Global, log: &[u8]) {
-    let verdict = judge(alloc, log);
+    let verdict = audit_text(alloc, log);
     assert_so(
         rt,
         !matches!(verdict, Ok(Verdict::Fail { .. })),
