@@ -24,7 +24,8 @@ from tests.support.contracts import (
 PAGE = f"{TOP}/docs/DEFINITIONS.md"
 BEGIN, END = "<!-- generated: python3 tests/tools/definitions.py --write -->", "<!-- end -->"
 
-# The crates in the order of the page, each with its heading. Crates of tests, and those below `hsms capture`, are omitted.
+# The crates in the order of the page, each with its heading. Crates of tests, and those that only `hsms capture` or
+# `hsms explain` uses, are omitted.
 CRATES = {
     "secs_item": "Items",
     "secs_text": "Notation",

@@ -5,19 +5,19 @@ use Rattle.hsms_machine.specs.declared.entry.Entry.{Entry}
 use Rattle.hsms_machine.specs.OpeningLines.{at_place}
 use Rattle.hsms_machine.specs.Settings.{Parameters}
 use Rattle.hsms_log.specs.LineFormat.{EncodesSettings, line_limit, settings_limit}
-use Rattle.cli_explain.specs.declared.context.Known.{Known}
-use Rattle.cli_explain.specs.declared.annotation.Note.{Note}
-use Rattle.cli_explain.specs.declared.explained_line.Carried.{Carried}
-use Rattle.cli_explain.specs.declared.explained_line.Carried.TheVariants as carried
-use Rattle.cli_explain.specs.FailureGroups.{counted}
-use Rattle.cli_explain.specs.RepairedSession.{CurrentState, HasProgress}
-use Rattle.cli_explain.specs.RepairedLines.{ContinuesWith, RepairsLine, LinePuts, LinesPut}
+use Rattle.explain_session.specs.declared.context.Known.{Known}
+use Rattle.explain_lines.specs.declared.annotation.Note.{Note}
+use Rattle.explain_lines.specs.declared.explained_line.Carried.{Carried}
+use Rattle.explain_lines.specs.declared.explained_line.Carried.TheVariants as carried
+use Rattle.explain_lines.specs.Counted.{counted}
+use Rattle.explain_session.specs.RepairedSession.{CurrentState, HasProgress}
+use Rattle.explain_session.specs.RepairedLines.{ContinuesWith, RepairsLine, LinePuts, LinesPut}
 use Rattle.cli_explain.specs.LinesProcessed.{IsShown}
-use Rattle.cli_explain.specs.AnnotatedFailure.{IsCarried}
-use Rattle.cli_explain.specs.RepairSteps.{put_of}
+use Rattle.explain_lines.specs.CarriedLine.{IsCarried}
+use Rattle.explain_session.specs.RepairSteps.{put_of}
 use Rattle.hsms_log.specs.Step.{entry_by}
 use Rattle.cli_explain.proofs.FollowingLines.{carried_shown, next_progress, encoded_shown}
-use Rattle.cli_explain.proofs.RepairRows.{steps_repair}
+use Rattle.explain_session.proofs.RepairRows.{steps_repair}
 
 -- ---- numbers
 

@@ -15,26 +15,26 @@ use Rattle.cli_options.specs.declared.explain_options.Excerpt.{Excerpt}
 use Rattle.cli_options.specs.declared.explain_options.Lines.{Lines}
 use Rattle.cli_options.specs.declared.explain_options.Lines.TheVariants.{All, Failures}
 use Rattle.cli_options.specs.declared.explain_options.OutputFormat.TheVariants.{Text}
-use Rattle.cli_explain.specs.declared.failure_groups.Groups.{Groups}
-use Rattle.cli_explain.specs.declared.annotation.Failing.{Failing}
-use Rattle.cli_explain.specs.declared.annotation.Note.{Note}
-use Rattle.cli_explain.specs.declared.annotation.Note.TheVariants.{Closes, Fails, FailsInGroup}
-use Rattle.cli_explain.specs.declared.output_buffer.Page.{Page}
+use Rattle.explain_statistics.specs.declared.failure_groups.Groups.{Groups}
+use Rattle.explain_lines.specs.declared.annotation.Failing.{Failing}
+use Rattle.explain_lines.specs.declared.annotation.Note.{Note}
+use Rattle.explain_lines.specs.declared.annotation.Note.TheVariants.{Closes, Fails, FailsInGroup}
+use Rattle.explain_forms.specs.declared.output_buffer.Page.{Page}
 use Rattle.cli_explain.specs.declared.report.Report.{Report}
-use Rattle.cli_explain.specs.declared.failure_counts.Failed.{Failed}
-use Rattle.cli_explain.specs.declared.failure_counts.Tally.{Tally}
-use Rattle.cli_explain.specs.declared.explained_line.ExplainedLine.{ExplainedLine}
+use Rattle.explain_statistics.specs.declared.failure_counts.Failed.{Failed}
+use Rattle.explain_statistics.specs.declared.failure_counts.Tally.{Tally}
+use Rattle.explain_lines.specs.declared.explained_line.ExplainedLine.{ExplainedLine}
 use Rattle.cli_explain.specs.declared.line_filter.Window.{Window}
-use Rattle.cli_explain.specs.FailureGroups.{Fault, HasGroups}
-use Rattle.cli_explain.specs.FirstFailure.{FailsFirst, failed_at, unjudged_by, verdict_by}
+use Rattle.explain_statistics.specs.FailureGroups.{Fault, HasGroups}
+use Rattle.explain_statistics.specs.FirstFailure.{FailsFirst, failed_at, unjudged_by, verdict_by}
 use Rattle.cli_explain.specs.FirstFailureOutput.{IsBeingWritten, IsFirstWritten, IsOfFirst, IsWritten, KeepsShown, ShowsWith, WritesFailure, WritesFirstFailure}
-use Rattle.cli_explain.specs.EntryCounts.{counts_of}
+use Rattle.explain_statistics.specs.EntryCounts.{counts_of}
 use Rattle.cli_explain.specs.LinesProcessed.{UnjudgedAfter}
-use Rattle.cli_explain.specs.GroupedAnnotations.{faults_with, first_whole, is_whole}
-use Rattle.cli_explain.specs.AnnotatedFailure.{either, first_why}
-use Rattle.cli_explain.specs.OutputBuffer.{AddsSome, HasEmitted}
+use Rattle.explain_statistics.specs.GroupedAnnotations.{faults_with}
+use Rattle.explain_lines.specs.AnnotatedFailure.{first_whole, is_whole, either, first_why}
+use Rattle.explain_forms.specs.OutputBuffer.{AddsSome, HasEmitted}
 use Rattle.cli_explain.specs.LineFilter.{NoneBefore, TakesLine, WritesFirst, is_written_at_once}
-use Rattle.cli_explain.proofs.OutputBuffers.{adds_none}
+use Rattle.explain_forms.proofs.OutputBuffers.{adds_none}
 
 -- ---- annotations
 

@@ -1,8 +1,8 @@
 -- How the state after the lines of a log changes with a line.
-use Rattle.std.proofs.Common.{◌≡◌, ◌<◌, ◌+◌, ◌-◌, ◌^◌, ◌++◌, inl, inr, min, ℕ, List, [], ◌∷◌, length, drop, get_or, Bool, true, false, Some, None, Ok, Err, refl, sym, ap, ◌∙◌, subst, arith, append_assoc, length-append, zero-add}
-use Rattle.std.proofs.lemmas.List.{append-nil, drop_more}
+use Rattle.std.proofs.Common.{◌≡◌, ◌<◌, ◌+◌, ◌-◌, ◌^◌, ◌++◌, inl, inr, min, ℕ, List, [], ◌∷◌, length, Bool, true, false, Some, None, refl, sym, ap, ◌∙◌, subst, arith, append_assoc, length-append, zero-add}
+use Rattle.std.proofs.lemmas.List.{append-nil}
 use Rattle.std.proofs.lemmas.List.Sums.{sum_by-append}
-use Rattle.std.specs.Prelude.{Option, Result, IfOk, OnOk, is_ok, count_by, if◌then◌else◌, MatchOption}
+use Rattle.std.specs.Prelude.{Option, count_by, if◌then◌else◌, MatchOption}
 use Rattle.hsms_machine.specs.declared.entry.Entry.{Entry}
 use Rattle.hsms_machine.specs.Settings.{Parameters}
 use Rattle.hsms_machine.specs.OpeningLines.{at_place}
@@ -14,92 +14,22 @@ use Rattle.hsms_log.specs.Log.{EncodesLog}
 use Rattle.hsms_log.specs.LineFormat.{EncodesSettings, Carries, line_limit, settings_limit}
 use Rattle.hsms_log.specs.Verdict.{FailsRun, FailsAfter, LineFails, is_sent, is_taken, is_discarded, is_expired}
 use Rattle.hsms_log.proofs.RuleCheckLaws.{encode_more}
-use Rattle.cli_explain.specs.declared.repaired_session.Opening.{Opening}
-use Rattle.cli_explain.specs.declared.repaired_session.Checked.{Checked}
-use Rattle.cli_explain.specs.declared.repaired_session.Checked.TheVariants as check_result
-use Rattle.cli_explain.specs.declared.context.Known.{Known}
-use Rattle.cli_explain.specs.declared.annotation.Note.{Note}
-use Rattle.cli_explain.specs.declared.annotation.Note.TheVariants.{Closes, Fails, FailsInGroup}
-use Rattle.cli_explain.specs.declared.failure_counts.Failed.{Failed}
-use Rattle.cli_explain.specs.declared.failure_counts.Tally.{Tally}
-use Rattle.cli_explain.specs.declared.explained_line.Carried.{Carried}
-use Rattle.cli_explain.specs.declared.explained_line.Carried.TheVariants as carried
-use Rattle.cli_explain.specs.FailureGroups.{counted}
-use Rattle.cli_explain.specs.EntryCounts.{counts_of, one_more, with_entry}
-use Rattle.cli_explain.specs.RepairedSession.{CurrentState, HasProgress, ProgressLeadsTo, ChecksAs}
-use Rattle.cli_explain.specs.FirstFailure.{FailsFirst, failed_at}
+use Rattle.explain_session.specs.declared.context.Known.{Known}
+use Rattle.explain_statistics.specs.declared.failure_counts.Failed.{Failed}
+use Rattle.explain_statistics.specs.declared.failure_counts.Tally.{Tally}
+use Rattle.explain_lines.specs.declared.explained_line.Carried.{Carried}
+use Rattle.explain_lines.specs.declared.explained_line.Carried.TheVariants as carried
+use Rattle.explain_lines.specs.Counted.{counted}
+use Rattle.explain_statistics.specs.EntryCounts.{counts_of, one_more, with_entry, with_carried}
+use Rattle.explain_session.specs.RepairedSession.{CurrentState, HasProgress}
+use Rattle.explain_statistics.specs.FirstFailure.{FailsFirst, failed_at}
 use Rattle.cli_explain.specs.LinesProcessed.{IsShown, Tracks, TracksOrFails, BeginsOrFails}
-use Rattle.cli_explain.specs.AnnotatedFailure.{either, first_why, why_of, with_carried, FailsBy, IsCarried, LineFailsBy}
+use Rattle.explain_lines.specs.AnnotatedFailure.{either}
+use Rattle.explain_session.specs.EntryFailure.{LineFailsBy}
+use Rattle.explain_lines.specs.CarriedLine.{IsCarried}
 use Rattle.hsms_log.specs.Step.{entry_by}
 
 -- ---- annotations
-
-pub first_why-push : (notes : List Note) (note : Note) → first_why (notes ++ note ∷ []) ≡ either (first_why notes) (first_why (note ∷ []))
-first_why-push [] note = refl
-first_why-push (Closes closing ∷ notes) note = first_why-push notes note
-first_why-push (Fails failing ∷ notes) note = refl
-first_why-push (FailsInGroup failure_group ∷ notes) note = first_why-push notes note
-
-first_why-cons : (note : Note) (notes : List Note) → first_why (note ∷ notes) ≡ either (first_why (note ∷ [])) (first_why notes)
-first_why-cons (Closes closing) notes = refl
-first_why-cons (Fails failing) notes = refl
-first_why-cons (FailsInGroup failure_group) notes = refl
-
-failed_either : (line : ℕ) (one other : Option Why) → failed_at line (either one other) ≡ either (failed_at line one) (failed_at line other)
-failed_either line None other = refl
-failed_either line (Some why) other = refl
-
-either_assoc : (one two other : Option Failed) → either one (either two other) ≡ either (either one two) other
-either_assoc None two other = refl
-either_assoc (Some failed) two other = refl
-
-pub either_none : {A : Type 0} (one : Option A) → either one None ≡ one
-either_none None = refl
-either_none (Some x) = refl
-
--- The failures of one more annotation are counted.
-pub note_counted : (notes : List Note) (k : ℕ) (d : Note) (line : ℕ) (now next all : Option Failed) (why : Option Why) → k < length notes
-    → why ≡ first_why (get_or notes k d ∷ []) → either now (failed_at line (first_why (drop k notes))) ≡ all → next ≡ either now (failed_at line why)
-    → either next (failed_at line (first_why (drop (k + 1) notes))) ≡ all
-note_counted notes k d line now next all why lt why_is so_far next_is =
-    let rest = first_why (drop (k + 1) notes) in
-    let here : first_why (drop k notes) ≡ either why rest =
-    ap first_why (drop_more notes k d lt) ∙ first_why-cons (get_or notes k d) (drop (k + 1) notes) ∙ ap (λ w. either w rest) (sym why_is) in
-    ap (λ n. either n (failed_at line rest)) next_is ∙ sym (either_assoc now (failed_at line why) (failed_at line rest))
-    ∙ ap (either now) (sym (failed_either line why rest)) ∙ ap (λ w. either now (failed_at line w)) (sym here) ∙ so_far
-
--- A fact that holds in any case holds if a value is returned.
-pub on_ok : {T E : Type 0} (X : Type 0) (r : Result T E) → X → OnOk r X
-on_ok X (Ok _) fact = fact
-on_ok X (Err _) fact = tt
-
-pub on_ok_more : {T E : Type 0} (X Y : Type 0) (r : Result T E) → (X → Y) → OnOk r X → OnOk r Y
-on_ok_more X Y (Ok _) more fact = more fact
-on_ok_more X Y (Err _) more fact = tt
-
-pub on_ok_three : {T E : Type 0} (A B C D : Type 0) (r : Result T E) → (A → B → C → D) → OnOk r A → OnOk r B → OnOk r C → OnOk r D
-on_ok_three A B C D (Ok _) more a b c = more a b c
-on_ok_three A B C D (Err _) more a b c = tt
-
--- Bytes that grow if a value is returned.
-pub on_ok_grown : {T E : Type 0} (r : Result T E) (new more old : List ℕ) → new ≡ (if is_ok r then more else old) → OnOk r (new ≡ more)
-on_ok_grown (Ok _) new more old is = is
-on_ok_grown (Err _) new more old is = tt
-
-pub if_ok_more : {T E : Type 0} (P Q : T → Type 0) (r : Result T E) → ((x : T) → P x → Q x) → IfOk r P → IfOk r Q
-if_ok_more P Q (Ok x) more fact = more x fact
-if_ok_more P Q (Err _) more fact = tt
-
--- A valid entry, for which no failure is annotated.
-pub valid_entry : (old mid new : CurrentState) (entry : Entry) (closed : Option Opening) (what : Checked) (before after : Option Why)
-    → what ≡ check_result.Lawful closed → ChecksAs old entry mid what → new ≡ mid → after ≡ either before (why_of what) → before ≡ None → FailsBy old entry new after
-valid_entry old mid new entry closed what before after is gives_verdict same noted none =
-    let J : Checked → Type 0 = λ j. ChecksAs old entry mid j in
-    let facts = subst J is gives_verdict in
-    let after_is : after ≡ None = noted ∙ ap (λ o. either o (why_of what)) none ∙ ap why_of is in
-    let P : Option Why → Type 0 = λ w. FailsBy old entry new w in
-    let C : CurrentState → Type 0 = λ s. ProgressLeadsTo old entry s in
-    subst P (sym after_is) (facts.0, subst C (sym same) facts.1)
 
 -- ---- counts
 

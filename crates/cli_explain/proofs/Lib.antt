@@ -1,16 +1,7 @@
-mod RepairedSessions
-mod Escapes
+mod ContinuedLogs
 mod Firsts
 mod FollowingLines
-mod ContinuedLogs
-mod Grouping
-mod Halvings
-mod ProcessedLines
-mod Outcomes
-mod OutputBuffers
-mod RepairRows
-mod FailureKinds
 mod FormattedLines
-mod Verdicts
-pub mod Ended
 mod LineFilters
+mod ProcessedLines
+mod Verdicts

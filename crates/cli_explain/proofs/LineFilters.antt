@@ -1,13 +1,13 @@
 -- Filter of log lines: which lines are written.
 use Rattle.std.proofs.Common.{◌≡◌, ◌≤◌, ◌<◌, ◌+◌, ◌-◌, ◌++◌, ◌∙◌, ℕ, zero, suc, Bool, true, false, List, [], refl, sym, ap, arith, append_assoc}
 use Rattle.std.proofs.lemmas.Bool.{lt-ltb, le-ltb}
-use Rattle.cli_explain.specs.declared.annotation.Note.{Note}
-use Rattle.cli_explain.specs.declared.output_buffer.Page.{Page}
-use Rattle.cli_explain.specs.declared.explained_line.ExplainedLine.{ExplainedLine}
-use Rattle.cli_explain.specs.OutputBuffer.{Adds, AddsSome}
+use Rattle.explain_lines.specs.declared.annotation.Note.{Note}
+use Rattle.explain_forms.specs.declared.output_buffer.Page.{Page}
+use Rattle.explain_lines.specs.declared.explained_line.ExplainedLine.{ExplainedLine}
+use Rattle.explain_forms.specs.OutputBuffer.{Adds, AddsSome}
 use Rattle.cli_explain.specs.LineFilter.{EndsWith, TakesLine, WritesNext, left_out}
-use Rattle.cli_explain.specs.TextOutput.{LineWritten, gap_text}
-use Rattle.cli_explain.proofs.OutputBuffers.{adds_is, adds_none, adds_then}
+use Rattle.explain_forms.specs.TextOutput.{LineWritten, gap_text}
+use Rattle.explain_forms.proofs.OutputBuffers.{adds_is, adds_none, adds_then}
 
 none_left : (last number : ℕ) → number ≤ last + 1 → left_out last number ≡ []
 none_left last number le = rw (le-ltb (last + 1) number le) refl

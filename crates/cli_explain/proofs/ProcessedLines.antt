@@ -11,10 +11,10 @@ use Rattle.hsms_log.proofs.LineLemmas.{ended_lines-first, ended_lines-none, open
 use Rattle.hsms_log.proofs.GrowingTexts.{ended_lines-append, open_line-append, HasNone-open_line}
 use Rattle.cli_explain.specs.declared.explainer.Explainer.{Explainer}
 use Rattle.cli_explain.specs.declared.audit_state.Stage.{Stage}
-use Rattle.cli_explain.specs.declared.failure_counts.Failed.{Failed}
-use Rattle.cli_explain.specs.declared.failure_counts.Tally.{Tally}
-use Rattle.cli_explain.specs.EntryCounts.{counts_of}
-use Rattle.cli_explain.specs.FirstFailure.{FailsFirst}
+use Rattle.explain_statistics.specs.declared.failure_counts.Failed.{Failed}
+use Rattle.explain_statistics.specs.declared.failure_counts.Tally.{Tally}
+use Rattle.explain_statistics.specs.EntryCounts.{counts_of}
+use Rattle.explain_statistics.specs.FirstFailure.{FailsFirst}
 use Rattle.cli_explain.specs.LinesProcessed.{HasProcessed, IsShown, ProcessedAfter, UnjudgedAfter, limit_at}
 
 none_of : HasNone 10 []

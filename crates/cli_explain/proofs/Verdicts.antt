@@ -10,11 +10,11 @@ use Rattle.hsms_log.specs.declared.verdict.Summary.{Summary}
 use Rattle.hsms_log.specs.Log.{CarryLog, EncodesLog}
 use Rattle.hsms_log.specs.Verdict.{LineFails, LinesAudited, summary_of, is_sent, is_taken, is_discarded, is_expired}
 use Rattle.hsms_log.proofs.RuleCheckLaws.{waiting_is}
-use Rattle.cli_explain.specs.declared.context.Known.{Known}
-use Rattle.cli_explain.specs.declared.failure_counts.Failed.{Failed}
-use Rattle.cli_explain.specs.FailureGroups.{counted}
-use Rattle.cli_explain.specs.EntryCounts.{counts_of}
-use Rattle.cli_explain.specs.FirstFailure.{FailsFirst, unjudged_by, verdict_by}
+use Rattle.explain_session.specs.declared.context.Known.{Known}
+use Rattle.explain_statistics.specs.declared.failure_counts.Failed.{Failed}
+use Rattle.explain_lines.specs.Counted.{counted}
+use Rattle.explain_statistics.specs.EntryCounts.{counts_of}
+use Rattle.explain_statistics.specs.FirstFailure.{FailsFirst, unjudged_by, verdict_by}
 use Rattle.cli_explain.specs.LinesProcessed.{Tracks}
 
 -- ---- counts that are exact

@@ -9,15 +9,15 @@ use Rattle.hsms_log.specs.Verdict.{HasAuditVerdict}
 use Rattle.cli_options.specs.ExplainOptions.{is_between}
 use Rattle.cli_options.specs.declared.explain_options.Excerpt.{Excerpt}
 use Rattle.cli_options.specs.declared.explain_options.OutputFormat.TheVariants.{Text}
-use Rattle.cli_explain.specs.declared.annotation.Failing.{Failing}
-use Rattle.cli_explain.specs.declared.annotation.Note.{Note}
+use Rattle.explain_lines.specs.declared.annotation.Failing.{Failing}
+use Rattle.explain_lines.specs.declared.annotation.Note.{Note}
 use Rattle.cli_explain.specs.declared.report.Report.{Report}
-use Rattle.cli_explain.specs.declared.failure_counts.Failed.{Failed}
-use Rattle.cli_explain.specs.declared.explained_line.ExplainedLine.{ExplainedLine}
-use Rattle.cli_explain.specs.GroupedAnnotations.{first_whole}
-use Rattle.cli_explain.specs.OutputBuffer.{HasEmitted}
+use Rattle.explain_statistics.specs.declared.failure_counts.Failed.{Failed}
+use Rattle.explain_lines.specs.declared.explained_line.ExplainedLine.{ExplainedLine}
+use Rattle.explain_lines.specs.AnnotatedFailure.{first_whole}
+use Rattle.explain_forms.specs.OutputBuffer.{HasEmitted}
 use Rattle.cli_explain.specs.LineFilter.{NoneBefore}
-use Rattle.cli_explain.specs.TextOutput.{LineWritten}
+use Rattle.explain_forms.specs.TextOutput.{LineWritten}
 
 -- ---- in words
 

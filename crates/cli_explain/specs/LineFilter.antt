@@ -6,16 +6,16 @@ use Rattle.cli_options.specs.declared.explain_options.Excerpt.{Excerpt}
 use Rattle.cli_options.specs.declared.explain_options.Lines.{Lines}
 use Rattle.cli_options.specs.declared.explain_options.Lines.TheVariants.{All, Failures}
 use Rattle.cli_options.specs.declared.explain_options.OutputFormat.TheVariants.{Text}
-use Rattle.cli_explain.specs.declared.failure_groups.Groups.{Groups}
-use Rattle.cli_explain.specs.declared.annotation.Failing.{Failing}
-use Rattle.cli_explain.specs.declared.annotation.Note.{Note}
-use Rattle.cli_explain.specs.declared.output_buffer.Page.{Page}
-use Rattle.cli_explain.specs.declared.failure_counts.Tally.{Tally}
-use Rattle.cli_explain.specs.declared.explained_line.ExplainedLine.{ExplainedLine}
-use Rattle.cli_explain.specs.FailureGroups.{HasGroups}
-use Rattle.cli_explain.specs.GroupedAnnotations.{first_whole, is_whole}
-use Rattle.cli_explain.specs.OutputBuffer.{Adds}
-use Rattle.cli_explain.specs.TextOutput.{LineWritten, gap_text}
+use Rattle.explain_statistics.specs.declared.failure_groups.Groups.{Groups}
+use Rattle.explain_lines.specs.declared.annotation.Failing.{Failing}
+use Rattle.explain_lines.specs.declared.annotation.Note.{Note}
+use Rattle.explain_forms.specs.declared.output_buffer.Page.{Page}
+use Rattle.explain_statistics.specs.declared.failure_counts.Tally.{Tally}
+use Rattle.explain_lines.specs.declared.explained_line.ExplainedLine.{ExplainedLine}
+use Rattle.explain_statistics.specs.FailureGroups.{HasGroups}
+use Rattle.explain_lines.specs.AnnotatedFailure.{first_whole, is_whole}
+use Rattle.explain_forms.specs.OutputBuffer.{Adds}
+use Rattle.explain_forms.specs.TextOutput.{LineWritten, gap_text}
 
 -- Two dots if lines between the last one written and this one are skipped.
 abbrev pub left_out : ℕ → ℕ → List ℕ

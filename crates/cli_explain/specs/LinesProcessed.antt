@@ -6,15 +6,15 @@ use Rattle.hsms_log.specs.Lines.{ended_lines, open_line}
 use Rattle.hsms_log.specs.Log.{EncodesLog}
 use Rattle.hsms_log.specs.LineFormat.{settings_limit, line_limit}
 use Rattle.cli_explain.specs.declared.explainer.Explainer.{Explainer}
-use Rattle.cli_explain.specs.declared.context.Known.{Known}
+use Rattle.explain_session.specs.declared.context.Known.{Known}
 use Rattle.cli_explain.specs.declared.audit_state.Stage.{Stage}
 use Rattle.cli_explain.specs.declared.audit_state.Stage.TheVariants.{Unjudged, Checked}
-use Rattle.cli_explain.specs.declared.failure_counts.Tally.{Tally}
-use Rattle.cli_explain.specs.FailureGroups.{counted}
-use Rattle.cli_explain.specs.EntryCounts.{counts_of}
-use Rattle.cli_explain.specs.RepairedSession.{HasProgress}
-use Rattle.cli_explain.specs.FirstFailure.{FailsFirst}
-use Rattle.cli_explain.specs.RepairedLines.{ContinuesWith}
+use Rattle.explain_statistics.specs.declared.failure_counts.Tally.{Tally}
+use Rattle.explain_lines.specs.Counted.{counted}
+use Rattle.explain_statistics.specs.EntryCounts.{counts_of}
+use Rattle.explain_session.specs.RepairedSession.{HasProgress}
+use Rattle.explain_statistics.specs.FirstFailure.{FailsFirst}
+use Rattle.explain_session.specs.RepairedLines.{ContinuesWith}
 
 -- ---- lines
 

@@ -8,7 +8,7 @@ use Rattle.hsms_log.specs.Verdict.{counts_text}
 use Rattle.cli_options.specs.declared.explain_options.OutputFormat.{OutputFormat}
 use Rattle.cli_options.specs.declared.explain_options.OutputFormat.TheVariants.{Text, Json, Html}
 use Rattle.cli_output.specs.Verdict.{verdict_line_of}
-use Rattle.cli_explain.specs.Phrases.{why_name}
+use Rattle.explain_lines.specs.Phrases.{why_name}
 
 -- ---- as a JSON object (RFC 8259) on one line
 

@@ -3,8 +3,8 @@
 ghost use Rattle.std.specs.Prelude.{◌≡◌, ◌≤◌};
 ghost use Rattle.cli_explain.specs.LinesProcessed.{limit_at};
 
-use crate::context::Known;
-use crate::explained_line::{SETTINGS_LIMIT, limit_of};
+use explain_lines::{SETTINGS_LIMIT, limit_of};
+use explain_session::Known;
 
 /// Whether the log is checked. It is not before its first line, or if its first line is unreadable. The number is that
 /// of the lines so far.

@@ -2,9 +2,9 @@
 
 use crate::audit_state::Stage;
 use crate::log_line::emit_line;
-use crate::phrases::Unjudged;
 use crate::report::Report;
 use cli_options::Excerpt;
+use explain_lines::Unjudged;
 use hsms_log::{Verdict, split_at_first, without_carriage_return};
 use std::alloc::{AllocError, Global};
 

@@ -1,12 +1,8 @@
 //! Filter of log lines: which lines are written, and when.
 
-use crate::annotation::{Note, has_failure};
-use crate::explained_line::{Carried, ExplainedLine, carried_by};
-use crate::formatter::Emitter;
-use crate::html_links::Links;
-use crate::output_buffer::Page;
-use crate::phrases::Gap;
 use cli_options::{Excerpt, Lines};
+use explain_forms::{Emitter, Links, Page};
+use explain_lines::{Carried, ExplainedLine, Gap, Note, carried_by, has_failure};
 use std::alloc::{AllocError, Global};
 use std::collections::VecDeque;
 
@@ -74,8 +70,8 @@ impl Window {
     ghost use Rattle.std.specs.List.{list_any};
     ghost use Rattle.cli_options.specs.ExplainOptions.{is_between};
     ghost use Rattle.cli_options.specs.declared.explain_options.OutputFormat.TheVariants.{Text};
-    ghost use Rattle.cli_explain.specs.GroupedAnnotations.{is_whole};
-    ghost use Rattle.cli_explain.specs.OutputBuffer.{Adds, AddsSome};
+    ghost use Rattle.explain_lines.specs.AnnotatedFailure.{is_whole};
+    ghost use Rattle.explain_forms.specs.OutputBuffer.{Adds, AddsSome};
     ghost use Rattle.cli_explain.specs.LineFilter.{TakesLine, WritesNext, further_lines_after, is_written_at_once, left_out};
 
     /// Creates a filter that has written no line.

@@ -6,9 +6,9 @@ ghost use Rattle.cli_explain.specs.FirstFailureOutput.{KeepsShown};
 ghost use Rattle.cli_explain.specs.LinesProcessed.{IsShown, KnownAfter, ProcessedAfter, UnjudgedAfter, limit_at};
 
 use crate::audit_state::Stage;
-use crate::context::Known;
-use crate::explained_line::{ExplainedLine, carried_by, limit_of};
 use crate::report::Report;
+use explain_lines::{ExplainedLine, carried_by, limit_of};
+use explain_session::Known;
 use hsms_log::{read_settings, unreadable_settings};
 use std::alloc::{AllocError, Global};
 

@@ -3,9 +3,9 @@
 ghost use Rattle.std.specs.Prelude.{◌≡◌, ◌++◌, IfOk, OnOk, string_bytes};
 ghost use Rattle.cli_explain.specs.VerdictOutput.{ending_of, fail_object_of, mark_of, member_of, page_end_of, pass_object_of, verdict_object_of};
 
-use crate::phrases::name_of;
 use cli_options::OutputFormat;
 use cli_output::verdict_line;
+use explain_lines::name_of;
 use hsms_log::{Summary, Verdict, Why};
 use std::alloc::{AllocError, Global};
 

@@ -1,5 +1,5 @@
 use Rattle.std.proofs.Common.{sym, subst}
-use Rattle.cli_explain.specs.declared.failure_counts.Tally.{Tally}
+use Rattle.explain_statistics.specs.declared.failure_counts.Tally.{Tally}
 use Rattle.cli_explain.specs.FirstFailureOutput.{IsOfFirst}
 use Rattle.cli_explain.proofs.Firsts.{first_failure, more_shown}
 use Rattle.cli_explain.proofs.FormattedLines.{front_more, none_more, on_err, some_more, verdict_last}

@@ -4,7 +4,7 @@ use Rattle.std.proofs.lemmas.Result.{err_from_is_err_and}
 use Rattle.hsms_frame.specs.CallCounts.{next_count}
 use Rattle.hsms_log.proofs.Audits.{ends_found, ends_same}
 use Rattle.cli_explain.proofs.Firsts.{more_shown, none_written}
-use Rattle.cli_explain.proofs.FollowingLines.{on_ok_more}
+use Rattle.explain_lines.proofs.Results.{on_ok_more}
 use Rattle.cli_explain.proofs.FormattedLines.{all_read, concluded, less_left, none_more, none_read, read_on, reads_none, some_more, stops_early}
 use Rattle.cli_explain.proofs.command.explain_to.Goals as goal
 

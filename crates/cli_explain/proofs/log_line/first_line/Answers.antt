@@ -1,7 +1,7 @@
 use Rattle.std.proofs.Common.{◌∙◌, Some, refl, ap}
 use Rattle.hsms_log.specs.declared.verdict.Why.TheVariants.{Unreadable}
-use Rattle.cli_explain.specs.FirstFailure.{failed_at}
-use Rattle.cli_explain.specs.AnnotatedFailure.{either, first_why}
+use Rattle.explain_statistics.specs.FirstFailure.{failed_at}
+use Rattle.explain_lines.specs.AnnotatedFailure.{either, first_why}
 use Rattle.cli_explain.proofs.FollowingLines.{first_fails, first_follows}
 use Rattle.cli_explain.proofs.ContinuedLogs.{first_continues, number_more}
 use Rattle.cli_explain.proofs.Firsts.{keeps_page, keeps_then}

@@ -1,7 +1,7 @@
 use Rattle.std.proofs.Common.{◌≡◌, ◌+◌, ◌∙◌, refl, ap, rules}
-use Rattle.cli_explain.specs.FailureGroups.{counted}
-use Rattle.cli_explain.specs.FirstFailure.{failed_at}
-use Rattle.cli_explain.specs.AnnotatedFailure.{either, first_why}
+use Rattle.explain_lines.specs.Counted.{counted}
+use Rattle.explain_statistics.specs.FirstFailure.{failed_at}
+use Rattle.explain_lines.specs.AnnotatedFailure.{either, first_why}
 use Rattle.cli_explain.proofs.FollowingLines.{further_fails}
 use Rattle.cli_explain.proofs.ContinuedLogs.{number_more}
 use Rattle.cli_explain.proofs.Firsts.{keeps_page, keeps_then}

@@ -1,7 +1,9 @@
 use Rattle.std.proofs.Common.{◌∙◌, ℕ, ap, subst}
-use Rattle.cli_explain.specs.FirstFailure.{failed_at}
-use Rattle.cli_explain.specs.AnnotatedFailure.{either, first_why, IsCarried}
-use Rattle.cli_explain.proofs.FollowingLines.{later_follows, on_ok_more}
+use Rattle.explain_statistics.specs.FirstFailure.{failed_at}
+use Rattle.explain_lines.specs.AnnotatedFailure.{either, first_why}
+use Rattle.explain_lines.specs.CarriedLine.{IsCarried}
+use Rattle.cli_explain.proofs.FollowingLines.{later_follows}
+use Rattle.explain_lines.proofs.Results.{on_ok_more}
 use Rattle.cli_explain.proofs.ContinuedLogs.{later_continues}
 use Rattle.cli_explain.proofs.Firsts.{keeps_page, keeps_then}
 use Rattle.cli_explain.proofs.log_line.later_line.Goals as goal

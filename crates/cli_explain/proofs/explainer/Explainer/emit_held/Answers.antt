@@ -1,6 +1,6 @@
 use Rattle.std.proofs.Common.{◌∙◌, ap}
 use Rattle.std.specs.Str.Lines.{strip_carriage_return}
-use Rattle.cli_explain.proofs.FollowingLines.{on_ok_more}
+use Rattle.explain_lines.proofs.Results.{on_ok_more}
 use Rattle.cli_explain.proofs.ProcessedLines.{processed_held}
 use Rattle.cli_explain.proofs.explainer.Explainer.emit_held.Goals as goal
 

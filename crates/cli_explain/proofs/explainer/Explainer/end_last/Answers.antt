@@ -1,5 +1,5 @@
 use Rattle.std.proofs.Common.{◌<◌, ◌≢◌, [], length, ap, arith, rules}
-use Rattle.cli_explain.proofs.FollowingLines.{on_ok_more}
+use Rattle.explain_lines.proofs.Results.{on_ok_more}
 use Rattle.cli_explain.proofs.ProcessedLines.{last_ended}
 use Rattle.cli_explain.proofs.explainer.Explainer.end_last.Goals as goal
 

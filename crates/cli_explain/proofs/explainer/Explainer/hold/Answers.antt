@@ -1,6 +1,6 @@
 use Rattle.std.proofs.Common.{◌≡◌, ◌∙◌, ◌+◌, ◌-◌, ◌++◌, min, length, take, refl, ap, rules}
 use Rattle.cli_explain.specs.LinesProcessed.{limit_at}
-use Rattle.cli_explain.proofs.FollowingLines.{on_ok_grown, on_ok_more}
+use Rattle.explain_lines.proofs.Results.{on_ok_grown, on_ok_more}
 use Rattle.cli_explain.proofs.ProcessedLines.{processed_part}
 use Rattle.cli_explain.proofs.explainer.Explainer.hold.Goals as goal
 

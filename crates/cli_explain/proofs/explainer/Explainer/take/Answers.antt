@@ -5,7 +5,7 @@ use Rattle.cli_explain.specs.LinesProcessed.{HasProcessed}
 use Rattle.cli_explain.specs.declared.report.Report.{Report}
 use Rattle.cli_explain.specs.FirstFailureOutput.{KeepsShown}
 use Rattle.cli_explain.proofs.Firsts.{keeps_then}
-use Rattle.cli_explain.proofs.FollowingLines.{on_ok, on_ok_more}
+use Rattle.explain_lines.proofs.Results.{on_ok, on_ok_more}
 use Rattle.cli_explain.proofs.explainer.Explainer.take.Goals as goal
 
 pub loop-part-init : goal.loop-part-init

@@ -1,5 +1,5 @@
 use Rattle.std.proofs.Common.{◌∙◌, [], refl, ap}
-use Rattle.cli_explain.proofs.OutputBuffers.{adds_none, some_then}
+use Rattle.explain_forms.proofs.OutputBuffers.{adds_none, some_then}
 use Rattle.cli_explain.proofs.line_filter.Window.emit_held.Goals as goal
 
 pub loop-held-init : goal.loop-held-init

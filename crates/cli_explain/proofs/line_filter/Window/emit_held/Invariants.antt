@@ -1,6 +1,6 @@
 use Rattle.std.proofs.Common.{◌≡◌, length}
 use Rattle.cli_options.specs.declared.explain_options.OutputFormat.TheVariants.{Text}
-use Rattle.cli_explain.specs.OutputBuffer.{AddsSome}
+use Rattle.explain_forms.specs.OutputBuffer.{AddsSome}
 use Rattle.cli_explain.proofs.line_filter.Window.emit_held.Given as goal
 
 -- The output of the lines so far is appended to the earlier output.

@@ -1,5 +1,5 @@
 use Rattle.std.proofs.Common.{◌∙◌, [], ap}
-use Rattle.cli_explain.proofs.OutputBuffers.{some_then}
+use Rattle.explain_forms.proofs.OutputBuffers.{some_then}
 use Rattle.cli_explain.proofs.line_filter.Window.emit_one.Goals as goal
 
 pub returns-in_default-clause-shown_line : goal.returns-in_default-clause-shown_line

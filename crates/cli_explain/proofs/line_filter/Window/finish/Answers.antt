@@ -1,6 +1,6 @@
 use Rattle.std.proofs.Common.{◌∙◌, sym, subst}
-use Rattle.cli_explain.specs.declared.output_buffer.Page.{Page}
-use Rattle.cli_explain.specs.OutputBuffer.{AddsSome}
+use Rattle.explain_forms.specs.declared.output_buffer.Page.{Page}
+use Rattle.explain_forms.specs.OutputBuffer.{AddsSome}
 use Rattle.cli_explain.proofs.line_filter.Window.finish.Goals as goal
 
 pub returns : goal.returns

@@ -1,5 +1,5 @@
 use Rattle.std.proofs.Common.{◌∙◌, ap, sym}
-use Rattle.cli_explain.proofs.FollowingLines.{on_ok}
+use Rattle.explain_lines.proofs.Results.{on_ok}
 use Rattle.cli_explain.proofs.LineFilters.{line_held, line_emitted}
 use Rattle.cli_explain.proofs.line_filter.Window.take.Goals as goal
 

@@ -1,6 +1,6 @@
 use Rattle.std.proofs.Common.{◌∙◌, refl}
 use Rattle.cli_explain.proofs.Firsts.{keeps_on, keeps_then}
-use Rattle.cli_explain.proofs.OutputBuffers.{some_then}
+use Rattle.explain_forms.proofs.OutputBuffers.{some_then}
 use Rattle.cli_explain.proofs.report.Report.emit_end.Goals as goal
 
 pub returns-clause-shown : goal.returns-clause-shown

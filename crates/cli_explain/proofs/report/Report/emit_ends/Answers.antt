@@ -1,8 +1,8 @@
 use Rattle.std.proofs.Common.{◌∙◌, [], refl, sym, subst}
-use Rattle.cli_explain.specs.declared.output_buffer.Page.{Page}
-use Rattle.cli_explain.specs.OutputBuffer.{AddsSome}
+use Rattle.explain_forms.specs.declared.output_buffer.Page.{Page}
+use Rattle.explain_forms.specs.OutputBuffer.{AddsSome}
 use Rattle.cli_explain.proofs.Firsts.{keeps_on}
-use Rattle.cli_explain.proofs.OutputBuffers.{adds_none}
+use Rattle.explain_forms.proofs.OutputBuffers.{adds_none}
 use Rattle.cli_explain.proofs.report.Report.emit_ends.Goals as goal
 
 pub returns-clause-shown : goal.returns-clause-shown

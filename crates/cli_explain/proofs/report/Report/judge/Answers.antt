@@ -1,12 +1,14 @@
 use Rattle.std.proofs.Common.{◌≡◌, List, sym, ap, subst}
 use Rattle.std.specs.Prelude.{OnOk}
-use Rattle.cli_explain.specs.declared.explained_line.Carried.{Carried}
-use Rattle.cli_explain.specs.declared.annotation.Note.{Note}
-use Rattle.cli_explain.specs.RepairedLines.{RepairsLine}
-use Rattle.cli_explain.specs.AnnotatedFailure.{LineFailsBy, first_why, with_carried}
-use Rattle.cli_explain.specs.RepairSteps.{RepairsEntry}
+use Rattle.explain_lines.specs.declared.explained_line.Carried.{Carried}
+use Rattle.explain_lines.specs.declared.annotation.Note.{Note}
+use Rattle.explain_session.specs.RepairedLines.{RepairsLine}
+use Rattle.explain_session.specs.EntryFailure.{LineFailsBy}
+use Rattle.explain_lines.specs.AnnotatedFailure.{first_why}
+use Rattle.explain_statistics.specs.EntryCounts.{with_carried}
+use Rattle.explain_session.specs.RepairSteps.{RepairsEntry}
 use Rattle.hsms_log.specs.Step.{entry_by}
-use Rattle.cli_explain.proofs.FollowingLines.{on_ok, on_ok_more}
+use Rattle.explain_lines.proofs.Results.{on_ok, on_ok_more}
 use Rattle.cli_explain.proofs.report.Report.judge.Goals as goal
 
 pub returns-in-Entry-clause-check_result : goal.returns-in-Entry-clause-check_result

@@ -1,6 +1,6 @@
 use Rattle.std.proofs.Common.{◌∙◌, [], sym, subst, ap}
-use Rattle.cli_explain.specs.declared.output_buffer.Page.{Page}
-use Rattle.cli_explain.specs.OutputBuffer.{HasEmitted}
+use Rattle.explain_forms.specs.declared.output_buffer.Page.{Page}
+use Rattle.explain_forms.specs.OutputBuffer.{HasEmitted}
 use Rattle.cli_explain.proofs.Firsts.{nothing_shown}
 use Rattle.cli_explain.proofs.report.Report.new.Goals as goal
 

@@ -1,8 +1,8 @@
 use Rattle.std.proofs.Common.{◌∙◌, Some, ap}
 use Rattle.hsms_log.specs.declared.verdict.Why.{Why}
-use Rattle.cli_explain.specs.declared.annotation.Note.TheVariants.{Fails}
-use Rattle.cli_explain.specs.AnnotatedFailure.{either, first_why}
-use Rattle.cli_explain.proofs.FollowingLines.{first_why-push}
+use Rattle.explain_lines.specs.declared.annotation.Note.TheVariants.{Fails}
+use Rattle.explain_lines.specs.AnnotatedFailure.{either, first_why}
+use Rattle.explain_lines.proofs.AnnotatedFailures.{first_why-push}
 use Rattle.cli_explain.proofs.report.Report.note_unreadable.Goals as goal
 
 pub returns-clause-notes : goal.returns-clause-notes

@@ -1,10 +1,9 @@
 use Rattle.std.proofs.Common.{◌∙◌, [], refl, sym, ap}
-use Rattle.cli_explain.specs.FirstFailure.{failed_at}
-use Rattle.cli_explain.specs.GroupedAnnotations.{first_whole}
-use Rattle.cli_explain.specs.AnnotatedFailure.{either, first_why}
-use Rattle.cli_explain.proofs.FollowingLines.{on_ok, on_ok_more, on_ok_three}
+use Rattle.explain_statistics.specs.FirstFailure.{failed_at}
+use Rattle.explain_lines.specs.AnnotatedFailure.{first_whole, either, first_why}
+use Rattle.explain_lines.proofs.Results.{on_ok, on_ok_more, on_ok_three}
 use Rattle.cli_explain.proofs.Firsts.{first_written, keeps_written, none_counted, none_grouped, none_emitted, takes_some}
-use Rattle.cli_explain.proofs.OutputBuffers.{adds_none}
+use Rattle.explain_forms.proofs.OutputBuffers.{adds_none}
 use Rattle.cli_explain.proofs.report.Report.submit.Goals as goal
 
 pub returns-then-not-has_line-clause-shown_line : goal.returns-then-not-has_line-clause-shown_line

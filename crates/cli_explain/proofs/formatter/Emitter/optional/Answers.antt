@@ -1,6 +1,0 @@
-use Rattle.std.proofs.Common.{[]}
-use Rattle.cli_explain.proofs.OutputBuffers.{adds_none}
-use Rattle.cli_explain.proofs.formatter.Emitter.optional.Goals as goal
-
-pub returns-in-None : goal.returns-in-None
-returns-in-None g c = λ is. ([], adds_none _)

@@ -1,7 +1,0 @@
-use Rattle.std.proofs.Common.{◌≡◌}
-use Rattle.cli_options.specs.declared.explain_options.OutputFormat.TheVariants.{Text}
-use Rattle.cli_explain.specs.OutputBuffer.{AddsSome}
-use Rattle.cli_explain.proofs.formatter.Emitter.outcomes.Given as goal
-
-abbrev pub invariant-loop-place : goal.invariant-loop-place
-invariant-loop-place l = l.fn.self.form ≡ Text → AddsSome l.initial.page l.page

@@ -1,5 +1,0 @@
-use Rattle.cli_explain.proofs.Halvings.{halved}
-use Rattle.cli_explain.proofs.histogram.place_of.Goals as goal
-
-pub loop-halvings-preserved : goal.loop-halvings-preserved
-loop-halvings-preserved c = halved _ _ _ c.if-rest-lt256.false c.loop-halvings.invariant

@@ -1,5 +1,0 @@
-use Rattle.cli_explain.proofs.OutputBuffers.{adds_appended}
-use Rattle.cli_explain.proofs.output_buffer.Page.append_message_line.Goals as goal
-
-pub returns : goal.returns
-returns c = let said = c.give_line.ensures in (said.0, said.1, adds_appended _ _ said.0 said.2)

@@ -1,9 +1,0 @@
-use Rattle.std.proofs.Common.{◌++◌, ap}
-use Rattle.cli_explain.specs.TextOutput.{rule_words}
-use Rattle.cli_explain.proofs.OutputBuffers.{adds_is, adds_then, some_then}
-use Rattle.cli_explain.proofs.text.write_failing.Goals as goal
-
-pub returns : goal.returns
-returns c =
-    let all = some_then _ _ _ (some_then _ _ _ c.write_further.ensures c.write_further-2.ensures) c.write_further-3.ensures in
-    (all.0, adds_is _ _ _ _ (ap (λ n. rule_words n c.args.failing.now.sentence.now ++ all.0) c.name_of.ensures) (adds_then _ _ _ _ _ c.write_rule.ensures all.1))

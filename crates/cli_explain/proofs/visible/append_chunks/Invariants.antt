@@ -1,5 +1,0 @@
-use Rattle.cli_explain.specs.Visible.{AddsVisible}
-use Rattle.cli_explain.proofs.visible.append_chunks.Given as goal
-
-abbrev pub invariant-loop-chunk : goal.invariant-loop-chunk
-invariant-loop-chunk l = AddsVisible l.initial.page l.page

@@ -1,8 +1,0 @@
-use Rattle.std.proofs.Common.{[], ◌∷◌, refl}
-use Rattle.cli_explain.proofs.Escapes.{visible_octet, visible_then}
-use Rattle.cli_explain.proofs.visible.append_escape.Goals as goal
-
-pub returns : goal.returns
-returns c =
-    visible_then _ _ _ (visible_then _ _ _ (92 ∷ 120 ∷ [], refl, c.append_chunk.ensures) (visible_octet _ _ _ c.digit.ensures c.append_chunk-2.ensures))
-    (visible_octet _ _ _ c.digit-2.ensures c.append_chunk-3.ensures)

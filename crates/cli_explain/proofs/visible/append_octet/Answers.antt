@@ -1,5 +1,0 @@
-use Rattle.cli_explain.proofs.Escapes.{visible_octet}
-use Rattle.cli_explain.proofs.visible.append_octet.Goals as goal
-
-pub returns-then-is_shown : goal.returns-then-is_shown
-returns-then-is_shown c = visible_octet _ _ _ (c.is_shown.ensures c.if-is_shown.true) c.append_chunk.ensures

@@ -1,0 +1,5 @@
+use Rattle.explain_forms.specs.Visible.{AddsVisible}
+use Rattle.explain_forms.proofs.visible.write_other.Given as goal
+
+abbrev pub invariant-loop-octet : goal.invariant-loop-octet
+invariant-loop-octet l = AddsVisible l.initial.page l.page

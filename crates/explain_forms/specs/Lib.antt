@@ -1,0 +1,3 @@
+pub mod OutputBuffer
+pub mod TextOutput
+pub mod Visible

@@ -1,0 +1,171 @@
+//! Output format of an explained log.
+
+ghost use Rattle.std.specs.Prelude.{◌≡◌, ℕ, List};
+ghost use Rattle.cli_options.specs.declared.explain_options.OutputFormat.TheVariants.{Text};
+ghost use Rattle.explain_forms.specs.OutputBuffer.{Adds, AddsSome};
+ghost use Rattle.explain_forms.specs.TextOutput.{LineWritten, gap_text};
+
+use crate::html_links::Links;
+use crate::json::AsObject;
+use crate::output_buffer::Page;
+use crate::{html, json, text};
+use cli_options::{Excerpt, OutputFormat};
+use explain_lines::{ExplainedLine, Gap, Note, Unjudged};
+use explain_statistics::{Groups, Primaries, Tally};
+use hsms_machine::Settings;
+use std::fmt;
+
+/// Writes the output in the selected format, with times in ms or as dates.
+#[derive(Clone, Copy)]
+pub struct Emitter {
+    pub form: OutputFormat,
+    utc: bool,
+}
+
+impl Emitter {
+    /// Creates the emitter for these options.
+    pub fn new(excerpt: Excerpt) -> Emitter
+        ensures { result.form ≡ excerpt.form }
+    {
+        Emitter {
+            form: excerpt.form,
+            utc: excerpt.utc,
+        }
+    }
+
+    /// Writes what precedes all lines.
+    pub fn begin(self, page: &mut Page)
+        ensures { self.form ≡ Text → page.new ≡ page.old }
+    {
+        match self.form {
+            OutputFormat::Text | OutputFormat::Json => {}
+            OutputFormat::Html => html::begin(page, self.utc),
+        }
+    }
+
+    /// Writes the roles of the two endpoints, before the lines of a log with these settings.
+    pub fn ends(self, page: &mut Page, settings: Settings)
+        ensures { self.form ≡ Text → page.new ≡ page.old }
+    {
+        match self.form {
+            OutputFormat::Text | OutputFormat::Json => {}
+            OutputFormat::Html => html::write_ends(page, settings),
+        }
+    }
+
+    /// Writes what follows all lines.
+    pub fn end_lines(self, page: &mut Page, links: &Links)
+        ensures { self.form ≡ Text → page.new ≡ page.old }
+    {
+        match self.form {
+            OutputFormat::Text | OutputFormat::Json => {}
+            OutputFormat::Html => html::end_lines(page, links),
+        }
+    }
+
+    /// Writes a line and its annotations.
+    pub fn line(
+        self,
+        page: &mut Page,
+        links: &mut Links,
+        shown_line: ExplainedLine<'_, '_>,
+        notes: &[Note],
+    )
+        ensures { self.form ≡ Text → (words : List ℕ) × LineWritten shown_line.entry notes.now words × Adds page.old page.new words }
+    {
+        match self.form {
+            OutputFormat::Text => text::write_line(page, shown_line, notes, self.utc),
+            OutputFormat::Json => json::write_line(page, shown_line, notes, self.utc),
+            OutputFormat::Html => html::write_line(page, links, shown_line, notes, self.utc),
+        }
+    }
+
+    /// Writes that lines are skipped.
+    pub fn gap(self, page: &mut Page, gap: Gap)
+        ensures { self.form ≡ Text → Adds page.old page.new gap_text }
+    {
+        match self.form {
+            OutputFormat::Text => text::write_gap(page),
+            OutputFormat::Json => json::write_object(page, &gap),
+            OutputFormat::Html => html::write_gap(page, gap),
+        }
+    }
+
+    /// Writes that nothing was checked.
+    pub fn unjudged(self, page: &mut Page, unjudged: Unjudged)
+        ensures { self.form ≡ Text → AddsSome page.old page.new }
+    {
+        match self.form {
+            OutputFormat::Html => html::write_words(page, "<p>", &unjudged),
+            OutputFormat::Text | OutputFormat::Json => self.remark(page, &unjudged),
+        }
+    }
+
+    /// Writes for each group the number of its failures, or the number of those not written in full.
+    pub fn groups(self, page: &mut Page, groups: &Groups)
+        ensures { self.form ≡ Text → AddsSome page.old page.new }
+    {
+        match self.form {
+            OutputFormat::Html => html::write_groups(page, groups),
+            OutputFormat::Text | OutputFormat::Json => self.rests(page, groups),
+        }
+    }
+
+    // Writes for each group the number of failures not written in full.
+    fn rests(self, page: &mut Page, groups: &Groups)
+        ensures { self.form ≡ Text → AddsSome page.old page.new }
+    {
+        for group in groups.iter() {
+            self.optional(page, group.rest());
+        }
+    }
+
+    /// Writes how often each rule was broken.
+    pub fn failures(self, page: &mut Page, tally: &Tally)
+        ensures { self.form ≡ Text → AddsSome page.old page.new }
+    {
+        match self.form {
+            OutputFormat::Html => html::write_words(page, "<p class=\"counts\">", tally),
+            OutputFormat::Text | OutputFormat::Json => self.remark(page, tally),
+        }
+    }
+
+    /// Writes the outcomes of the primaries of each kind.
+    pub fn primaries(self, page: &mut Page, links: &Links, primaries: &Primaries)
+        ensures { self.form ≡ Text → AddsSome page.old page.new }
+    {
+        match self.form {
+            OutputFormat::Html => html::write_primaries(page, links, primaries),
+            OutputFormat::Text | OutputFormat::Json => self.outcomes(page, primaries),
+        }
+    }
+
+    fn outcomes(self, page: &mut Page, primaries: &Primaries)
+        ensures { self.form ≡ Text → AddsSome page.old page.new }
+    {
+        for place in 0..primaries.len() {
+            self.optional(page, primaries.outcome(place));
+        }
+    }
+
+    // Writes a remark, if there is one.
+    fn optional<T: fmt::Display + AsObject + Drop>(self, page: &mut Page, remark: Option<T>)
+        ensures { self.form ≡ Text → AddsSome page.old page.new }
+    {
+        match remark {
+            Some(remark) => self.remark(page, &remark),
+            None => {}
+        }
+    }
+
+    // Writes a remark on a line of its own, as text or as an object.
+    fn remark<T: fmt::Display + AsObject>(self, page: &mut Page, remark: &T)
+        ensures { self.form ≡ Text → AddsSome page.old page.new }
+    {
+        match self.form {
+            OutputFormat::Text => text::write_words(page, remark),
+            OutputFormat::Json => json::write_object(page, remark),
+            OutputFormat::Html => {}
+        }
+    }
+}

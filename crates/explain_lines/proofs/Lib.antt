@@ -1,0 +1,3 @@
+pub mod AnnotatedFailures
+pub mod FailureKinds
+pub mod Results

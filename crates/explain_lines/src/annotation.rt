@@ -1,0 +1,92 @@
+//! Annotations of a log line.
+
+ghost use Rattle.std.specs.Prelude.{◌≡◌, ◌∷◌, [], Some, codes};
+ghost use Rattle.std.specs.List.{list_any};
+ghost use Rattle.hsms_log.specs.declared.verdict.Why.TheVariants.{Unreadable as CannotBeRead};
+ghost use Rattle.explain_lines.specs.declared.expected.Expected.TheVariants.{Form};
+ghost use Rattle.explain_lines.specs.AnnotatedFailure.{first_why, is_whole};
+
+use crate::expected::Expected;
+use crate::failure_kind::UNREADABLE_SORT;
+use crate::phrases::{Closing, Continuation, FailureGroup, Put};
+use hsms_log::{Unreadable, Why};
+use hsms_machine::RepairAction;
+
+/// The text for an unreadable line.
+pub const UNREADABLE: &str = "not a valid log line";
+
+/// An annotation of a log line.
+#[derive(Clone, Copy)]
+pub enum Note {
+    /// The entry closes the transaction that another line opened.
+    Closes(Closing),
+    /// The line fails.
+    Fails(Failing),
+    /// The line fails like an earlier line.
+    FailsInGroup(FailureGroup),
+}
+
+impl Note {
+    /// Returns why the line fails. `None` if the annotation is no failure, or refers to the line of an earlier one.
+    pub fn why(&self) -> Option<Why>
+        ensures { result ≡ first_why (self.now ∷ []) }
+    {
+        match self {
+            Note::Fails(failing) => Some(failing.why),
+            Note::Closes(_) | Note::FailsInGroup(_) => None,
+        }
+    }
+}
+
+/// A failure of a line. It has its failure kind (`sort`), rule and rule text, the line of the open transaction
+/// involved, a hint, and the repair. An unreadable line is skipped.
+#[derive(Clone, Copy)]
+pub struct Failing {
+    pub sort: u64,
+    pub why: Why,
+    pub sentence: &'static str,
+    pub concerns: Option<u64>,
+    pub expected: Option<Expected>,
+    pub repair_action: Option<RepairAction>,
+}
+
+impl Failing {
+    /// Returns the failure of an unreadable line, with the reason.
+    pub fn unreadable(unreadable: Unreadable) -> Failing
+        ensures why { result.why ≡ CannotBeRead }
+        ensures sentence { result.sentence.now ≡ codes "not a valid log line" }
+        ensures expected { result.expected ≡ Some (Form unreadable) }
+    {
+        Failing {
+            sort: UNREADABLE_SORT,
+            why: Why::Unreadable,
+            sentence: UNREADABLE,
+            concerns: None,
+            expected: Some(Expected::Form(unreadable)),
+            repair_action: None,
+        }
+    }
+
+    /// Returns how the log continues. `utc` selects dates instead of times in ms.
+    pub fn continuation(&self, utc: bool) -> Option<Continuation> {
+        self.repair_action
+            .map(|repair_action| Continuation { repair_action, utc })
+    }
+
+    /// Returns the line that the hint names.
+    pub fn expected_line(&self) -> Option<u64> {
+        self.expected?.line()
+    }
+
+    /// Returns the entry that the repair inserts before the line.
+    pub fn put(&self) -> Option<Put> {
+        Put::of(self.repair_action?)
+    }
+}
+
+/// Returns whether one of the annotations is a failure written in full.
+pub fn has_failure(notes: &[Note]) -> bool
+    ensures { result ≡ list_any is_whole notes.now }
+{
+    notes.iter().any(|note| matches!(note, Note::Fails(_)))
+}

@@ -1,0 +1,189 @@
+//! What was expected instead of an entry that fails, and its text.
+
+use crate::phrases::Tie;
+use hsms_frame::Header;
+use hsms_log::Unreadable;
+use std::fmt;
+
+/// A SECS-II stream and function.
+#[derive(Clone, Copy)]
+pub struct Function {
+    pub stream: u8,
+    pub function: u8,
+}
+
+impl Function {
+    /// Returns the stream and function of a data message.
+    pub fn of(header: Header) -> Function {
+        Function {
+            stream: header.stream(),
+            function: header.function(),
+        }
+    }
+
+    /// Returns the stream and function of the reply to a primary. After function 255 there is only function 0, which
+    /// aborts.
+    pub fn of_reply_to(primary: Header) -> Function {
+        Function {
+            stream: primary.stream(),
+            function: primary.function().checked_add(1).unwrap_or(0),
+        }
+    }
+}
+
+/// What was expected instead of an entry that fails, if known, or why the entry is not allowed there.
+#[derive(Clone, Copy)]
+pub enum Expected {
+    /// The open primary at the line has the same system bytes, and expects another function.
+    Function {
+        line: u64,
+        expected: Function,
+        came: Function,
+    },
+    /// The primary at the line has the same system bytes, but no W bit.
+    NoWait(u64),
+    /// The request at the line has the same system bytes, but was discarded.
+    ThrownAway(u64),
+    /// The transaction of the line has the same system bytes, but was closed.
+    Closed {
+        line: u64,
+        tie: Tie,
+        by: u64,
+    },
+    /// The primary at the line is the only sent one that waits for a reply, and has other system bytes.
+    OnlyOne {
+        line: u64,
+        expected: Function,
+        system: u32,
+    },
+    /// Another session ID.
+    Session {
+        expected: u16,
+        came: u16,
+    },
+    /// The text has this item error, at this offset from 0.
+    Text {
+        fault: &'static str,
+        at: usize,
+    },
+    /// The Select.req at the line was not answered with status 0. `None` if there was no Select.req.
+    Selected(Option<u64>),
+    /// The session ended at the line.
+    Over(u64),
+    /// The line is unreadable.
+    Form(Unreadable),
+}
+
+impl Expected {
+    /// Returns the line that the hint names, if it names one.
+    pub fn line(self) -> Option<u64> {
+        match self {
+            Expected::Function { line, .. }
+            | Expected::NoWait(line)
+            | Expected::ThrownAway(line)
+            | Expected::Closed { line, .. }
+            | Expected::OnlyOne { line, .. }
+            | Expected::Over(line) => Some(line),
+            Expected::Selected(line) => line,
+            Expected::Session { .. } | Expected::Text { .. } | Expected::Form(_) => None,
+        }
+    }
+}
+
+impl fmt::Display for Function {
+    fn fmt<W: fmt::Write>(&self, f: &mut fmt::Formatter<W>) -> fmt::Result {
+        let Function { stream, function } = *self;
+        write!(f, "S{stream}F{function}")
+    }
+}
+
+impl fmt::Display for Expected {
+    fn fmt<W: fmt::Write>(&self, f: &mut fmt::Formatter<W>) -> fmt::Result {
+        match *self {
+            Expected::Function {
+                line,
+                expected,
+                came,
+            } => write_function(f, line, expected, came),
+            Expected::NoWait(line) => write_namesake(f, line, "but no W bit"),
+            Expected::ThrownAway(line) => write_namesake(f, line, "but was discarded"),
+            Expected::Closed { line, tie, by } => write_closed(f, line, tie, by),
+            Expected::OnlyOne {
+                line,
+                expected,
+                system,
+            } => write_only_one(f, line, expected, system),
+            Expected::Session { expected, came } => write_session(f, expected, came),
+            Expected::Text { fault, at } => write!(f, "item error: {fault} at={at}"),
+            Expected::Selected(request) => write_selected(f, request),
+            Expected::Over(line) => write!(f, "the session ended at line {line}"),
+            Expected::Form(unreadable) => write!(f, "{unreadable}"),
+        }
+    }
+}
+
+// Each case writes its text in a function of its own: the time of one proof of all cases grows faster than their
+// number.
+
+fn write_function<W: fmt::Write>(
+    f: &mut fmt::Formatter<W>,
+    line: u64,
+    expected: Function,
+    came: Function,
+) -> fmt::Result {
+    write!(f, "line {line} expects {expected}, got {came}")
+}
+
+// Writes that the line has the same system bytes, and why it does not match.
+fn write_namesake<W: fmt::Write>(
+    f: &mut fmt::Formatter<W>,
+    line: u64,
+    matter: &str,
+) -> fmt::Result {
+    write!(f, "line {line} has the same system bytes, {matter}")
+}
+
+fn write_closed<W: fmt::Write>(
+    f: &mut fmt::Formatter<W>,
+    line: u64,
+    tie: Tie,
+    by: u64,
+) -> fmt::Result {
+    write_namesake(f, line, closed_word(tie))?;
+    write!(f, " line {by}")
+}
+
+fn write_only_one<W: fmt::Write>(
+    f: &mut fmt::Formatter<W>,
+    line: u64,
+    expected: Function,
+    system: u32,
+) -> fmt::Result {
+    write!(
+        f,
+        "the only open primary is line {line}: it expects {expected} {system:08x}"
+    )
+}
+
+fn write_session<W: fmt::Write>(
+    f: &mut fmt::Formatter<W>,
+    expected: u16,
+    came: u16,
+) -> fmt::Result {
+    write!(f, "expected session ID {expected:04x}, got {came:04x}")
+}
+
+fn write_selected<W: fmt::Write>(f: &mut fmt::Formatter<W>, request: Option<u64>) -> fmt::Result {
+    match request {
+        Some(line) => write!(f, "line {line} has no select.rsp with status 0"),
+        None => write!(f, "no select.req yet on this connection"),
+    }
+}
+
+fn closed_word(tie: Tie) -> &'static str {
+    match tie {
+        Tie::Answers => "but was already answered by",
+        Tie::Rejects => "but was already rejected by",
+        Tie::Expires => "but already timed out at",
+    }
+}

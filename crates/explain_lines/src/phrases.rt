@@ -1,0 +1,262 @@
+//! Phrases below a line.
+
+ghost use Rattle.std.specs.Prelude.{◌≡◌, Some};
+ghost use Rattle.explain_lines.specs.Phrases.{group_text, closing_text, closing_word, concern_text, rest_text, tie_word, why_name};
+
+use crate::timestamp::Moment;
+use hsms_frame::{Kind, kind};
+use hsms_log::{What, Why, cause_word};
+use hsms_machine::{Cause, RepairAction};
+use std::fmt;
+
+/// The relation of an entry to the transaction that it closes.
+#[derive(Clone, Copy)]
+pub enum Tie {
+    Answers,
+    Rejects,
+    Expires,
+}
+
+impl Tie {
+    /// Returns the relation of an entry to the transaction that it closes: a reject, an answer, or, for a `t3`, an
+    /// expiry.
+    pub fn of(what: What) -> Tie {
+        match what {
+            What::Frame(_, header) => {
+                if kind(header) == Kind::Reject {
+                    Tie::Rejects
+                } else {
+                    Tie::Answers
+                }
+            }
+            _ => Tie::Expires,
+        }
+    }
+}
+
+/// Returns the word for the relation.
+pub fn word_of(tie: Tie) -> &'static str
+    ensures { result.now ≡ tie_word tie }
+{
+    match tie {
+        Tie::Answers => "answers",
+        Tie::Rejects => "rejects",
+        Tie::Expires => "expires",
+    }
+}
+
+// Returns the start of the phrase for an entry that closes a transaction.
+fn closing_phrase(tie: Tie) -> &'static str
+    ensures { result.now ≡ closing_word tie }
+{
+    match tie {
+        Tie::Expires => "T3 timeout of",
+        Tie::Answers | Tie::Rejects => word_of(tie),
+    }
+}
+
+/// An entry that closes the transaction opened by a line, `after` ms later.
+#[derive(Clone, Copy)]
+pub struct Closing {
+    pub tie: Tie,
+    pub line: u64,
+    pub after: u64,
+}
+
+impl fmt::Display for Closing {
+    ghost output = { λ closing. Some (closing_text closing) };
+
+    fn fmt<W: fmt::Write>(&self, f: &mut fmt::Formatter<W>) -> fmt::Result {
+        let tie = closing_phrase(self.tie);
+        let line = self.line;
+        let after = self.after;
+        write!(f, "{tie} line {line} after {after} ms")
+    }
+}
+
+/// The line of an open transaction that a failure involves.
+#[derive(Clone, Copy)]
+pub struct Concern {
+    pub line: u64,
+}
+
+impl fmt::Display for Concern {
+    ghost output = { λ concern. Some (concern_text concern) };
+
+    fn fmt<W: fmt::Write>(&self, f: &mut fmt::Formatter<W>) -> fmt::Result {
+        let line = self.line;
+        write!(f, "open transaction: line {line}")
+    }
+}
+
+/// One or more failures like that of an earlier line. `times` is their number.
+#[derive(Clone, Copy)]
+pub struct FailureGroup {
+    pub why: Why,
+    pub line: u64,
+    pub times: u64,
+}
+
+impl fmt::Display for FailureGroup {
+    ghost output = { λ failure_group. Some (group_text failure_group) };
+
+    fn fmt<W: fmt::Write>(&self, f: &mut fmt::Formatter<W>) -> fmt::Result {
+        let name = name_of(self.why);
+        let line = self.line;
+        let times = self.times;
+        if times > 1 {
+            write!(f, "FAIL {name}: same as line {line} ({times} times)")
+        } else {
+            write!(f, "FAIL {name}: same as line {line}")
+        }
+    }
+}
+
+/// The number of further failures like that of `line`, up to the line `last`.
+#[derive(Clone, Copy)]
+pub struct Rest {
+    pub why: Why,
+    pub count: u64,
+    pub line: u64,
+    pub last: u64,
+}
+
+impl fmt::Display for Rest {
+    ghost output = { λ rest. Some (rest_text rest) };
+
+    fn fmt<W: fmt::Write>(&self, f: &mut fmt::Formatter<W>) -> fmt::Result {
+        let name = name_of(self.why);
+        let count = self.count;
+        let line = self.line;
+        let last = self.last;
+        write!(
+            f,
+            "{name}: {count} more like line {line}, the last at line {last}"
+        )
+    }
+}
+
+/// Skipped lines: the first and the last.
+#[derive(Clone, Copy)]
+pub struct Gap {
+    pub from: u64,
+    pub to: u64,
+}
+
+/// Why nothing of a log was checked.
+#[derive(Clone, Copy)]
+pub enum Unjudged {
+    /// The log has no lines.
+    Empty,
+    /// Its first line is unreadable.
+    Unreadable,
+    /// The log has no entries.
+    NoEntry,
+}
+
+impl Unjudged {
+    /// Returns why a log of `lines` lines without settings was not checked.
+    pub fn without_settings(lines: u64) -> Unjudged {
+        if lines == 0 {
+            Unjudged::Empty
+        } else {
+            Unjudged::Unreadable
+        }
+    }
+
+    /// Returns the reason as text.
+    pub fn words(self) -> &'static str {
+        match self {
+            Unjudged::Empty => "not audited: the log is empty",
+            Unjudged::Unreadable => "not audited: line 1 is unreadable",
+            Unjudged::NoEntry => "not audited: the log has no entries",
+        }
+    }
+}
+
+impl fmt::Display for Unjudged {
+    fn fmt<W: fmt::Write>(&self, f: &mut fmt::Formatter<W>) -> fmt::Result {
+        let words = self.words();
+        write!(f, "{words}")
+    }
+}
+
+/// System bytes, as a log has them.
+#[derive(Clone, Copy)]
+pub struct System(pub u32);
+
+impl fmt::Display for System {
+    fn fmt<W: fmt::Write>(&self, f: &mut fmt::Formatter<W>) -> fmt::Result {
+        let system = self.0;
+        write!(f, "{system:08x}")
+    }
+}
+
+/// Returns the name of the broken rule, or `unreadable`.
+pub fn name_of(why: Why) -> &'static str
+    ensures { result.now ≡ why_name why }
+{
+    match why {
+        Why::Unreadable => "unreadable",
+        Why::Broken(rule) => rule.name(),
+    }
+}
+
+/// How the log continues after a failure. `utc` selects a date instead of a time in ms.
+#[derive(Clone, Copy)]
+pub struct Continuation {
+    pub repair_action: RepairAction,
+    pub utc: bool,
+}
+
+/// An entry that is inserted before a line, as the log would have it.
+#[derive(Clone, Copy)]
+pub enum Put {
+    T3(u64, u32),
+    Cut(u64, Cause),
+    Down(u64),
+}
+
+impl Put {
+    /// Returns the entry that the repair inserts before the line, if it inserts one.
+    pub fn of(repair_action: RepairAction) -> Option<Put> {
+        match repair_action {
+            RepairAction::ExpireFirst(time, system) => Some(Put::T3(time, system)),
+            RepairAction::CutFirst(time, cause) => Some(Put::Cut(time, cause)),
+            RepairAction::DownFirst(time) => Some(Put::Down(time)),
+            RepairAction::Raise(_) | RepairAction::Discard | RepairAction::LeaveOut => None,
+        }
+    }
+}
+
+impl fmt::Display for Put {
+    fn fmt<W: fmt::Write>(&self, f: &mut fmt::Formatter<W>) -> fmt::Result {
+        match *self {
+            Put::T3(time, system) => write!(f, "{time} t3 {system:08x}"),
+            Put::Cut(time, cause) => {
+                let cause = cause_word(cause);
+                write!(f, "{time} cut {cause}")
+            }
+            Put::Down(time) => write!(f, "{time} down"),
+        }
+    }
+}
+
+impl fmt::Display for Continuation {
+    fn fmt<W: fmt::Write>(&self, f: &mut fmt::Formatter<W>) -> fmt::Result {
+        if let Some(put) = Put::of(self.repair_action) {
+            return write!(f, "continues as if `{put}` were logged before it");
+        }
+        match self.repair_action {
+            RepairAction::Raise(time) => {
+                let moment = Moment {
+                    time,
+                    utc: self.utc,
+                };
+                write!(f, "continues as if its time were {moment}")
+            }
+            RepairAction::Discard => write!(f, "continues as if it were discarded"),
+            _ => write!(f, "continues without it"),
+        }
+    }
+}

@@ -1,0 +1,4 @@
+pub mod Ended
+pub mod EntryFailures
+pub mod RepairRows
+pub mod RepairedSessions

@@ -1,0 +1,4 @@
+pub mod EntryFailure
+pub mod RepairSteps
+pub mod RepairedLines
+pub mod RepairedSession

@@ -1,0 +1,35 @@
+//! Context of a log line: what the earlier lines showed.
+
+ghost use Rattle.std.specs.Prelude.{◌≡◌, []};
+ghost use Rattle.explain_session.specs.RepairedSession.{HasProgress};
+
+use crate::history::Past;
+use crate::repaired_session::RepairedSession;
+use explain_statistics::Primaries;
+use hsms_machine::Settings;
+use std::alloc::Global;
+
+/// The settings of a log, its repaired session, the history of its connection, and the statistics of its primaries.
+#[derive(Drop)]
+pub struct Known {
+    pub settings: Settings,
+    pub repaired_session: RepairedSession,
+    pub(crate) past: Past,
+    pub primaries: Primaries,
+}
+
+impl Known {
+    /// Creates the context after the first line of a log.
+    pub fn new(alloc: Global, settings: Settings) -> Known
+        ensures settings { result.settings ≡ settings }
+        ensures repaired_session { HasProgress settings [] [] result.repaired_session }
+        ensures line { result.repaired_session.line ≡ 1 }
+    {
+        Known {
+            settings,
+            repaired_session: RepairedSession::new(alloc, settings),
+            past: Past::new(alloc),
+            primaries: Primaries::new(alloc),
+        }
+    }
+}

@@ -1,0 +1,4 @@
+pub mod CountedFailures
+pub mod Grouping
+pub mod Halvings
+pub mod Outcomes
