@@ -77,16 +77,16 @@ IsFaultBy Memory text fault = fault ≡ tool.Memory
 abbrev pub IsFaultOf : CommandError → ToolFault → Type 0
 IsFaultOf error fault = IsFaultBy (command_cause error) (command_error_text error) fault
 
--- Holds for the result of a part with its value and its error converted.
-abbrev pub Reports : {T U E : Type 0} → (T → U) → (E → CommandError) → Result T E → Result U ToolFault → Type 0
-Reports value wrap (Ok x) result = result ≡ Ok (value x)
-Reports value wrap (Err error) result = (fault : ToolFault) × (result ≡ Err fault) × IsFaultOf (wrap error) fault
+-- Holds for the result of a part with its value converted, and its error by kind and text.
+abbrev pub Reports : {T U E : Type 0} → (T → U) → (E → Cause) → (E → List ℕ) → Result T E → Result U ToolFault → Type 0
+Reports value cause text (Ok x) result = result ≡ Ok (value x)
+Reports value cause text (Err error) result = (fault : ToolFault) × (result ≡ Err fault) × IsFaultBy (cause error) (text error) fault
 
 abbrev pub ReportsShow : Result (Unit {0}) ShowError → Result (Unit {0}) ToolFault → Type 0
-ReportsShow done result = Reports (λ x. x) Show done result
+ReportsShow done result = Reports (λ x. x) show_cause show_error_text done result
 
 abbrev pub ReportsEncode : Result (Unit {0}) EncodeError → Result (Unit {0}) ToolFault → Type 0
-ReportsEncode done result = Reports (λ x. x) Encode done result
+ReportsEncode done result = Reports (λ x. x) encode_cause encode_error_text done result
 
 abbrev pub ReportsAudit : Result Verdict AuditError → Result Bool ToolFault → Type 0
-ReportsAudit done result = Reports is_pass Audit done result
+ReportsAudit done result = Reports is_pass audit_cause audit_error_text done result

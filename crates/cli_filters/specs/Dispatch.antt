@@ -1,6 +1,6 @@
 -- What the command does between its input and its output.
 use Rattle.std.specs.Prelude.{◌≡◌, ℕ, Bool, true, false, List, string_bytes, Option, Result, Ok, Err, OnOk, OnErr}
-use Rattle.hsms_frame.specs.CallCounts.{count_failure, next_count}
+use Rattle.hsms_frame.specs.CallCounts.{count_failure}
 use Rattle.hsms_frame.specs.declared.io.Failed.{Failed}
 use Rattle.hsms_frame.specs.Io.{SourceState, SinkState, IfRecorded, Grows, GrowsByFront}
 use Rattle.hsms_log.specs.declared.verdict.Verdict.{Verdict}
@@ -9,7 +9,6 @@ use Rattle.cli_options.specs.declared.fault.ToolFault.{ToolFault}
 use Rattle.cli_options.specs.declared.request.Encoding.{Encoding}
 use Rattle.cli_options.specs.declared.request.Form.{Form}
 use Rattle.cli_options.specs.declared.request.Form.TheVariants as form
-use Rattle.cli_options.specs.declared.request.Showing.{Showing}
 use Rattle.cli_options.specs.declared.request.Task.{Task}
 use Rattle.cli_options.specs.declared.request.Task.TheVariants as asked
 use Rattle.cli_output.specs.Verdict.{is_pass}
