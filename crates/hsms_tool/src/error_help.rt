@@ -273,7 +273,8 @@ fn device_advice(word: &str) -> &'static str {
         "Endless" => ENDLESS,
         "Read" => READ,
         "Write" => WRITE,
-        "Log" => "cannot write the log: is standard output open, the disk full, or the pipe closed?",
+        "Log" =>
+            "cannot write the log: is standard output open, the disk full, or the pipe closed?",
         "Link" => {
             "the connection failed: the peer reset it, or accepted no data for T8. The log shows how far it got"
         }
@@ -289,6 +290,12 @@ fn refused_advice(words: &str) -> &'static str {
     let (word, _) = words.split_once(' ').unwrap_or((words, ""));
     match word {
         "command" => "run hsms --help, or hsms COMMAND --help",
+        word => capture_advice(word),
+    }
+}
+
+fn capture_advice(word: &str) -> &'static str {
+    match word {
         "Lost" => {
             "this packet shows that the capture lost data: capture at the end itself, whole packets (-s 0), without drops"
         }
