@@ -1,14 +1,10 @@
 -- An input that is read chunk by chunk.
-use Rattle.std.proofs.Common.{◌≡◌, ◌≤◌, ◌<◌, ◌+◌, ◌++◌, ℕ, List, [], length, take, drop, Some, Ok, Err, refl, sym, ◌∙◌, ap, codes, arith}
+use Rattle.std.proofs.Common.{◌≡◌, ◌≤◌, ◌<◌, ◌+◌, ◌++◌, ℕ, List, [], length, take, drop, Some, Ok, refl, sym, ◌∙◌, ap, arith}
 use Rattle.std.specs.Prelude.{Option}
 use Rattle.std.proofs.lemmas.List.{append-nil, append_assoc, length-append, take-append-drop, take_at}
 use Rattle.std.proofs.lemmas.Bool.Decides.{nat_tests}
 use Rattle.hsms_frame.specs.Io.{IfRecorded, Takes, IsAtEnd, ends_after}
-use Rattle.cli_options.specs.declared.fault.ToolFault.{ToolFault}
-use Rattle.cli_options.specs.declared.fault.ToolFault.TheVariants.{Refused, Device, Memory}
-use Rattle.cli_filters.specs.Encode.{IsReadPast, IsPartOfInput}
-use Rattle.cli_output.specs.IoErrors.{CountsFailure, HasWord}
-use Rattle.cli_options.specs.Status.{IsRefusedAs}
+use Rattle.cli_filters.specs.Encode.{IsReadPast}
 
 -- Holds if these bytes were read, and the others are left.
 abbrev pub ReadSoFar : Option (List ℕ) → Option (List ℕ) → List ℕ → Type 0
@@ -47,13 +43,6 @@ reads_past initial left octets limit so_far past input known_input =
     let size : length input ≡ length octets + length a.0 = ap length a.1 ∙ length-append octets a.0 in
     ((λ fits. absurd (omega (arith, past, fits))), (λ longer. omega (arith, size, past)))
 
--- What was read past the limit is rejected.
-pub refused : (limit : ℕ) (input octets : List ℕ) (fault : ToolFault) (left : Option (List ℕ)) → IsReadPast limit octets input
-    → limit < length octets → IsRefusedAs (codes "Input") fault → IsPartOfInput limit input fault left
-refused limit input octets (Refused words) left read past reported_as = (read.1 past, reported_as)
-refused limit input octets (Device word) left read past reported_as = absurd reported_as
-refused limit input octets Memory left read past reported_as = tt
-
 -- A vector whose complete slice was written.
 pub rewritten : (len : ℕ) (part old : List ℕ) → length part ≡ len → take len (part ++ drop (length part) old) ≡ part
 rewritten len part old size = take_at part (drop (length part) old) len size
@@ -61,15 +50,3 @@ rewritten len part old size = take_at part (drop (length part) old) len size
 -- A read that returned something did not find the end.
 pub not_at_end : (room n ends new : ℕ) → (n ≡ 0 → ⊥) → new ≡ ends_after room (Ok n) ends → new ≡ ends
 not_at_end room n ends new some step = grind (arith, nat_tests, step, some)
-
--- An invalid input is not a failure of a reader or writer.
-pub counted : (T : Type 0) (words word : List ℕ) (fault : ToolFault) (old new : ℕ) → IsRefusedAs words fault → new ≡ old
-    → CountsFailure {T = T} word (Err fault) old new
-counted T words word (Refused given) old new reported_as same = same
-counted T words word (Device given) old new reported_as same = absurd reported_as
-counted T words word Memory old new reported_as same = same
-
-pub worded : (words word : List ℕ) (fault : ToolFault) → IsRefusedAs words fault → HasWord word fault
-worded words word (Refused given) reported_as = tt
-worded words word (Device given) reported_as = absurd reported_as
-worded words word Memory reported_as = tt

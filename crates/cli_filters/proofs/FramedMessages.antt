@@ -1,5 +1,5 @@
 -- Frames of messages that come one after another.
-use Rattle.std.proofs.Common.{◌≡◌, ◌<◌, ◌≤◌, ◌+◌, ◌++◌, ℕ, true, false, List, [], ◌∷◌, length, length-append, inl, inr, refl, sym, ◌∙◌, ap, subst, append_assoc, arith}
+use Rattle.std.proofs.Common.{◌≡◌, ◌<◌, ◌≤◌, ◌+◌, ◌++◌, ℕ, true, false, List, [], ◌∷◌, length, length-append, refl, sym, ◌∙◌, ap, subst, append_assoc, arith}
 use Rattle.std.specs.Prelude.{Option, Some, None, is_some}
 use Rattle.secs_item.specs.Item.{Value}
 use Rattle.secs_text.specs.Content.{Content}
@@ -44,7 +44,7 @@ module _ (device max system next : ℕ) (output : List ℕ) (given : List Conten
     parts = refl;
     output = output;
     encoded = h.0;
-    refused = inl (v, refl, e, refl);
+    refused = (v, refl, e);
   }
 
   -- A text that is too long.
@@ -60,7 +60,7 @@ module _ (device max system next : ℕ) (output : List ℕ) (given : List Conten
         parts = refl;
         output = output;
         encoded = h.0;
-        refused = inr (text, text_is item text e, omega arith, refl);
+        refused = (text, text_is item text e, omega arith, refl);
       })
 
   -- One more frame.

@@ -1,6 +1,6 @@
 pub mod Audits
-pub mod Dispatches
 pub mod Encodings
 pub mod FramedMessages
 pub mod Lines
 pub mod CompleteLines
+pub mod Prints

@@ -1,21 +1,18 @@
 -- Frames that are written as lines, one after another.
-use Rattle.std.proofs.Common.{◌≡◌, ◌≤◌, ◌<◌, ◌+◌, ◌-◌, ◌++◌, ℕ, true, List, [], ◌∷◌, length, take, drop, Ok, Err, inl, inr, codes, refl, sym, ◌∙◌, ap, subst, arith}
+use Rattle.std.proofs.Common.{◌≡◌, ◌≤◌, ◌<◌, ◌+◌, ◌-◌, ◌++◌, ℕ, true, List, [], ◌∷◌, length, take, drop, Ok, Err, refl, sym, ◌∙◌, ap, subst, arith}
 use Rattle.std.proofs.lemmas.List.{append-nil, append_assoc, length-append, length-take-le, take_at, drop_at}
 use Rattle.std.proofs.lemmas.Nat.{from_be_bytes-to_be_bytes_4}
 use Rattle.std.specs.Int.{w32, to_be_bytes}
-use Rattle.std.specs.Prelude.{Option, Result, IfErr, OnOk, OnErr}
-use Rattle.hsms_frame.specs.CallCounts.{count_failure}
+use Rattle.std.specs.Prelude.{Option, Result, OnOk, OnErr}
+use Rattle.hsms_frame.specs.declared.io.Failed.{Failed}
 use Rattle.hsms_frame.specs.Io.{Grows, GrowsByFront}
 use Rattle.hsms_frame.specs.Frame.{Frame, frame_octets, length_field}
 use Rattle.hsms_frame.specs.Header.{header_octets}
-use Rattle.cli_output.specs.IoErrors.{CountsFailure, HasWord, IsReadOrWrite, IsWrite}
 use Rattle.cli_output.specs.LineBuffer.{GrowsHolding}
 use Rattle.cli_output.specs.Line.{hex_line}
 use Rattle.hsms_log.proofs.Parts.{front_of_first, halves}
-use Rattle.cli_options.specs.declared.fault.ToolFault.{ToolFault}
-use Rattle.cli_options.specs.declared.fault.ToolFault.TheVariants.{Refused, Device, Memory}
 use Rattle.cli_show.proofs.Runs.{holding_front, holding_out, holding_then}
-use Rattle.cli_filters.specs.Encode.{AreFrames, WritesOut, outputs_of}
+use Rattle.cli_filters.specs.Encode.{AreFrames, outputs_of}
 
 -- ---- the start of frames
 
@@ -117,7 +114,7 @@ stored_all octets rest old held mid then so_far short fs are =
     subst P (sym (s.3 ∙ ap (λ o. s.0 ++ o) (none_at_front s.1 rest s.2 short) ∙ append-nil s.0)) s.4
 
 -- What is buffered at the end is written.
-pub appends_all : (r : Result (Unit {0}) ToolFault) (octets rest : List ℕ) (old : Option (List ℕ)) (held : List ℕ) (mid : Option (List ℕ)) (then : List ℕ) (new : Option (List ℕ))
+pub appends_all : (r : Result (Unit {0}) Failed) (octets rest : List ℕ) (old : Option (List ℕ)) (held : List ℕ) (mid : Option (List ℕ)) (then : List ℕ) (new : Option (List ℕ))
     → LinesSoFar octets rest old held mid then → length rest < 14 → OnOk r (Grows mid new then) → (fs : List Frame) → AreFrames fs octets
     → OnOk r (Grows old new (held ++ outputs_of true fs))
 appends_all (Ok _) octets rest old held mid then new so_far short grows = λ fs are.
@@ -125,7 +122,7 @@ appends_all (Ok _) octets rest old held mid then new so_far short grows = λ fs 
 appends_all (Err _) octets rest old held mid then new so_far short grows = λ fs are. tt
 
 -- A write failed at the end.
-pub appends_not_all : (r : Result (Unit {0}) ToolFault) (octets rest : List ℕ) (old : Option (List ℕ)) (held : List ℕ) (mid : Option (List ℕ)) (then : List ℕ) (new : Option (List ℕ))
+pub appends_not_all : (r : Result (Unit {0}) Failed) (octets rest : List ℕ) (old : Option (List ℕ)) (held : List ℕ) (mid : Option (List ℕ)) (then : List ℕ) (new : Option (List ℕ))
     → LinesSoFar octets rest old held mid then → length rest < 14 → OnErr r (GrowsByFront mid new then) → (fs : List Frame) → AreFrames fs octets
     → OnErr r (GrowsByFront old new (held ++ outputs_of true fs))
 appends_not_all (Ok _) octets rest old held mid then new so_far short grows = λ fs are. tt
@@ -136,30 +133,10 @@ appends_not_all (Err _) octets rest old held mid then new so_far short grows = �
     subst Q (append-nil (held ++ all))
     (holding_front old held mid then new all [] (stored_all octets rest old held mid then so_far short fs are) (subst P (sym (append-nil then)) grows))
 
--- ---- the results
+-- ---- what is written under another name
 
--- The bytes or the lines were written.
-pub writes_out : (r : Result (Unit {0}) ToolFault) (octets output : List ℕ) (old new : Option (List ℕ)) → octets ≡ output → OnOk r (Grows old new octets)
-    → OnErr r (GrowsByFront old new octets) → IfErr r IsWrite → WritesOut output r old new
-writes_out (Ok _) octets output old new is ok err word = let P : List ℕ → Type 0 = λ o. Grows old new o in subst P is ok
-writes_out (Err (Refused words)) octets output old new is ok err word = absurd word
-writes_out (Err (Device given)) octets output old new is ok err word = let P : List ℕ → Type 0 = λ o. GrowsByFront old new o in (word, subst P is err)
-writes_out (Err Memory) octets output old new is ok err word = absurd word
+pub grows_as : (old new : Option (List ℕ)) (xs ys : List ℕ) → xs ≡ ys → Grows old new xs → Grows old new ys
+grows_as old new xs ys is grows = let P : List ℕ → Type 0 = λ o. Grows old new o in subst P is grows
 
-pub has_write : (r : Result (Unit {0}) ToolFault) → IfErr r IsWrite → IfErr r (HasWord (codes "Write"))
-has_write (Ok _) word = tt
-has_write (Err (Refused words)) word = absurd word
-has_write (Err (Device given)) word = word
-has_write (Err Memory) word = absurd word
-
-pub counts_write : (r : Result (Unit {0}) ToolFault) (old new : ℕ) → IfErr r IsWrite → new ≡ count_failure r old → CountsFailure (codes "Write") r old new
-counts_write (Ok _) old new word counts = counts
-counts_write (Err (Refused words)) old new word counts = absurd word
-counts_write (Err (Device given)) old new word counts = inl (word, counts)
-counts_write (Err Memory) old new word counts = absurd word
-
-pub of_output : (r : Result (Unit {0}) ToolFault) → IfErr r (HasWord (codes "Write")) → IfErr r IsReadOrWrite
-of_output (Ok _) word = tt
-of_output (Err (Refused words)) word = tt
-of_output (Err (Device given)) word = inr word
-of_output (Err Memory) word = tt
+pub front_as : (old new : Option (List ℕ)) (xs ys : List ℕ) → xs ≡ ys → GrowsByFront old new xs → GrowsByFront old new ys
+front_as old new xs ys is grows = let P : List ℕ → Type 0 = λ o. GrowsByFront old new o in subst P is grows

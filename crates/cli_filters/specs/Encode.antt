@@ -1,9 +1,8 @@
 -- What `hsms encode` writes for an input.
-use Rattle.std.specs.Prelude.{◌≡◌, ◌<◌, ◌≤◌, ◌+◌, ◌%◌, ◌^◌, ◌⊎◌, ◌++◌, ℕ, zero, suc, Bool, false, List, [], ◌∷◌, length, codes, decimal, string_bytes, if◌then◌else◌, Option, Some, None, Result, Ok, Err}
+use Rattle.std.specs.Prelude.{◌≡◌, ◌<◌, ◌≤◌, ◌+◌, ◌%◌, ◌^◌, ◌⊎◌, ◌++◌, ℕ, zero, suc, Bool, false, List, [], ◌∷◌, length, if◌then◌else◌, Option, Some, None, Result, Ok, Err}
 use Rattle.hex.specs.Hex.{encode_lower}
 use Rattle.secs_item.specs.Item.{Value}
 use Rattle.secs_item.specs.ShortestEncoding.{short}
-use Rattle.secs_text.specs.declared.fault.TextFault.{TextFault}
 use Rattle.secs_text.specs.declared.fault.TextFault.TheVariants as text
 use Rattle.secs_text.specs.Content.{Content, AllWithin}
 use Rattle.secs_text.specs.Notation.{Notations}
@@ -11,10 +10,10 @@ use Rattle.secs_text.specs.Fault.{NotesFault}
 use Rattle.hsms_frame.specs.Build.{data_header_of}
 use Rattle.hsms_frame.specs.Io.{Stays, Grows, GrowsByFront}
 use Rattle.hsms_frame.specs.Frame.{Frame, frame_octets}
+use Rattle.cli_filters.specs.declared.encode_error.EncodeError.{EncodeError}
+use Rattle.cli_filters.specs.declared.encode_error.EncodeError.TheVariants as encode
 use Rattle.cli_filters.specs.declared.encode_error.Refusal.{Refusal}
 use Rattle.cli_filters.specs.declared.encode_error.Refusal.TheVariants.{TooLarge, TooLong}
-use Rattle.cli_options.specs.declared.fault.ToolFault.{ToolFault}
-use Rattle.cli_options.specs.declared.fault.ToolFault.TheVariants.{Refused, Device, Memory}
 
 -- The maximum length of the input, in bytes.
 abbrev pub input_limit : ℕ
@@ -38,11 +37,11 @@ pub record FrameOf (device max system : ℕ) (m : Content) (f : Frame) : Type 0 
 abbrev pub output_of : Bool → Frame → List ℕ
 output_of hex f = if hex then encode_lower (frame_octets f) ++ 10 ∷ [] else frame_octets f
 
--- The text for why a message has no frame within the limit: its item has no encoding, or the shortest is too long.
-abbrev pub HasNoFrame : ℕ → Content → List ℕ → Type 0
-HasNoFrame max m words =
-    ((v : Value) × (m.item ≡ Some v) × (short v ≡ None) × (words ≡ codes "TooLarge"))
-    ⊎ ((text : List ℕ) × TextOf m.item text × (max < 10 + length text) × (words ≡ codes "TooLong length=" ++ decimal (10 + length text)))
+-- Why a message has no frame within the limit: its item has no encoding, or the shortest is too long.
+abbrev pub HasNoFrame : ℕ → Content → Refusal → Type 0
+HasNoFrame max m TooLarge = (v : Value) × (m.item ≡ Some v) × (short v ≡ None)
+HasNoFrame max m (TooLong n) =
+    (text : List ℕ) × TextOf m.item text × (max < 10 + length text) × (n ≡ 10 + length text)
 
 -- ---- messages
 
@@ -62,14 +61,14 @@ Encodes device max hex system (m ∷ ms) output =
     × (output ≡ output_of hex f ++ rest)
 
 -- The first message that has no frame within the limit. Those before it have one.
-pub record FirstWithoutFrame (device max : ℕ) (hex : Bool) (system : ℕ) (ms : List Content) (words : List ℕ) : Type 0 where
+pub record FirstWithoutFrame (device max : ℕ) (hex : Bool) (system : ℕ) (ms : List Content) (why : Refusal) : Type 0 where
   pub before : List Content
   pub message : Content
   pub after : List Content
   pub parts : ms ≡ before ++ message ∷ after
   pub output : List ℕ
   pub encoded : Encodes device max hex system before output
-  pub refused : HasNoFrame max message words
+  pub refused : HasNoFrame max message why
 
 -- ---- consecutive frames
 
@@ -85,69 +84,50 @@ outputs_of hex [] = []
 outputs_of hex (f ∷ fs) = output_of hex f ++ outputs_of hex fs
 
 -- Holds if a text is written, or a part of it if the write fails, or nothing if an allocation fails.
-abbrev pub WritesOut : {T : Type 0} → List ℕ → Result T ToolFault → Option (List ℕ) → Option (List ℕ) → Type 0
+abbrev pub WritesOut : List ℕ → Result (Unit {0}) EncodeError → Option (List ℕ) → Option (List ℕ) → Type 0
 WritesOut output (Ok _) old new = Grows old new output
-WritesOut output (Err (Refused words)) old new = ⊥
-WritesOut output (Err (Device word)) old new = (word.now ≡ codes "Write") × GrowsByFront old new output
-WritesOut output (Err Memory) old new = Stays old new
+WritesOut output (Err encode.Write) old new = GrowsByFront old new output
+WritesOut output (Err error) old new = (error ≡ encode.Text text.Memory) × Stays old new
 
 -- ---- frames that are buffered
-
--- The text for why a message has no frame.
-abbrev pub refusal_words : Refusal → List ℕ
-refusal_words TooLarge = codes "TooLarge"
-refusal_words (TooLong length) = codes "TooLong length=" ++ decimal length
 
 -- The bytes that were made of messages, and the next system bytes; or why the first message without a frame has none.
 abbrev pub Frames : ℕ → ℕ → ℕ → ℕ → Option Refusal → List ℕ → List Content → Type 0
 Frames device max system next None octets ms = Encodes device max false system ms octets × (next ≡ system_after system (length ms))
-Frames device max system next (Some refusal) octets ms = FirstWithoutFrame device max false system ms (refusal_words refusal)
-
--- Holds if this is the error for a message without a frame, unless an allocation failed.
-abbrev pub HasRefused : Option Refusal → ToolFault → Type 0
-HasRefused (Some refusal) (Refused words) = string_bytes words ≡ refusal_words refusal
-HasRefused None (Refused words) = ⊥
-HasRefused refusal (Device word) = ⊥
-HasRefused refusal Memory = Unit {0}
+Frames device max system next (Some refusal) octets ms = FirstWithoutFrame device max false system ms refusal
 
 -- ---- the results
-
--- The text for an error of notation.
-abbrev pub text_fault_text : TextFault → List ℕ
-text_fault_text (text.Syntax at) = codes "Syntax at=" ++ decimal at
-text_fault_text (text.Number at) = codes "Number at=" ++ decimal at
-text_fault_text (text.Count at) = codes "Count at=" ++ decimal at
-text_fault_text (text.Deep at) = codes "Deep at=" ++ decimal at
-text_fault_text text.Memory = codes "Memory"
 
 -- Holds if the input is within the maximum length, and is the notation of these messages within the depth.
 abbrev pub ParsesMessages : ℕ → List ℕ → List Content → Type 0
 ParsesMessages depth input ms = (length input ≤ input_limit) × Notations ms input × AllWithin depth ms
 
--- The text for an invalid input: it is too long; it is not messages; or a message has no frame within the limit.
-abbrev pub IsRefusedInput : ℕ → ℕ → ℕ → Bool → ℕ → List ℕ → List ℕ → Type 0
-IsRefusedInput device max depth hex system input words =
-    ((input_limit < length input) × (words ≡ codes "Input"))
-    ⊎ ((fault : TextFault) × (length input ≤ input_limit) × NotesFault input depth fault × (words ≡ text_fault_text fault))
-    ⊎ ((ms : List Content) × ParsesMessages depth input ms × FirstWithoutFrame device max hex system ms words)
+-- Why an input is not encoded, apart from failed reads and writes: it is too long; it is not messages, or an allocation
+-- failed; or a message has no frame within the limit.
+abbrev pub IsRefusedInput : ℕ → ℕ → ℕ → Bool → ℕ → List ℕ → EncodeError → Type 0
+IsRefusedInput device max depth hex system input encode.Input = input_limit < length input
+IsRefusedInput device max depth hex system input (encode.Text fault) =
+    (fault ≡ text.Memory) ⊎ ((length input ≤ input_limit) × NotesFault input depth fault)
+IsRefusedInput device max depth hex system input (encode.Frame why) =
+    (ms : List Content) × ParsesMessages depth input ms × FirstWithoutFrame device max hex system ms why
+IsRefusedInput device max depth hex system input error = ⊥
 
 -- Holds if at most `limit` bytes of an input were consumed, and the others are left.
 abbrev pub TakesAtMost : ℕ → List ℕ → Option (List ℕ) → Type 0
 TakesAtMost limit input left = (taken rest : List ℕ) × (length taken ≤ limit) × (input ≡ taken ++ rest) × (left ≡ Some rest)
 
 -- The results for an input, each with what is left of it, and with what was written before and is now.
-abbrev pub EncodesAll : {T : Type 0} → ℕ → ℕ → ℕ → Bool → ℕ → List ℕ → Result T ToolFault → Option (List ℕ) → Option (List ℕ)
+abbrev pub EncodesAll : ℕ → ℕ → ℕ → Bool → ℕ → List ℕ → Result (Unit {0}) EncodeError → Option (List ℕ) → Option (List ℕ)
     → Option (List ℕ) → Type 0
 EncodesAll device max depth hex system input (Ok _) left old new =
     (ms : List Content) × (output : List ℕ) × ParsesMessages depth input ms × Encodes device max hex system ms output
     × Grows old new output
-EncodesAll device max depth hex system input (Err (Refused words)) left old new =
-    IsRefusedInput device max depth hex system input (string_bytes words) × Stays old new
-EncodesAll device max depth hex system input (Err (Device word)) left old new =
-    ((word.now ≡ codes "Read") × TakesAtMost input_limit input left × Stays old new)
-    ⊎ ((word.now ≡ codes "Write") × (ms : List Content) × (output : List ℕ) × ParsesMessages depth input ms
-    × Encodes device max hex system ms output × GrowsByFront old new output)
-EncodesAll device max depth hex system input (Err Memory) left old new = Stays old new
+EncodesAll device max depth hex system input (Err encode.Read) left old new = TakesAtMost input_limit input left × Stays old new
+EncodesAll device max depth hex system input (Err encode.Write) left old new =
+    (ms : List Content) × (output : List ℕ) × ParsesMessages depth input ms × Encodes device max hex system ms output
+    × GrowsByFront old new output
+EncodesAll device max depth hex system input (Err error) left old new =
+    IsRefusedInput device max depth hex system input error × Stays old new
 
 -- ---- the steps
 
@@ -161,28 +141,14 @@ IsReadPast limit octets input = (length octets ≤ limit → octets ≡ input) �
 
 -- Why an input was not read completely: it is longer than the limit; a read failed, and the limit was not passed
 -- before; or an allocation failed.
-abbrev pub IsPartOfInput : ℕ → List ℕ → ToolFault → Option (List ℕ) → Type 0
-IsPartOfInput limit input (Refused words) left = (limit < length input) × (string_bytes words ≡ codes "Input")
-IsPartOfInput limit input (Device word) left = (word.now ≡ codes "Read") × TakesAtMost limit input left
-IsPartOfInput limit input Memory left = Unit {0}
+abbrev pub IsPartOfInput : ℕ → List ℕ → EncodeError → Option (List ℕ) → Type 0
+IsPartOfInput limit input encode.Input left = limit < length input
+IsPartOfInput limit input encode.Read left = TakesAtMost limit input left
+IsPartOfInput limit input error left = error ≡ encode.Text text.Memory
 
--- Why a text was not read as messages.
-abbrev pub IsNotRead : ℕ → List ℕ → ToolFault → Type 0
-IsNotRead depth input (Refused words) = (fault : TextFault) × NotesFault input depth fault × (string_bytes words ≡ text_fault_text fault)
-IsNotRead depth input (Device word) = ⊥
-IsNotRead depth input Memory = Unit {0}
-
--- Holds if this is the error of a text, with its text.
-abbrev pub IsReportedText : TextFault → ToolFault → Type 0
-IsReportedText text.Memory (Refused words) = ⊥
-IsReportedText fault (Refused words) = string_bytes words ≡ text_fault_text fault
-IsReportedText fault (Device word) = ⊥
-IsReportedText fault Memory = Unit {0}
-
--- Why a text was not encoded: it is not messages, or one of them has no frame.
-abbrev pub IsNotEncoded : ℕ → ℕ → ℕ → ℕ → List ℕ → ToolFault → Type 0
-IsNotEncoded device max depth system input (Refused words) =
-    ((fault : TextFault) × NotesFault input depth fault × (string_bytes words ≡ text_fault_text fault))
-    ⊎ ((ms : List Content) × Notations ms input × AllWithin depth ms × FirstWithoutFrame device max false system ms (string_bytes words))
-IsNotEncoded device max depth system input (Device word) = ⊥
-IsNotEncoded device max depth system input Memory = Unit {0}
+-- Why a text was not encoded: it is not messages, or one of them has no frame; or an allocation failed.
+abbrev pub IsNotEncoded : ℕ → ℕ → ℕ → ℕ → List ℕ → EncodeError → Type 0
+IsNotEncoded device max depth system input (encode.Text fault) = (fault ≡ text.Memory) ⊎ NotesFault input depth fault
+IsNotEncoded device max depth system input (encode.Frame why) =
+    (ms : List Content) × Notations ms input × AllWithin depth ms × FirstWithoutFrame device max false system ms why
+IsNotEncoded device max depth system input error = ⊥

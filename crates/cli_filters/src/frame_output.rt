@@ -1,15 +1,15 @@
 //! The frames of messages, written as bytes or as lines of hexadecimal.
 
-ghost use Rattle.std.specs.Prelude.{◌≡◌, ◌≤◌, ◌-◌, ◌++◌, List, true, codes, IfErr, OnOk, OnErr};
+ghost use Rattle.std.specs.Prelude.{◌≡◌, ◌≤◌, ◌-◌, ◌++◌, ℕ, List, true, OnOk, OnErr};
 ghost use Rattle.hsms_frame.specs.CallCounts.{count_failure};
 ghost use Rattle.hsms_frame.specs.Io.{Grows, GrowsByFront};
 ghost use Rattle.hsms_frame.specs.Frame.{Frame, length_field};
-ghost use Rattle.cli_output.specs.IoErrors.{CountsFailure, HasWord, IsWrite};
 ghost use Rattle.cli_filters.specs.Encode.{AreFrames, WritesOut, outputs_of};
+ghost use Rattle.cli_filters.specs.EncodeErrors.{reads_after, writes_after};
 
-use cli_options::ToolFault;
-use cli_output::{append_hex_line, put, put_out};
-use hsms_frame::{HEADER_LENGTH, Sink};
+use crate::encode_error::EncodeError;
+use cli_output::{append_hex_line, put_out};
+use hsms_frame::{Failed, HEADER_LENGTH, Sink, give_all};
 use secs_text::Block;
 use std::alloc::Global;
 
@@ -19,28 +19,27 @@ pub fn put_frames<W: Sink>(
     sink: &mut W,
     octets: &[u8],
     hex: bool,
-) -> Result<(), ToolFault>
+) -> Result<(), EncodeError>
     requires { (fs : List Frame) × AreFrames fs octets.now }
     ensures output { (fs : List Frame) → AreFrames fs octets.now
         → WritesOut (outputs_of hex fs) result (W.state sink.old).written (W.state sink.new).written }
-    ensures word { IfErr result (HasWord (codes "Write")) }
-    ensures writes { CountsFailure (codes "Write") result (W.state sink.old).failures (W.state sink.new).failures }
+    ensures reads { (n : ℕ) → reads_after result n ≡ n }
+    ensures writes { (W.state sink.new).failures ≡ writes_after result (W.state sink.old).failures }
 {
     if hex {
         let mut held = Block::new(alloc)?;
-        return put_lines(sink, &mut held, octets);
+        return Ok(put_lines(sink, &mut held, octets)?);
     }
-    put(sink, octets)
+    Ok(give_all(sink, octets)?)
 }
 
 // Writes what is buffered, and then the line of each frame.
-fn put_lines<W: Sink>(sink: &mut W, held: &mut Block, octets: &[u8]) -> Result<(), ToolFault>
+fn put_lines<W: Sink>(sink: &mut W, held: &mut Block, octets: &[u8]) -> Result<(), Failed>
     requires { (fs : List Frame) × AreFrames fs octets.now }
     ensures ok { (fs : List Frame) → AreFrames fs octets.now
         → OnOk result (Grows (W.state sink.old).written (W.state sink.new).written (held.old ++ outputs_of true fs)) }
     ensures err { (fs : List Frame) → AreFrames fs octets.now
         → OnErr result (GrowsByFront (W.state sink.old).written (W.state sink.new).written (held.old ++ outputs_of true fs)) }
-    ensures word { IfErr result IsWrite }
     ensures writes { (W.state sink.new).failures ≡ count_failure result (W.state sink.old).failures }
 {
     let mut rest = octets;

@@ -1,11 +1,10 @@
 //! The bytes of consecutive frames of messages.
 
-ghost use Rattle.std.specs.Prelude.{◌≡◌, ◌<◌, ◌+◌, ◌^◌, ◌++◌, [], length, OnOk, IfOk, IfErr, None};
+ghost use Rattle.std.specs.Prelude.{◌≡◌, ◌<◌, ◌+◌, ◌^◌, ◌++◌, [], length, OnOk, IfOk, IfErr, None, Some};
 ghost use Rattle.hsms_frame.specs.Frame.{frame_octets};
-ghost use Rattle.cli_filters.specs.Encode.{HasRefused};
 
 use crate::encode_error::Refusal;
-use cli_options::{Encoding, ToolFault, refusal, refused};
+use cli_options::Encoding;
 use hsms_frame::{Header, data_header, front_octets};
 use secs_text::{Head, Receiver};
 use std::alloc::{AllocError, Global};
@@ -27,7 +26,6 @@ fn push_octets(output: &mut Vec<u8>, header: Header, text: &[u8]) -> Result<(), 
 /// The bytes of consecutive frames of messages, up to the first message that has none.
 #[derive(Drop)]
 pub struct Frames {
-    alloc: Global,
     output: Vec<u8>,
     refusal: Option<Refusal>,
     encoding: Encoding,
@@ -78,7 +76,6 @@ impl Frames {
             × BuffersPackets result.encoding.device result.encoding.max result.encoding.system result.next result.refusal result.output.items [] }
     {
         Frames {
-            alloc,
             output: Vec::new(alloc),
             refusal: None,
             encoding,
@@ -86,17 +83,14 @@ impl Frames {
         }
     }
 
-    /// Returns the frames' bytes, or the error.
-    pub fn finish(self) -> Result<Vec<u8>, ToolFault>
+    /// Returns the frames' bytes, or why a message has none.
+    pub fn finish(self) -> Result<Vec<u8>, Refusal>
         ensures ok { IfOk result (λ output. (self.refusal ≡ None) × (output.items ≡ self.output.items)) }
-        ensures err { IfErr result (HasRefused self.refusal) }
+        ensures err { IfErr result (λ refusal. self.refusal ≡ Some refusal) }
     {
         match self.refusal {
             None => Ok(self.output),
-            Some(Refusal::TooLarge) => Err(refused(self.alloc, "TooLarge")),
-            Some(Refusal::TooLong(length)) => {
-                Err(refusal(format!(in self.alloc; "TooLong length={length}")))
-            }
+            Some(refusal) => Err(refusal),
         }
     }
 }

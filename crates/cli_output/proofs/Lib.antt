@@ -1,4 +1,3 @@
-pub mod Devices
 pub mod DigitTable
 pub mod LinePremises
 pub mod LineBuffers

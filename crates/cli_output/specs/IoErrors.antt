@@ -22,30 +22,11 @@ HasWord word (Device given) = given.now ≡ word
 HasWord word (Refused _) = Unit {0}
 HasWord word Memory = Unit {0}
 
--- Holds for an error of the input: a read failed, or the input is larger than the command accepts.
-abbrev pub IsReading : ToolFault → Type 0
-IsReading (Device word) = (word.now ≡ codes "Read") ⊎ (word.now ≡ codes "Endless")
-IsReading (Refused _) = ⊥
-IsReading Memory = Unit {0}
-
--- Holds for an error of the input: it is invalid, a read failed, it is larger than the command accepts, or an
--- allocation failed.
-abbrev pub IsOfInput : ToolFault → Type 0
-IsOfInput (Device word) = (word.now ≡ codes "Read") ⊎ (word.now ≡ codes "Endless")
-IsOfInput (Refused _) = Unit {0}
-IsOfInput Memory = Unit {0}
-
 -- Holds if a write failed.
 abbrev pub IsWrite : ToolFault → Type 0
 IsWrite (Device word) = word.now ≡ codes "Write"
 IsWrite (Refused _) = ⊥
 IsWrite Memory = ⊥
-
--- Holds if an I/O error is a failed read or a failed write.
-abbrev pub IsReadOrWrite : ToolFault → Type 0
-IsReadOrWrite (Device word) = (word.now ≡ codes "Read") ⊎ (word.now ≡ codes "Write")
-IsReadOrWrite (Refused _) = Unit {0}
-IsReadOrWrite Memory = Unit {0}
 
 -- Holds if an I/O error is a failed read or a failed write, or the input is larger than the command accepts.
 abbrev pub IsReadWriteOrEndless : ToolFault → Type 0

@@ -10,7 +10,7 @@ ghost use Rattle.cli_output.specs.IoErrors.{IsWrite};
 use crate::line::give_line;
 use crate::line_parts::give_hex_line;
 use cli_options::ToolFault;
-use hsms_frame::{Header, Sink, give_all};
+use hsms_frame::{Failed, Header, Sink, give_all};
 use secs_text::{Block, Output};
 
 /// An output to a sink. After a failed write it writes nothing more.
@@ -41,11 +41,10 @@ pub fn append_line<W: Sink>(
     header: Header,
     text: &[u8],
     depth: u8,
-) -> Result<(), ToolFault>
+) -> Result<(), Failed>
     requires { depth ≤ 100 }
     ensures line { AppendsLine depth (record { header = header; text = text.now }) result
         (W.state sink.old).written held.old (W.state sink.new).written held.new }
-    ensures word { IfErr result IsWrite }
     ensures writes { (W.state sink.new).failures ≡ count_failure result (W.state sink.old).failures }
 {
     let mut out = ToSink {
@@ -63,18 +62,17 @@ fn give_to_sink<W: Sink>(
     header: Header,
     text: &[u8],
     depth: u8,
-) -> Result<(), ToolFault>
+) -> Result<(), Failed>
     requires depth { depth ≤ 100 }
     requires well { out.old.has_failed ≡ false }
     ensures same_reference { out.new.sink.ghost_name ≡ out.old.sink.ghost_name }
     ensures line { AppendsLine depth (record { header = header; text = text.now }) result
         (W.state out.old.sink.now).written held.old (W.state out.new.sink.now).written held.new }
-    ensures word { IfErr result IsWrite }
     ensures writes { (W.state out.new.sink.now).failures ≡ count_failure result (W.state out.old.sink.now).failures }
 {
     give_line(out, held, header, text, depth);
     if out.has_failed {
-        return Err(ToolFault::Device("Write"));
+        return Err(Failed);
     }
     Ok(())
 }
@@ -87,10 +85,9 @@ pub fn append_hex_line<W: Sink>(
     held: &mut Block,
     front: &[u8; 14],
     text: &[u8],
-) -> Result<(), ToolFault>
+) -> Result<(), Failed>
     ensures line { AppendsText (hex_line (front.now ++ text.now)) result
         (W.state sink.old).written held.old (W.state sink.new).written held.new }
-    ensures word { IfErr result IsWrite }
     ensures writes { (W.state sink.new).failures ≡ count_failure result (W.state sink.old).failures }
 {
     let mut out = ToSink {
@@ -107,34 +104,32 @@ fn give_hex_to_sink<W: Sink>(
     held: &mut Block,
     front: &[u8; 14],
     text: &[u8],
-) -> Result<(), ToolFault>
+) -> Result<(), Failed>
     requires { out.old.has_failed ≡ false }
     ensures same_reference { out.new.sink.ghost_name ≡ out.old.sink.ghost_name }
     ensures line { AppendsText (hex_line (front.now ++ text.now)) result
         (W.state out.old.sink.now).written held.old (W.state out.new.sink.now).written held.new }
-    ensures word { IfErr result IsWrite }
     ensures writes { (W.state out.new.sink.now).failures ≡ count_failure result (W.state out.old.sink.now).failures }
 {
     give_hex_line(out, held, front, text);
     if out.has_failed {
-        return Err(ToolFault::Device("Write"));
+        return Err(Failed);
     }
     Ok(())
 }
 
 /// Writes the buffered bytes.
-pub fn put_out<W: Sink>(sink: &mut W, held: &mut Block) -> Result<(), ToolFault>
+pub fn put_out<W: Sink>(sink: &mut W, held: &mut Block) -> Result<(), Failed>
     ensures ok { OnOk result (Grows (W.state sink.old).written (W.state sink.new).written held.old) }
     ensures none { OnOk result (held.new ≡ []) }
     ensures err { OnErr result (GrowsByFront (W.state sink.old).written (W.state sink.new).written held.old) }
     ensures some { OnErr result (0 < length held.old) }
-    ensures word { IfErr result IsWrite }
     ensures writes { (W.state sink.new).failures ≡ count_failure result (W.state sink.old).failures }
 {
     if held.as_slice().is_empty() {
         return Ok(());
     }
-    put(sink, held.as_slice())?;
+    give_all(sink, held.as_slice())?;
     held.clear();
     Ok(())
 }

@@ -1,14 +1,14 @@
 -- What `hsms serve` reads of an input with `--send` or `--answer`.
-use Rattle.std.specs.Prelude.{◌≡◌, ◌==◌, ◌<◌, ◌≤◌, ◌⊎◌, ◌++◌, ◌%◌, ◌&&◌, not, ℕ, Bool, List, [], ◌∷◌, Option, filter, map, length, codes, string_bytes, if◌then◌else◌}
-use Rattle.secs_text.specs.declared.fault.TextFault.{TextFault}
+use Rattle.std.specs.Prelude.{◌≡◌, ◌==◌, ◌<◌, ◌≤◌, ◌⊎◌, ◌++◌, ◌%◌, ◌&&◌, not, ℕ, Bool, List, [], ◌∷◌, Option, filter, map, length, if◌then◌else◌}
+use Rattle.secs_text.specs.declared.fault.TextFault.TheVariants as text
 use Rattle.secs_text.specs.declared.message.Message.{Message}
 use Rattle.secs_text.specs.Fault.{NotesFault}
 use Rattle.secs_text.specs.View.{content, contents}
 use Rattle.hsms_ends.specs.declared.step.Step.{Step}
 use Rattle.hsms_ends.specs.declared.step.Step.TheVariants.{Send, Separate}
-use Rattle.cli_options.specs.declared.fault.ToolFault.{ToolFault}
-use Rattle.cli_options.specs.declared.fault.ToolFault.TheVariants.{Refused, Device, Memory}
-use Rattle.cli_filters.specs.Encode.{ParsesMessages, TakesAtMost, input_limit, text_fault_text}
+use Rattle.cli_filters.specs.declared.encode_error.EncodeError.{EncodeError}
+use Rattle.cli_filters.specs.declared.encode_error.EncodeError.TheVariants.{Input, Text, Read}
+use Rattle.cli_filters.specs.Encode.{ParsesMessages, TakesAtMost, input_limit}
 use Rattle.cli_serve.specs.declared.script.Script.{Script}
 
 -- True if a message is a reply: the handler replies, and the function is even (SEMI E5, function).
@@ -30,14 +30,11 @@ IsScript depth send answer script input =
     (messages : List Message) × ParsesMessages depth input (contents messages)
     × (script.replies.items ≡ replies_of answer messages) × (script.steps.items ≡ steps_of send answer messages)
 
--- The text for why an input is not a script: it is too long, or it is not messages.
-abbrev pub IsRefusedScript : ℕ → List ℕ → List ℕ → Type 0
-IsRefusedScript depth input words =
-    ((input_limit < length input) × (words ≡ codes "Input"))
-    ⊎ ((fault : TextFault) × (length input ≤ input_limit) × NotesFault input depth fault × (words ≡ text_fault_text fault))
-
--- Why no script was read, with what is left of the input.
-abbrev pub IsNoScript : ℕ → List ℕ → ToolFault → Option (List ℕ) → Type 0
-IsNoScript depth input (Refused words) left = IsRefusedScript depth input (string_bytes words)
-IsNoScript depth input (Device word) left = (word.now ≡ codes "Read") × TakesAtMost input_limit input left
-IsNoScript depth input Memory left = Unit {0}
+-- Why no script was read, with what is left of the input: it is too long; it is not messages, or an allocation failed;
+-- or a read failed.
+abbrev pub IsNoScript : ℕ → List ℕ → EncodeError → Option (List ℕ) → Type 0
+IsNoScript depth input Input left = input_limit < length input
+IsNoScript depth input (Text fault) left =
+    (fault ≡ text.Memory) ⊎ ((length input ≤ input_limit) × NotesFault input depth fault)
+IsNoScript depth input Read left = TakesAtMost input_limit input left
+IsNoScript depth input error left = ⊥

@@ -1,17 +1,17 @@
 //! The script of `hsms serve`: messages in notation.
 
-ghost use Rattle.std.specs.Prelude.{◌≡◌, ◌++◌, IfOk, IfErr, OnOk, [], ◌∷◌, codes, filter, map, not, if◌then◌else◌};
+ghost use Rattle.std.specs.Prelude.{◌≡◌, ◌++◌, IfOk, IfErr, OnOk, ℕ, [], ◌∷◌, filter, map, not, if◌then◌else◌};
 ghost use Rattle.hsms_ends.specs.declared.step.Step.TheVariants.{Send, Separate};
 ghost use Rattle.hsms_frame.specs.CallCounts.{next_count};
 ghost use Rattle.hsms_frame.specs.Io.{IfRecorded};
 ghost use Rattle.cli_serve.specs.Script.{IsNoScript, IsScript, is_reply};
-ghost use Rattle.cli_output.specs.IoErrors.{CountsFailure, HasWord};
+ghost use Rattle.cli_filters.specs.EncodeErrors.{reads_after, writes_after};
 
-use cli_filters::{INPUT_LIMIT, messages_of, read_whole};
-use cli_options::{Service, ToolFault};
+use cli_filters::{EncodeError, INPUT_LIMIT, read_whole};
+use cli_options::Service;
 use hsms_ends::Step;
 use hsms_frame::Source;
-use secs_text::Message;
+use secs_text::{Message, read_all};
 use std::alloc::{AllocError, Global};
 
 /// The content of a script.
@@ -29,25 +29,24 @@ pub struct Script {
 ///
 /// # Errors
 ///
-/// - `Refused`: the input has more than 67,108,864 bytes (`Input`), or is not messages within the depth of the
-///   service's settings (`Syntax`, `Number`, `Count`, `Deep`).
-/// - `Device`: `Read`, if a read failed in this call, and at most 67,108,864 bytes were consumed before it.
-/// - `Memory`.
+/// - `Input`, if the input has more than 67,108,864 bytes. `Text`, if it is not messages within the depth of the
+///   service's settings, or an allocation failed.
+/// - `Read`, if a read failed in this call, and at most 67,108,864 bytes were consumed before it.
 pub fn read_script<R: Source>(
     alloc: Global,
     source: &mut R,
     service: &Service<'_>,
-) -> Result<Script, ToolFault>
+) -> Result<Script, EncodeError>
     ensures ok { IfOk result (λ script. IfRecorded (R.state source.old).left
         (IsScript service.now.settings.depth service.now.send service.now.answer script)) }
     ensures err { IfErr result (λ fault. IfRecorded (R.state source.old).left
         (λ input. IsNoScript service.now.settings.depth input fault (R.state source.new).left)) }
-    ensures word { IfErr result (HasWord (codes "Read")) }
+    ensures writes { (n : ℕ) → writes_after result n ≡ n }
     ensures end { OnOk result ((R.state source.new).ends ≡ next_count (R.state source.old).ends) }
-    ensures reads { CountsFailure (codes "Read") result (R.state source.old).failures (R.state source.new).failures }
+    ensures reads { (R.state source.new).failures ≡ reads_after result (R.state source.old).failures }
 {
     let input = read_whole(alloc, source, INPUT_LIMIT)?;
-    let messages = messages_of(alloc, &input, service.settings.depth())?;
+    let messages = read_all(alloc, &input, service.settings.depth())?;
     let (replies, sent) = parted(alloc, messages, service.answer)?;
     let steps = steps_of(alloc, sent, service.send)?;
     Ok(Script { steps, replies })

@@ -1,14 +1,16 @@
 -- Runs of `hsms show --hex`, one line after another.
-use Rattle.std.proofs.Common.{◌≡◌, ◌≤◌, ◌+◌, ◌++◌, ℕ, Bool, true, false, List, [], ◌∷◌, length, None, Some, Ok, Err, refl, sym, ◌∙◌, ap, subst, inl, inr, arith}
+use Rattle.std.proofs.Common.{◌≡◌, ◌≤◌, ◌+◌, ◌++◌, ℕ, Bool, true, false, List, [], ◌∷◌, length, None, Some, Ok, Err, refl, sym, ◌∙◌, ap, subst, inl, arith}
 use Rattle.std.specs.Prelude.{Option, Result}
 use Rattle.std.proofs.lemmas.List.{append-nil, append_assoc, length-append}
 use Rattle.std.proofs.lemmas.Grind.{flat_map-append}
 use Rattle.hsms_frame.specs.Io.{IfRecorded, Grows, GrowsByFront}
-use Rattle.cli_options.specs.declared.fault.ToolFault.{ToolFault}
-use Rattle.cli_options.specs.declared.fault.ToolFault.TheVariants.{Refused, Device, Memory}
+use Rattle.hsms_frame.specs.declared.fault.ReadFault.{ReadFault}
+use Rattle.hsms_frame.specs.declared.fault.ReadFault.TheVariants as read
+use Rattle.cli_show.specs.declared.show_error.ShowError.{ShowError}
+use Rattle.cli_show.specs.declared.show_error.ShowError.TheVariants.{Read, NoHex, NoMessage, Write, Endless}
 use Rattle.cli_show.specs.ReadAhead.{subsequent}
 use Rattle.cli_output.specs.LineBuffer.{GrowsHolding}
-use Rattle.cli_output.specs.IoErrors.{IsWrite, LeavesPart}
+use Rattle.cli_output.specs.IoErrors.{LeavesPart}
 use Rattle.cli_show.specs.ShowHex.{IsAllRead, IsLine, ShowsHex, ShowsLine, ShowsLines, ShowsNextLine, StopsAt, ended, decoded_octets}
 use Rattle.cli_show.proofs.Runs.{holding_front, holding_out, holding_then}
 
@@ -27,7 +29,7 @@ BegunLines bare max depth input count left old new held =
     × (left ≡ Some rest) × GrowsHolding old [] new held shown
 
 -- The next line, of what is left.
-abbrev pub NextLine : Bool → ℕ → ℕ → ℕ → Option (List ℕ) → Result Bool ToolFault → Option (List ℕ) → Option (List ℕ) → List ℕ → Option (List ℕ) → List ℕ → Type 0
+abbrev pub NextLine : Bool → ℕ → ℕ → ℕ → Option (List ℕ) → Result Bool ShowError → Option (List ℕ) → Option (List ℕ) → List ℕ → Option (List ℕ) → List ℕ → Type 0
 NextLine bare max depth number before result left old held new now =
     IfRecorded before (λ input. ShowsNextLine bare max depth number input result left old held new now)
 
@@ -67,7 +69,7 @@ lines_go_on bare max depth input count before left old mid held new now (lines, 
     )
 
 -- The run stops.
-stops_whole : (bare : Bool) (max depth number : ℕ) (rest shown held : List ℕ) (r : Result Bool ToolFault) (left old mid new : Option (List ℕ)) → GrowsHolding old [] mid held shown
+stops_whole : (bare : Bool) (max depth number : ℕ) (rest shown held : List ℕ) (r : Result Bool ShowError) (left old mid new : Option (List ℕ)) → GrowsHolding old [] mid held shown
     → StopsAt bare max depth number rest held r left mid new → StopsAt bare max depth number rest shown r left old new
 stops_whole bare max depth number rest shown held (Ok well) left old mid new grows (last, is, shows, known_input, out) =
     (last, is, shows, known_input, growing old mid new held shown last grows out)
@@ -76,28 +78,36 @@ stops_whole bare max depth number rest shown held (Ok well) left old mid new gro
     growing old mid new held shown last (put, one, grows) out = λ octets known_input.
         out (octets ++ put) (grows octets known_input)
         ∙ ap Some (append_assoc octets put (held ++ last) ∙ ap (λ o. octets ++ o) (sym (append_assoc put held last) ∙ ap (λ o. o ++ last) one))
-stops_whole bare max depth number rest shown held (Err (Refused words)) left old mid new grows (why, leaves, out) =
-    (why, leaves, holding_out old [] mid held new shown grows out)
-stops_whole bare max depth number rest shown held (Err (Device word)) left old mid new grows (inl (is, stops, out)) =
-    inl (is, stops, holding_out old [] mid held new shown grows out)
-stops_whole bare max depth number rest shown held (Err (Device word)) left old mid new grows (inr (inl (is, leaves, more, may, front))) =
-    inr (inl (is, leaves, more, may, holding_front old [] mid held new shown more grows front))
-stops_whole bare max depth number rest shown held (Err (Device word)) left old mid new grows (inr (inr (is, full, proceeds, leaves, out))) =
-    inr (inr (is, full, proceeds, leaves, holding_out old [] mid held new shown grows out))
-stops_whole bare max depth number rest shown held (Err Memory) left old mid new grows (leaves, out) = (leaves, holding_out old [] mid held new shown grows out)
+stops_whole bare max depth number rest shown held (Err (Read read.Read)) left old mid new grows (stops, out) = (stops, holding_out old [] mid held new shown grows out)
+stops_whole bare max depth number rest shown held (Err (Read read.Memory)) left old mid new grows (leaves, out) = (leaves, holding_out old [] mid held new shown grows out)
+stops_whole bare max depth number rest shown held (Err (Read read.CutOff)) left old mid new grows (why, leaves, out) = (why, leaves, holding_out old [] mid held new shown grows out)
+stops_whole bare max depth number rest shown held (Err (Read (read.TooShort n))) left old mid new grows (why, leaves, out) = (why, leaves, holding_out old [] mid held new shown grows out)
+stops_whole bare max depth number rest shown held (Err (Read (read.TooLong n h))) left old mid new grows (why, leaves, out) = (why, leaves, holding_out old [] mid held new shown grows out)
+stops_whole bare max depth number rest shown held (Err Write) left old mid new grows (leaves, more, may, front) =
+    (leaves, more, may, holding_front old [] mid held new shown more grows front)
+stops_whole bare max depth number rest shown held (Err Endless) left old mid new grows (full, proceeds, leaves, out) =
+    (full, proceeds, leaves, holding_out old [] mid held new shown grows out)
+stops_whole bare max depth number rest shown held (Err (NoHex n)) left old mid new grows (why, leaves, out) = (why, leaves, holding_out old [] mid held new shown grows out)
+stops_whole bare max depth number rest shown held (Err (NoMessage n)) left old mid new grows (why, leaves, out) = (why, leaves, holding_out old [] mid held new shown grows out)
 
 -- The results without and with a value agree.
 as_done : (bare : Bool) (max depth number : ℕ) (rest shown : List ℕ) (left old new : Option (List ℕ)) → StopsAt {T = Bool} bare max depth number rest shown (Ok false) left old new
     → StopsAt {T = Unit {0}} bare max depth number rest shown (Ok tt) left old new
 as_done bare max depth number rest shown left old new stops = stops
 
-as_fault : (bare : Bool) (max depth number : ℕ) (rest shown : List ℕ) (fault : ToolFault) (left old new : Option (List ℕ))
+as_fault : (bare : Bool) (max depth number : ℕ) (rest shown : List ℕ) (fault : ShowError) (left old new : Option (List ℕ))
     → StopsAt {T = Bool} bare max depth number rest shown (Err fault) left old new → StopsAt {T = Unit {0}} bare max depth number rest shown (Err fault) left old new
-as_fault bare max depth number rest shown (Refused words) left old new stops = stops
-as_fault bare max depth number rest shown (Device word) left old new stops = stops
-as_fault bare max depth number rest shown Memory left old new stops = stops
+as_fault bare max depth number rest shown (Read read.Read) left old new stops = stops
+as_fault bare max depth number rest shown (Read read.Memory) left old new stops = stops
+as_fault bare max depth number rest shown (Read read.CutOff) left old new stops = stops
+as_fault bare max depth number rest shown (Read (read.TooShort n)) left old new stops = stops
+as_fault bare max depth number rest shown (Read (read.TooLong n h)) left old new stops = stops
+as_fault bare max depth number rest shown Write left old new stops = stops
+as_fault bare max depth number rest shown Endless left old new stops = stops
+as_fault bare max depth number rest shown (NoHex n) left old new stops = stops
+as_fault bare max depth number rest shown (NoMessage n) left old new stops = stops
 
-numbered : (bare : Bool) (max depth count number : ℕ) (rest shown : List ℕ) (r : Result Bool ToolFault) (left old new : Option (List ℕ)) → count ≡ number
+numbered : (bare : Bool) (max depth count number : ℕ) (rest shown : List ℕ) (r : Result Bool ShowError) (left old new : Option (List ℕ)) → count ≡ number
     → StopsAt bare max depth (number + 1) rest shown r left old new → StopsAt bare max depth (count + 1) rest shown r left old new
 numbered bare max depth count number rest shown r left old new same stops =
     let P : ℕ → Type 0 = λ n. StopsAt bare max depth (n + 1) rest shown r left old new in subst P (sym same) stops
@@ -117,7 +127,7 @@ lines_end bare max depth input count before left old mid held new now few (lines
       (stops_whole bare max depth (count + 1) rest shown held (Ok false) left old mid new grows (next rest known_input))),
 )
 
-pub lines_stop : (bare : Bool) (max depth : ℕ) (input : List ℕ) (count : ℕ) (fault : ToolFault) (before left old mid : Option (List ℕ)) (held : List ℕ) (new : Option (List ℕ)) (now : List ℕ)
+pub lines_stop : (bare : Bool) (max depth : ℕ) (input : List ℕ) (count : ℕ) (fault : ShowError) (before left old mid : Option (List ℕ)) (held : List ℕ) (new : Option (List ℕ)) (now : List ℕ)
     → count ≤ 4294967295 → BegunLines bare max depth input count before old mid held → NextLine bare max depth (count + 1) before (Err fault) left mid held new now
     → ShowsHex {T = Unit {0}} bare max depth input (Err fault) left old new
 lines_stop bare max depth input count fault before left old mid held new now few (lines, shown, rest, size, shows, reads, known_input, grows) next = (
@@ -133,7 +143,7 @@ lines_stop bare max depth input count fault before left old mid held new now few
 )
 
 -- An allocation fails before the first line.
-pub no_line : (bare : Bool) (max depth : ℕ) (input : List ℕ) (left written : Option (List ℕ)) → left ≡ Some input → ShowsHex {T = Unit {0}} bare max depth input (Err Memory) left written written
+pub no_line : (bare : Bool) (max depth : ℕ) (input : List ℕ) (left written : Option (List ℕ)) → left ≡ Some input → ShowsHex {T = Unit {0}} bare max depth input (Err (Read read.Memory)) left written written
 no_line bare max depth input left written known_input = (
   [],
   [],
@@ -144,34 +154,54 @@ no_line bare max depth input left written known_input = (
   (([], input, refl, known_input), (λ octets is. is ∙ ap Some (sym (append-nil octets)))),
 )
 
--- The maximum number of lines.
-no_more_lines : (bare : Bool) (max depth number : ℕ) (rest shown : List ℕ) (r : Result (Unit {0}) ToolFault) (left old new : Option (List ℕ)) → number ≡ 4294967296
-    → Grows old new shown → IsAllRead rest r left → StopsAt bare max depth number rest shown r left old new
+-- The maximum number of lines was passed, and the run ends: nothing is left, or the input continues.
+full_ends : (bare : Bool) (max depth : ℕ) (rest shown : List ℕ) (left old new : Option (List ℕ)) → rest ≡ [] → left ≡ Some []
+    → Grows old new shown → StopsAt {T = Unit {0}} bare max depth 4294967296 rest shown (Ok tt) left old new
 unfolding decoded_octets
-no_more_lines bare max depth number rest shown (Ok _) left old new full grows (none, known_input) =
+full_ends bare max depth rest shown left old new none known_input grows =
     let P : List ℕ → Type 0 = λ xs. IsLine max xs × ShowsLine bare max depth xs [] in
     let empty : IsLine max [] × ShowsLine bare max depth [] [] = (((λ k d less. absurd (omega arith)), omega arith), ([], refl, inl (refl, refl))) in
     let here : IsLine max rest × ShowsLine bare max depth rest [] = subst P (sym none) empty in
     ([], here.0, here.1, known_input, (λ octets is. grows octets is ∙ ap (λ (o : List ℕ). Some (octets ++ o)) (sym (append-nil shown))))
-no_more_lines bare max depth number rest shown (Err (Refused words)) left old new full grows why = absurd why
-no_more_lines bare max depth number rest shown (Err (Device word)) left old new full grows (inl (is, known_input)) =
-    inl (is, ([], rest, refl, known_input, ((λ k d less. absurd (omega arith)), omega arith)), grows)
-no_more_lines bare max depth number rest shown (Err (Device word)) left old new full grows (inr (is, proceeds, leaves)) =
-    inr (inr (is, full, proceeds, leaves, grows))
-no_more_lines bare max depth number rest shown (Err Memory) left old new full grows leaves = (leaves, grows)
 
-pub lines_full : (bare : Bool) (max depth : ℕ) (input : List ℕ) (count : ℕ) (r : Result (Unit {0}) ToolFault) (before left old mid : Option (List ℕ)) (held : List ℕ) (new : Option (List ℕ))
-    → count ≡ 4294967295 → BegunLines bare max depth input count before old mid held → Grows mid new held → IfRecorded before (λ rest. IsAllRead rest r left)
-    → ShowsHex {T = Unit {0}} bare max depth input r left old new
-lines_full bare max depth input count r before left old mid held new full (lines, shown, rest, size, shows, reads, known_input, grows) out all = (
-  lines,
-  shown,
-  rest,
-  reads,
-  shows,
-  omega (arith, full, size),
-  no_more_lines bare max depth (length lines + 1) rest shown r left old new (omega (arith, full, size)) (holding_out old [] mid held new shown grows out) (all rest known_input),
-)
+full_stops : (bare : Bool) (max depth : ℕ) (rest shown : List ℕ) (fault : ReadFault) (left old new : Option (List ℕ)) → IsAllRead rest (Err fault) left
+    → Grows old new shown → StopsAt {T = Unit {0}} bare max depth 4294967296 rest shown (Err (Read fault)) left old new
+full_stops bare max depth rest shown read.Read left old new known_input grows =
+    (([], rest, refl, known_input, ((λ k d less. absurd (omega arith)), omega arith)), grows)
+full_stops bare max depth rest shown read.Memory left old new leaves grows = (leaves, grows)
+full_stops bare max depth rest shown read.CutOff left old new none grows = absurd none
+full_stops bare max depth rest shown (read.TooShort n) left old new none grows = absurd none
+full_stops bare max depth rest shown (read.TooLong n h) left old new none grows = absurd none
+
+after_full : (bare : Bool) (max depth : ℕ) (input : List ℕ) (count : ℕ) (r : Result (Unit {0}) ShowError) (before left old mid : Option (List ℕ)) (held : List ℕ) (new : Option (List ℕ))
+    → count ≡ 4294967295 → BegunLines bare max depth input count before old mid held → Grows mid new held
+    → ((rest shown : List ℕ) → before ≡ Some rest → Grows old new shown → StopsAt bare max depth 4294967296 rest shown r left old new)
+    → ShowsHex bare max depth input r left old new
+after_full bare max depth input count r before left old mid held new full (lines, shown, rest, size, shows, reads, known_input, grows) out end =
+    let P : ℕ → Type 0 = λ n. StopsAt bare max depth n rest shown r left old new in
+    let next : ◌≡◌ {A = ℕ} 4294967296 (length lines + 1) = omega (arith, full, size) in
+    (lines, shown, rest, reads, shows, omega (arith, full, size), subst P next (end rest shown known_input (holding_out old [] mid held new shown grows out)))
+
+pub lines_full_end : (bare : Bool) (max depth : ℕ) (input : List ℕ) (count : ℕ) (before left old mid : Option (List ℕ)) (held : List ℕ) (new : Option (List ℕ))
+    → count ≡ 4294967295 → BegunLines bare max depth input count before old mid held → Grows mid new held → IfRecorded before (λ rest. IsAllRead rest (Ok true) left)
+    → ShowsHex {T = Unit {0}} bare max depth input (Ok tt) left old new
+lines_full_end bare max depth input count before left old mid held new full begun out all =
+    after_full bare max depth input count (Ok tt) before left old mid held new full begun out
+    (λ rest shown is grows. let a = all rest is in full_ends bare max depth rest shown left old new a.0 a.1 grows)
+
+pub lines_full_stop : (bare : Bool) (max depth : ℕ) (input : List ℕ) (count : ℕ) (fault : ReadFault) (before left old mid : Option (List ℕ)) (held : List ℕ) (new : Option (List ℕ))
+    → count ≡ 4294967295 → BegunLines bare max depth input count before old mid held → Grows mid new held → IfRecorded before (λ rest. IsAllRead rest (Err fault) left)
+    → ShowsHex {T = Unit {0}} bare max depth input (Err (Read fault)) left old new
+lines_full_stop bare max depth input count fault before left old mid held new full begun out all =
+    after_full bare max depth input count (Err (Read fault)) before left old mid held new full begun out
+    (λ rest shown is grows. full_stops bare max depth rest shown fault left old new (all rest is) grows)
+
+pub lines_full_more : (bare : Bool) (max depth : ℕ) (input : List ℕ) (count : ℕ) (before left old mid : Option (List ℕ)) (held : List ℕ) (new : Option (List ℕ))
+    → count ≡ 4294967295 → BegunLines bare max depth input count before old mid held → Grows mid new held → IfRecorded before (λ rest. IsAllRead rest (Ok false) left)
+    → ShowsHex {T = Unit {0}} bare max depth input (Err Endless) left old new
+lines_full_more bare max depth input count before left old mid held new full begun out all =
+    after_full bare max depth input count (Err Endless) before left old mid held new full begun out
+    (λ rest shown is grows. let a = all rest is in (refl, a.0, a.1, grows))
 
 -- What was read ahead is consumed.
 leaves_ahead : (ahead rest : List ℕ) (left : Option (List ℕ)) → subsequent ahead left ≡ Some rest → LeavesPart rest left
@@ -179,12 +209,10 @@ leaves_ahead ahead rest None is = cc
 leaves_ahead ahead rest (Some others) is = let same : ahead ++ others ≡ rest = cc in (ahead, others, sym same, refl)
 
 -- A write failed after the maximum number of lines was passed.
-pub lines_unwritten : (bare : Bool) (max depth : ℕ) (input : List ℕ) (count : ℕ) (fault : ToolFault) (left old mid : Option (List ℕ)) (held : List ℕ) (new : Option (List ℕ)) (ahead : List ℕ)
-    → count ≡ 4294967295 → BegunLines bare max depth input count (subsequent ahead left) old mid held → IsWrite fault → GrowsByFront mid new held
-    → ShowsHex {T = Unit {0}} bare max depth input (Err fault) left old new
-lines_unwritten bare max depth input count (Refused words) left old mid held new ahead full begun write front = absurd write
-lines_unwritten bare max depth input count Memory left old mid held new ahead full begun write front = absurd write
-lines_unwritten bare max depth input count (Device word) left old mid held new ahead full (lines, shown, rest, size, shows, reads, known_input, grows) write front =
+pub lines_unwritten : (bare : Bool) (max depth : ℕ) (input : List ℕ) (count : ℕ) (left old mid : Option (List ℕ)) (held : List ℕ) (new : Option (List ℕ)) (ahead : List ℕ)
+    → count ≡ 4294967295 → BegunLines bare max depth input count (subsequent ahead left) old mid held → GrowsByFront mid new held
+    → ShowsHex {T = Unit {0}} bare max depth input (Err Write) left old new
+lines_unwritten bare max depth input count left old mid held new ahead full (lines, shown, rest, size, shows, reads, known_input, grows) front =
     let P : List ℕ → Type 0 = λ o. GrowsByFront mid new o in (
       lines,
       shown,
@@ -192,5 +220,5 @@ lines_unwritten bare max depth input count (Device word) left old mid held new a
       reads,
       shows,
       omega (arith, full, size),
-      inr (inl (write, leaves_ahead ahead rest left known_input, [], inl refl, holding_front old [] mid held new shown [] grows (subst P (sym (append-nil held)) front))),
+      (leaves_ahead ahead rest left known_input, [], inl refl, holding_front old [] mid held new shown [] grows (subst P (sym (append-nil held)) front)),
     )

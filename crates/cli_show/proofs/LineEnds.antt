@@ -1,17 +1,16 @@
 -- Where the lines of an input end.
-use Rattle.std.proofs.Common.{◌≡◌, ◌≤◌, ◌<◌, ◌+◌, ◌-◌, ◌++◌, ℕ, Bool, true, false, List, [], length, take, drop, None, Some, Ok, Err, refl, sym, ◌∙◌, ap, subst, inl, inr, arith, codes}
-use Rattle.std.specs.Prelude.{Option, Result, IfErr, ◌==◌}
+use Rattle.std.proofs.Common.{◌≡◌, ◌≤◌, ◌<◌, ◌+◌, ◌-◌, ◌++◌, ℕ, Bool, true, false, List, [], length, take, drop, None, Some, Ok, Err, refl, sym, ◌∙◌, ap, subst, inl, inr, arith}
+use Rattle.std.specs.Prelude.{Option, ◌==◌}
 use Rattle.std.proofs.lemmas.List.{append_cancel_left, get_or-take, get_or_default, length-drop, length-take-le, take-append-drop, take-append-le, take_all}
 use Rattle.std.proofs.lemmas.List.Elements.{All-append}
 use Rattle.std.proofs.Math.Seq.{take-add, take-append_seam}
 use Rattle.memchr.specs.Find.{IsFirstByte, Nowhere, Passes, is_byte}
 use Rattle.hsms_frame.specs.ReadAhead.{ReadsMore}
-use Rattle.hsms_frame.specs.Io.{IfRecorded, Grows, GrowsByFront, IsAtEnd}
+use Rattle.hsms_frame.specs.Io.{IfRecorded, Grows, IsAtEnd, Stays}
 use Rattle.hsms_log.specs.Lines.{HasNone}
-use Rattle.cli_options.specs.declared.fault.ToolFault.{ToolFault}
-use Rattle.cli_options.specs.declared.fault.ToolFault.TheVariants.{Refused, Device, Memory}
+use Rattle.hsms_frame.specs.declared.fault.ReadFault.{ReadFault}
+use Rattle.hsms_frame.specs.declared.fault.ReadFault.TheVariants as read
 use Rattle.cli_show.specs.ReadAhead.{IsUnread}
-use Rattle.cli_output.specs.IoErrors.{HasWord, IsWrite}
 use Rattle.cli_show.specs.ShowHex.{EndsAt, FindsEnd, FindsEndHolding, IsLine, IsPlaced, IsTooFar, is_open, line_limit}
 use Rattle.cli_show.specs.declared.hex_lines.LineEnd.{LineEnd}
 use Rattle.cli_show.specs.declared.hex_lines.LineEnd.TheVariants.{Feed, Open, TooFar}
@@ -113,12 +112,17 @@ reads_further max before input mid now seen slice left new end next so_far can_c
     further max before input mid now left new end next so_far can_continue more longer
     (subst (λ xs. Q xs now) seen_is (subst (λ ys. Q seen ys) slice_is there))
 
-pub reading_stops : (max : ℕ) (before input mid now : List ℕ) (left new : Option (List ℕ)) (end : LineEnd) (fault : ToolFault) → EndsSoFar max before input mid left end
-    → is_open end ≡ true → IfRecorded left (λ rest. IsUnread rest fault new) → HasWord (codes "Read") fault → FindsEnd max (before ++ input) (Err fault) now new
-reading_stops max before input mid now left new end (Refused words) ((rest, known_input, same), ends) can_continue unread word = absurd (unread rest known_input)
-reading_stops max before input mid now left new end (Device given) ((rest, known_input, same), ends) can_continue unread word =
-    (word, (mid, rest, same, unread rest known_input, line_of_open max mid end can_continue ends))
-reading_stops max before input mid now left new end Memory ((rest, known_input, same), ends) can_continue unread word = (mid, rest, same, unread rest known_input)
+pub reading_stops : (max : ℕ) (before input mid now : List ℕ) (left new : Option (List ℕ)) (end : LineEnd) (fault : ReadFault) → EndsSoFar max before input mid left end
+    → is_open end ≡ true → Stays left new → IsUnread fault → FindsEnd max (before ++ input) (Err fault) now new
+reading_stops max before input mid now left new end read.Read ((rest, known_input, same), ends) can_continue stays unread =
+    (mid, rest, same, stays rest known_input, line_of_open max mid end can_continue ends)
+reading_stops max before input mid now left new end read.Memory ((rest, known_input, same), ends) can_continue stays unread = (mid, rest, same, stays rest known_input)
+reading_stops max before input mid now left new end read.CutOff so_far can_continue stays (inl ne) = cc
+reading_stops max before input mid now left new end read.CutOff so_far can_continue stays (inr ne) = cc
+reading_stops max before input mid now left new end (read.TooShort n) so_far can_continue stays (inl ne) = cc
+reading_stops max before input mid now left new end (read.TooShort n) so_far can_continue stays (inr ne) = cc
+reading_stops max before input mid now left new end (read.TooLong n h) so_far can_continue stays (inl ne) = cc
+reading_stops max before input mid now left new end (read.TooLong n h) so_far can_continue stays (inr ne) = cc
 
 pub input_ends : (max : ℕ) (before input mid now : List ℕ) (left new : Option (List ℕ)) (end : LineEnd) → EndsSoFar max before input mid left end → is_open end ≡ true
     → IfRecorded left (λ rest. ReadsMore mid rest now new) → now ≡ mid → IsAtEnd left → FindsEnd max (before ++ input) (Ok Open) now new
@@ -142,15 +146,6 @@ short_of_limit max ahead TooFar can_continue placed = cc
 
 -- ---- while bytes are buffered
 
-pub holding_end : (max : ℕ) (input ahead : List ℕ) (left old : Option (List ℕ)) (held : List ℕ) (new : Option (List ℕ)) (now : List ℕ) (r : Result LineEnd ToolFault)
-    → now ≡ [] → Grows old new held → IfErr r (HasWord (codes "Read")) → FindsEnd max input r ahead left → FindsEndHolding max input r ahead left old held new now
-holding_end max input ahead left old held new now (Ok end) none grows word finds = (finds, holds_none old held new now none grows)
-holding_end max input ahead left old held new now (Err (Refused words)) none grows word finds = finds
-holding_end max input ahead left old held new now (Err (Device given)) none grows word finds = inl (finds.0, finds.1, grows)
-holding_end max input ahead left old held new now (Err Memory) none grows word finds = (finds, grows)
-
-pub unwritten : (max : ℕ) (input ahead rest : List ℕ) (left old : Option (List ℕ)) (held : List ℕ) (new : Option (List ℕ)) (now : List ℕ) (fault : ToolFault)
-    → IsWrite fault → left ≡ Some rest → GrowsByFront old new held → FindsEndHolding max (ahead ++ rest) (Err fault) ahead left old held new now
-unwritten max input ahead rest left old held new now (Refused words) write known_input front = absurd write
-unwritten max input ahead rest left old held new now (Device given) write known_input front = inr (write, (ahead, rest, refl, known_input), front)
-unwritten max input ahead rest left old held new now Memory write known_input front = absurd write
+pub holding_found : (max : ℕ) (input ahead : List ℕ) (left old : Option (List ℕ)) (held : List ℕ) (new : Option (List ℕ)) (now : List ℕ) (end : LineEnd)
+    → now ≡ [] → Grows old new held → FindsEnd max input (Ok end) ahead left → FindsEndHolding max input (Ok end) ahead left old held new now
+holding_found max input ahead left old held new now end none grows finds = (finds, holds_none old held new now none grows)

@@ -1,19 +1,19 @@
 -- The next message of an input that is read ahead.
-use Rattle.std.proofs.Common.{◌≡◌, ◌≢◌, ◌≤◌, ◌<◌, ◌+◌, ◌++◌, ℕ, List, [], length, take, drop, None, Some, Ok, Err, true, false, refl, sym, ◌∙◌, ap, subst, arith}
+use Rattle.std.proofs.Common.{◌≡◌, ◌≢◌, ◌≤◌, ◌<◌, ◌+◌, ◌++◌, ℕ, List, [], length, take, drop, None, Some, Ok, Err, true, false, refl, sym, ◌∙◌, ap, subst, inl, inr, arith}
 use Rattle.std.specs.Int.{w32, from_be_bytes}
 use Rattle.std.specs.Prelude.{Option, Result, IfOk}
 use Rattle.std.proofs.lemmas.List.{append-nil, drop-append-le, length-append, length-take-le, take-append-drop, take-append-le}
 use Rattle.hsms_frame.specs.declared.fault.FrameFault.{FrameFault}
 use Rattle.hsms_frame.specs.declared.fault.FrameFault.TheVariants as frame
-use Rattle.hsms_frame.specs.declared.fault.ReadFault.TheVariants.{TooShort, TooLong, CutOff}
+use Rattle.hsms_frame.specs.declared.fault.ReadFault.{ReadFault}
+use Rattle.hsms_frame.specs.declared.fault.ReadFault.TheVariants.{TooShort, TooLong, Memory, CutOff, Read}
 use Rattle.hsms_frame.specs.declared.header.Header.{Header}
 use Rattle.hsms_frame.specs.ReadAhead.{ReadsMore}
 use Rattle.hsms_frame.specs.Io.{IfRecorded}
 use Rattle.hsms_frame.specs.Frame.{Frame, frame_octets, length_field, IsFaultless, IsProperFront, IsTooLong, IsTooShort}
 use Rattle.hsms_frame.specs.Framing.{FrontAs}
-use Rattle.cli_options.specs.declared.fault.ToolFault.{ToolFault}
-use Rattle.cli_options.specs.declared.fault.ToolFault.TheVariants.{Refused, Device, Memory}
-use Rattle.cli_show.specs.ReadAhead.{EndsAs, FindsNext, IsStopped, IsUnread, Emits, ReturnsFound, is_open}
+use Rattle.cli_show.specs.ReadAhead.{EndsAs, FindsNext, IsUnread, found_of, is_open, read_fault_of}
+use Rattle.cli_show.specs.Show.{IsStopped}
 use Rattle.cli_output.specs.IoErrors.{LeavesPart}
 
 pub if_ok_map : {T E : Type 0} (r : Result T E) (P Q : T → Type 0) → ((x : T) → P x → Q x) → IfOk r P → IfOk r Q
@@ -50,26 +50,30 @@ open_is_short max ahead (fine, begun) =
     omega (arith, whole, size, bound)
 
 -- The source failed, or an allocation failed for what it returned.
-pub stopped : (max : ℕ) (input ahead rest : List ℕ) (fault : ToolFault) (left : Option (List ℕ)) → input ≡ ahead ++ rest → IsOpen max ahead
-    → IsUnread rest fault left → IsStopped max input fault left
-stopped max input ahead rest (Refused words) left parts begun none = absurd none
-stopped max input ahead rest (Device word) left parts begun is = (ahead, rest, parts, is, begun.0, begun.1)
-stopped max input ahead rest Memory left parts begun is = (ahead, rest, parts, is)
+pub stopped : (max : ℕ) (input ahead rest : List ℕ) (fault : ReadFault) (left : Option (List ℕ)) → input ≡ ahead ++ rest → IsOpen max ahead
+    → IsUnread fault → left ≡ Some rest → IsStopped max input fault left
+stopped max input ahead rest Read left parts begun unread is = (ahead, rest, parts, is, begun.0, begun.1)
+stopped max input ahead rest Memory left parts begun unread is = (ahead, rest, parts, is)
+stopped max input ahead rest CutOff left parts begun (inl ne) is = cc
+stopped max input ahead rest CutOff left parts begun (inr ne) is = cc
+stopped max input ahead rest (TooShort n) left parts begun (inl ne) is = cc
+stopped max input ahead rest (TooShort n) left parts begun (inr ne) is = cc
+stopped max input ahead rest (TooLong n h) left parts begun (inl ne) is = cc
+stopped max input ahead rest (TooLong n h) left parts begun (inr ne) is = cc
 
 all_of : (input : List ℕ) (left : Option (List ℕ)) → left ≡ Some [] → LeavesPart input left
 all_of input left is = (input, [], sym (append-nil input), is)
 
 -- The input ends.
-pub at_the_end : (max : ℕ) (input ahead : List ℕ) (result : Result (Option (Header × ℕ)) ToolFault) (left : Option (List ℕ)) → input ≡ ahead
+pub at_the_end : (max : ℕ) (input ahead : List ℕ) (result : Result (Option (Header × ℕ)) ReadFault) (left : Option (List ℕ)) → input ≡ ahead
     → left ≡ Some [] → IsOpen max ahead → EndsAs ahead result → FindsNext max input result ahead left
 at_the_end max input ahead (Ok (Some m)) left same is begun (none, found) = cc
 at_the_end max input ahead (Ok None) left same is begun (none, found) = (same ∙ none, is)
-at_the_end max input ahead (Err (Refused words)) left same is begun (some, known_input) =
+at_the_end max input ahead (Err fault) left same is begun (some, cut) =
     let P : List ℕ → Type 0 = λ o. (o ≢ []) × IsFaultless max o × IsProperFront o in
     let cut_off = subst P (sym same) (some, begun.0, begun.1) in
-    ((CutOff, Some [], (cut_off.0, cut_off.1, cut_off.2, refl), (λ memory. cc), (λ read. cc), known_input), all_of input left is)
-at_the_end max input ahead (Err (Device word)) left same is begun (some, known_input) = absurd known_input
-at_the_end max input ahead (Err Memory) left same is begun ends = all_of input left is
+    let Q : ReadFault → Type 0 = λ f. IsStopped max input f left in
+    subst Q (sym cut) ((Some [], (cut_off.0, cut_off.1, cut_off.2, refl)), all_of input left is)
 
 -- ---- an error at the start
 
@@ -100,26 +104,19 @@ too_long max ahead rest n h is =
 part_left : (input ahead rest : List ℕ) (left : Option (List ℕ)) → left ≡ Some rest → input ≡ ahead ++ rest → LeavesPart input left
 part_left input ahead rest left is parts = (ahead, rest, parts, is)
 
-stopped_at : (max : ℕ) (input ahead rest : List ℕ) (fault : FrameFault) (tool : ToolFault) (left : Option (List ℕ)) → left ≡ Some rest
-    → input ≡ ahead ++ rest → FrontAs max ahead (Err fault) → Emits fault tool → IsStopped max input tool left
-stopped_at max input ahead rest frame.Memory tool left is parts front known_input = absurd front
-stopped_at max input ahead rest (frame.TooShort n) (Refused words) left is parts front (some, words_are) =
+stopped_at : (max : ℕ) (input ahead rest : List ℕ) (fault : FrameFault) (left : Option (List ℕ)) → left ≡ Some rest
+    → input ≡ ahead ++ rest → FrontAs max ahead (Err fault) → IsStopped max input (read_fault_of fault) left
+stopped_at max input ahead rest frame.Memory left is parts front = absurd front
+stopped_at max input ahead rest (frame.TooShort n) left is parts front =
     let P : List ℕ → Type 0 = λ o. IsTooShort o n in
-    ((TooShort n, Some (drop 4 input), (subst P (sym parts) (too_short ahead rest n front), refl), (λ memory. cc), (λ read. cc), words_are), part_left input ahead rest left is parts)
-stopped_at max input ahead rest (frame.TooShort n) (Device word) left is parts front known_input = absurd known_input
-stopped_at max input ahead rest (frame.TooShort n) Memory left is parts front known_input = part_left input ahead rest left is parts
-stopped_at max input ahead rest (frame.TooLong n h) (Refused words) left is parts front (some, words_are) =
+    ((Some (drop 4 input), (subst P (sym parts) (too_short ahead rest n front), refl)), part_left input ahead rest left is parts)
+stopped_at max input ahead rest (frame.TooLong n h) left is parts front =
     let P : List ℕ → Type 0 = λ o. IsTooLong max o n h in
-    ((TooLong n h, Some (drop 14 input), (subst P (sym parts) (too_long max ahead rest n h front), refl), (λ memory. cc), (λ read. cc), words_are), part_left input ahead rest left is parts)
-stopped_at max input ahead rest (frame.TooLong n h) (Device word) left is parts front known_input = absurd known_input
-stopped_at max input ahead rest (frame.TooLong n h) Memory left is parts front known_input = part_left input ahead rest left is parts
+    ((Some (drop 14 input), (subst P (sym parts) (too_long max ahead rest n h front), refl)), part_left input ahead rest left is parts)
 
--- The command's result for what is at the start.
-pub found_is_returned : (max : ℕ) (input ahead : List ℕ) (found : Result (Option (Header × ℕ)) FrameFault) (known_input : Result (Option (Header × ℕ)) ToolFault)
-    (left : Option (List ℕ)) → is_open found ≡ false → FrontAs max ahead found → ReturnsFound found known_input → (rest : List ℕ) × (left ≡ Some rest) × (input ≡ ahead ++ rest)
-    → FindsNext max input known_input ahead left
-found_is_returned max input ahead (Ok (Some m)) known_input left closed front emits reads =
-    subst (λ r. FindsNext max input r ahead left) (sym emits) reads
-found_is_returned max input ahead (Ok None) known_input left closed front emits reads = cc
-found_is_returned max input ahead (Err fault) known_input left closed front (tool, is, emits) (rest, left_is, parts) =
-    subst (λ r. FindsNext max input r ahead left) (sym is) (stopped_at max input ahead rest fault tool left left_is parts front emits)
+-- The result for what is at the start.
+pub found_is_returned : (max : ℕ) (input ahead : List ℕ) (found : Result (Option (Header × ℕ)) FrameFault) (left : Option (List ℕ)) → is_open found ≡ false
+    → FrontAs max ahead found → (rest : List ℕ) × (left ≡ Some rest) × (input ≡ ahead ++ rest) → FindsNext max input (found_of found) ahead left
+found_is_returned max input ahead (Ok (Some m)) left closed front reads = reads
+found_is_returned max input ahead (Ok None) left closed front reads = cc
+found_is_returned max input ahead (Err fault) left closed front (rest, left_is, parts) = stopped_at max input ahead rest fault left left_is parts front

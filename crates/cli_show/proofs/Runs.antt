@@ -1,6 +1,6 @@
 -- Runs of `hsms show`, one message after another.
-use Rattle.std.proofs.Common.{◌≡◌, ◌≢◌, ◌≤◌, ◌<◌, ◌+◌, ◌-◌, ◌++◌, ℕ, suc, List, [], ◌∷◌, length, take, drop, None, Some, Ok, Err, true, false, Bool, refl, sym, ◌∙◌, ap, subst, inl, inr, arith, get_or, codes}
-use Rattle.std.specs.Prelude.{Option, Result, All, IfErr}
+use Rattle.std.proofs.Common.{◌≡◌, ◌≤◌, ◌<◌, ◌+◌, ◌-◌, ◌++◌, ℕ, suc, List, [], ◌∷◌, length, take, drop, None, Some, Ok, Err, true, false, Bool, refl, sym, ◌∙◌, ap, subst, inl, inr, arith}
+use Rattle.std.specs.Prelude.{Option, Result, All}
 use Rattle.std.proofs.lemmas.List.{append-nil, append_assoc, length-append, length-drop, length-take-le, take-append-le}
 use Rattle.std.proofs.lemmas.Grind.{flat_map-append}
 use Rattle.std.proofs.lemmas.List.Elements.{All-append, All-push}
@@ -9,16 +9,19 @@ use Rattle.std.proofs.lemmas.Bool.{cases_lt}
 use Rattle.cli_output.proofs.LineBuffers.{take_after}
 use Rattle.cli_output.specs.LineBuffer.{GrowsHolding, AppendsLine}
 use Rattle.hsms_frame.specs.declared.header.Header.{Header}
+use Rattle.hsms_frame.specs.declared.io.Failed.{Failed}
 use Rattle.hsms_frame.specs.Io.{IfRecorded, Grows, GrowsByFront}
 use Rattle.hsms_frame.specs.Frame.{Frame, frame_octets}
 use Rattle.hsms_frame.specs.Framing.{IsFrontOf}
 use Rattle.hsms_frame.proofs.Prefixes.{whole_at_front}
-use Rattle.cli_options.specs.declared.fault.ToolFault.{ToolFault}
-use Rattle.cli_options.specs.declared.fault.ToolFault.TheVariants.{Refused, Device, Memory}
-use Rattle.cli_show.specs.ReadAhead.{FindsHolding, FindsNext, IsStopped, subsequent}
+use Rattle.hsms_frame.specs.declared.fault.ReadFault.{ReadFault}
+use Rattle.hsms_frame.specs.declared.fault.ReadFault.TheVariants as read
+use Rattle.cli_show.specs.ReadAhead.{subsequent}
 use Rattle.cli_output.specs.Line.{LineOf}
-use Rattle.cli_output.specs.IoErrors.{LeavesPart, CountsFailure, HasWord, IsOfInput, IsWrite}
-use Rattle.cli_show.specs.Show.{Begins, IsWithin, octets_of, LinesOf, Shows, StopsBy, ShowsNext, IsEnded}
+use Rattle.cli_output.specs.IoErrors.{LeavesPart}
+use Rattle.cli_show.specs.Show.{Begins, IsWithin, octets_of, LinesOf, Shows, Stops, ShowsNext, IsEnded}
+use Rattle.cli_show.specs.declared.show_error.ShowError.{ShowError}
+use Rattle.cli_show.specs.declared.show_error.ShowError.TheVariants.{Read, NoHex, NoMessage, Write, Endless}
 
 -- A complete message is the next.
 pub begins_with : (max : ℕ) (input ahead rest text : List ℕ) (h : Header) (size : ℕ) → input ≡ ahead ++ rest → IsFrontOf max ahead h size
@@ -32,16 +35,6 @@ begins_with max input ahead rest text h size parts front same =
           ∙ append_assoc (frame_octets f) (drop (14 + size) ahead) rest,
       (whole.1, whole.2),
     )
-
--- A read or a write stopped the call before a message was found.
-pub find_stops : (max depth : ℕ) (input ahead : List ℕ) (fault : ToolFault) (left old : Option (List ℕ)) (held : List ℕ) (new : Option (List ℕ)) (now : List ℕ)
-    → FindsHolding max input (Err fault) ahead left old held new now → ShowsNext max depth input (Err fault) left old held new now
-find_stops max depth input ahead (Refused words) left old held new now (inl (word, reads, grows)) = (reads.0, reads.1, grows)
-find_stops max depth input ahead (Refused words) left old held new now (inr (word, leaves, some, front)) = absurd word
-find_stops max depth input ahead (Device given) left old held new now (inl (word, reads, grows)) = inl (word, reads, grows)
-find_stops max depth input ahead (Device given) left old held new now (inr (word, leaves, some, front)) = inr (inl (word, leaves, some, front))
-find_stops max depth input ahead Memory left old held new now (inl (word, reads, grows)) = (reads, grows)
-find_stops max depth input ahead Memory left old held new now (inr (word, leaves, some, front)) = absurd word
 
 all_left : (after : List ℕ) (left : Option (List ℕ)) → left ≡ Some after → LeavesPart after left
 all_left after left is = ([], after, refl, is)
@@ -82,32 +75,16 @@ holds_same old held = ([], sym (append-nil held), (λ octets known_input. known_
 pub holds_none : (old : Option (List ℕ)) (held : List ℕ) (new : Option (List ℕ)) (now : List ℕ) → now ≡ [] → Grows old new held → GrowsHolding old held new now []
 holds_none old held new now none grows = (held, ap (λ o. held ++ o) none, grows)
 
--- What is found once the buffer is written.
-pub finds_with : (max : ℕ) (input : List ℕ) (r : Result (Option (Header × ℕ)) ToolFault) (ahead : List ℕ) (left old : Option (List ℕ)) (held : List ℕ) (new : Option (List ℕ)) (now : List ℕ)
-    → now ≡ [] → Grows old new held → IfErr r (HasWord (codes "Read")) → FindsNext max input r ahead left → FindsHolding max input r ahead left old held new now
-finds_with max input (Ok (Some found)) ahead left old held new now none grows word finds = (finds, holds_none old held new now none grows)
-finds_with max input (Ok None) ahead left old held new now none grows word finds = (finds, grows)
-finds_with max input (Err fault) ahead left old held new now none grows word finds = inl (word, finds, grows)
-
--- A write stopped the call.
-pub write_stops : (max depth : ℕ) (input after line : List ℕ) (f : Frame) (fault : ToolFault) (left old : Option (List ℕ)) (held : List ℕ) (mid : Option (List ℕ)) (then : List ℕ)
-    (written : Option (List ℕ)) (now : List ℕ) → IsWrite fault → Begins max input f after → LeavesPart after left → LineOf depth f line → GrowsHolding old held mid then []
-    → GrowsByFront mid written (then ++ line) → ShowsNext max depth input (Err fault) left old held written now
-write_stops max depth input after line f (Refused words) left old held mid then written now word begins leaves shown holds front = absurd word
-write_stops max depth input after line f (Device given) left old held mid then written now word begins leaves shown holds front =
-    let P : List ℕ → Type 0 = λ o. GrowsByFront old written (o ++ line) in
-    inr (inr (word, f, after, line, begins, shown, leaves, subst P (append-nil held) (holding_front old held mid then written [] line holds front)))
-write_stops max depth input after line f Memory left old held mid then written now word begins leaves shown holds front = absurd word
-
 -- A write stopped the call at the message that is at the start.
-pub append_stops : (max depth : ℕ) (input ahead rest : List ℕ) (h : Header) (size : ℕ) (fault : ToolFault) (left old : Option (List ℕ)) (held : List ℕ) (mid : Option (List ℕ)) (then : List ℕ)
-    (written : Option (List ℕ)) (now : List ℕ) → input ≡ ahead ++ rest → left ≡ Some rest → IsFrontOf max ahead h size → IsWrite fault → GrowsHolding old held mid then []
-    → AppendsLine depth (record { header = h; text = take size (drop 14 ahead) }) (Err fault) mid then written now → ShowsNext max depth input (Err fault) left old held written now
-append_stops max depth input ahead rest h size fault left old held mid then written now parts is front word holds (line, shown, by_front) =
+pub append_stops : (max depth : ℕ) (input ahead rest : List ℕ) (h : Header) (size : ℕ) (left old : Option (List ℕ)) (held : List ℕ) (mid : Option (List ℕ)) (then : List ℕ)
+    (written : Option (List ℕ)) (now : List ℕ) (fault : Failed) → input ≡ ahead ++ rest → left ≡ Some rest → IsFrontOf max ahead h size → GrowsHolding old held mid then []
+    → AppendsLine depth (record { header = h; text = take size (drop 14 ahead) }) (Err fault) mid then written now → ShowsNext max depth input (Err Write) left old held written now
+append_stops max depth input ahead rest h size left old held mid then written now fault parts is front holds (line, shown, by_front) =
     let f : Frame = record { header = h; text = take size (drop 14 ahead) } in
     let after = drop (14 + size) ahead in
     let begun = begins_with max input ahead rest (take size (drop 14 ahead)) h size parts front refl in
-    write_stops max depth input (after ++ rest) line f fault left old held mid then written now word begun (after, rest, refl, is) shown holds by_front
+    let P : List ℕ → Type 0 = λ o. GrowsByFront old written (o ++ line) in
+    inr (f, after ++ rest, line, begun, shown, (after, rest, refl, is), subst P (append-nil held) (holding_front old held mid then written [] line holds by_front))
 
 -- The message that is at the start was shown.
 pub append_shows : (max depth : ℕ) (input ahead rest : List ℕ) (h : Header) (size : ℕ) (u : Unit {0}) (passed : List ℕ) (left old : Option (List ℕ)) (held : List ℕ) (mid : Option (List ℕ))
@@ -123,43 +100,11 @@ append_shows max depth input ahead rest h size u passed left old held mid then w
 
 -- There is one more message.
 pub one_more : (max : ℕ) (input ahead : List ℕ) (m : Header × ℕ) (left : Option (List ℕ)) → (rest : List ℕ) × (left ≡ Some rest) × (input ≡ ahead ++ rest)
-    → IsFrontOf max ahead m.0 m.1
-    → (codes "Endless" ≡ codes "Endless") × (f : Frame) × (after : List ℕ) × Begins max input f after × LeavesPart after left
+    → IsFrontOf max ahead m.0 m.1 → IsEnded max input (Ok false) left
 one_more max input ahead m left (rest, is, parts) front =
     let begins_so = begins_with max input ahead rest (take m.1 (drop 14 ahead)) m.0 m.1 parts front refl in
     let f : Frame = record { header = m.0; text = take m.1 (drop 14 ahead) } in
-    (refl, f, drop (14 + m.1) ahead ++ rest, begins_so, (drop (14 + m.1) ahead, rest, refl, is))
-
-pub no_more : (max : ℕ) (input : List ℕ) (fault : ToolFault) (left : Option (List ℕ)) → HasWord (codes "Read") fault → IsStopped max input fault left
-    → IsEnded max input (Err fault) left
-no_more max input (Refused words) left word reads = reads
-no_more max input (Device given) left word reads = inl (word, reads)
-no_more max input Memory left word reads = reads
-
-pub read_of_input : (fault : ToolFault) → HasWord (codes "Read") fault → IsOfInput fault
-read_of_input (Refused words) word = tt
-read_of_input (Device given) word = inl word
-read_of_input Memory word = tt
-
-differ : (given : List ℕ) → given ≡ codes "Read" → given ≢ codes "Write"
-differ given e w = let first : ◌≡◌ {A = ℕ} 82 87 = ap (λ xs. get_or xs 0 0) (sym e ∙ w) in absurd (omega arith)
-
-differ_too : (given : List ℕ) → given ≡ codes "Endless" → given ≢ codes "Write"
-differ_too given e w = let first : ◌≡◌ {A = ℕ} 69 87 = ap (λ xs. get_or xs 0 0) (sym e ∙ w) in absurd (omega arith)
-
--- An error of the input is not a failed write.
-pub input_is_no_write : (T : Type 0) (r : Result T ToolFault) (n : ℕ) → IfErr r IsOfInput → CountsFailure {T = T} (codes "Write") r n n
-input_is_no_write T (Ok x) n word = refl
-input_is_no_write T (Err (Refused words)) n word = refl
-input_is_no_write T (Err (Device given)) n (inl word) = inr (differ given.now word, refl)
-input_is_no_write T (Err (Device given)) n (inr word) = inr (differ_too given.now word, refl)
-input_is_no_write T (Err Memory) n word = refl
-
--- An error of a read is not a failed write.
-pub no_write : (T : Type 0) (fault : ToolFault) (n : ℕ) → HasWord (codes "Read") fault → CountsFailure {T = T} (codes "Write") (Err fault) n n
-no_write T (Refused words) n word = refl
-no_write T (Device given) n word = inr (differ given.now word, refl)
-no_write T Memory n word = refl
+    (f, drop (14 + m.1) ahead ++ rest, begins_so, (drop (14 + m.1) ahead, rest, refl, is))
 
 -- One more line.
 LinesOf-push : (depth : ℕ) (messages : List Frame) (lines line : List ℕ) (f : Frame) → LinesOf depth messages lines → LineOf depth f line
@@ -217,12 +162,12 @@ leaves_more : (rest more : List ℕ) (left : Option (List ℕ)) → LeavesPart r
 leaves_more rest more left (taken, after, parts, is) = (more ++ taken, after, ap (λ o. more ++ o) parts ∙ sym (append_assoc more taken after), is)
 
 -- The messages whose lines were written, and the one in whose line the write failed.
-split_shows : (max depth : ℕ) (input : List ℕ) (messages : List Frame) (lines rest word : List ℕ) (n : ℕ) (left old new : Option (List ℕ)) → word ≡ codes "Write"
+split_shows : (max depth : ℕ) (input : List ℕ) (messages : List Frame) (lines rest : List ℕ) (n : ℕ) (left old new : Option (List ℕ))
     → input ≡ octets_of messages ++ rest → length messages ≤ 4294967295 → LeavesPart rest left → IfRecorded old (λ octets. new ≡ Some (octets ++ take n lines))
     → Split max depth messages lines n
     → (before : List Frame) × (first subsequent : List ℕ) × (input ≡ octets_of before ++ subsequent) × All (IsWithin max) before × LinesOf depth before first × (length before ≤ 4294967295)
-    × StopsBy max depth (length before) subsequent first word left old new
-split_shows max depth input messages lines rest word n left old new is reads few leaves grows (before, f, after, first, line, k, parts, shown, last, less, taken, within, fits) =
+    × Stops {T = Unit {0}} max depth (length before) subsequent first (Err Write) left old new
+split_shows max depth input messages lines rest n left old new reads few leaves grows (before, f, after, first, line, k, parts, shown, last, less, taken, within, fits) =
     let subsequent : List ℕ = frame_octets f ++ (octets_of after ++ rest) in
     let octets : octets_of messages ≡ octets_of before ++ (frame_octets f ++ octets_of after) =
     ap octets_of parts ∙ flat_map-append frame_octets before (f ∷ after) ∙ ap (λ o. octets_of before ++ o) (flat_map-cons frame_octets f after) in (
@@ -234,8 +179,7 @@ split_shows max depth input messages lines rest word n left old new is reads few
       within,
       shown,
       omega (arith, few, ap length parts, length-append before (f ∷ after)),
-      inr (inl (
-        is,
+      (
         f,
         octets_of after ++ rest,
         line,
@@ -243,23 +187,23 @@ split_shows max depth input messages lines rest word n left old new is reads few
         last,
         leaves_more rest (octets_of after) left leaves,
         (λ octets known_input. (k, less, grows octets known_input ∙ ap Some (ap (λ o. octets ++ o) taken ∙ sym (append_assoc octets first (take k line))))),
-      )),
+      ),
     )
 
 abbrev ShownSoFar : ℕ → ℕ → List ℕ → List Frame → List ℕ → List ℕ → Type 0
 ShownSoFar max depth input messages lines rest =
     (length messages ≤ 4294967295) × All (IsWithin max) messages × LinesOf depth messages lines × (input ≡ octets_of messages ++ rest)
 
-fails_in : (w : Option (List ℕ)) (max depth : ℕ) (input : List ℕ) (messages : List Frame) (lines rest word : List ℕ) (left old new : Option (List ℕ)) → old ≡ w → word ≡ codes "Write"
+fails_in : (w : Option (List ℕ)) (max depth : ℕ) (input : List ℕ) (messages : List Frame) (lines rest : List ℕ) (left old new : Option (List ℕ)) → old ≡ w
     → ShownSoFar max depth input messages lines rest → LeavesPart rest left → 0 < length lines → GrowsByFront old new lines
     → (before : List Frame) × (first subsequent : List ℕ) × (input ≡ octets_of before ++ subsequent) × All (IsWithin max) before × LinesOf depth before first × (length before ≤ 4294967295)
-    × StopsBy max depth (length before) subsequent first word left old new
-fails_in None max depth input messages lines rest word left old new none is (few, within, shown, reads) leaves some front =
-    split_shows max depth input messages lines rest word 0 left old new is reads few leaves (λ octets known_input. let no : ◌≡◌ {A = Option (List ℕ)} None (Some octets) = sym none ∙ known_input in cc)
+    × Stops {T = Unit {0}} max depth (length before) subsequent first (Err Write) left old new
+fails_in None max depth input messages lines rest left old new none (few, within, shown, reads) leaves some front =
+    split_shows max depth input messages lines rest 0 left old new reads few leaves (λ octets known_input. let no : ◌≡◌ {A = Option (List ℕ)} None (Some octets) = sym none ∙ known_input in cc)
     (split max depth messages lines 0 some shown within)
-fails_in (Some m) max depth input messages lines rest word left old new known_so is (few, within, shown, reads) leaves some front =
+fails_in (Some m) max depth input messages lines rest left old new known_so (few, within, shown, reads) leaves some front =
     let f = front m known_so in
-    split_shows max depth input messages lines rest word f.0 left old new is reads few leaves
+    split_shows max depth input messages lines rest f.0 left old new reads few leaves
     (λ octets known_input. let same : m ≡ octets = (let both : ◌≡◌ {A = Option (List ℕ)} (Some m) (Some octets) = sym known_so ∙ known_input in cc) in f.2 ∙ ap (λ o. Some (o ++ take f.0 lines)) same)
     (split max depth messages lines f.0 f.1 shown within)
 
@@ -277,7 +221,7 @@ Begun max depth input count left old new held =
     × LinesOf depth messages lines × (input ≡ octets_of messages ++ rest) × (left ≡ Some rest) × GrowsHolding old [] new held lines
 
 -- The next message, of what is left.
-abbrev pub Next : ℕ → ℕ → Option (List ℕ) → Result Bool ToolFault → Option (List ℕ) → Option (List ℕ) → List ℕ → Option (List ℕ) → List ℕ → Type 0
+abbrev pub Next : ℕ → ℕ → Option (List ℕ) → Result Bool ShowError → Option (List ℕ) → Option (List ℕ) → List ℕ → Option (List ℕ) → List ℕ → Type 0
 Next max depth before result left old held new now = IfRecorded before (λ input. ShowsNext max depth input result left old held new now)
 
 pub begins : (max depth : ℕ) (input : List ℕ) (left written : Option (List ℕ)) (held : List ℕ) → held ≡ [] → left ≡ Some input → Begun max depth input 0 left written written held
@@ -318,12 +262,12 @@ ends max depth input count before left old mid held new now few (messages, lines
     (messages, lines, rest, reads, within, shown, omega arith, (n.0, n.1, holding_out old [] mid held new lines grows n.2))
 
 -- A write failed in the line that is appended.
-fails_as : (w : Option (List ℕ)) (max depth : ℕ) (input : List ℕ) (messages : List Frame) (lines rest after line word : List ℕ) (f : Frame) (left old new : Option (List ℕ)) → old ≡ w → word ≡ codes "Write" → length messages < 4294967295
+fails_as : (w : Option (List ℕ)) (max depth : ℕ) (input : List ℕ) (messages : List Frame) (lines rest after line : List ℕ) (f : Frame) (left old new : Option (List ℕ)) → old ≡ w → length messages < 4294967295
     → All (IsWithin max) messages → LinesOf depth messages lines → input ≡ octets_of messages ++ rest → Begins max rest f after → LineOf depth f line → LeavesPart after left
     → GrowsByFront old new (lines ++ line)
     → (before : List Frame) × (first subsequent : List ℕ) × (input ≡ octets_of before ++ subsequent) × All (IsWithin max) before × LinesOf depth before first × (length before ≤ 4294967295)
-    × StopsBy max depth (length before) subsequent first word left old new
-fails_as None max depth input messages lines rest after line word f left old new none is few within shown reads begun last leaves front = (
+    × Stops {T = Unit {0}} max depth (length before) subsequent first (Err Write) left old new
+fails_as None max depth input messages lines rest after line f left old new none few within shown reads begun last leaves front = (
   messages,
   lines,
   rest,
@@ -331,8 +275,7 @@ fails_as None max depth input messages lines rest after line word f left old new
   within,
   shown,
   omega (arith, few),
-  inr (inl (
-    is,
+  (
     f,
     after,
     line,
@@ -340,12 +283,12 @@ fails_as None max depth input messages lines rest after line word f left old new
     last,
     leaves,
     (λ octets known_input. let no : ◌≡◌ {A = Option (List ℕ)} None (Some octets) = sym none ∙ known_input in cc),
-  )),
+  ),
 )
-fails_as (Some m) max depth input messages lines rest after line word f left old new known_input is few within shown reads (parts, fits) last leaves front =
+fails_as (Some m) max depth input messages lines rest after line f left old new known_input few within shown reads (parts, fits) last leaves front =
     let octets : octets_of (messages ++ f ∷ []) ≡ octets_of messages ++ frame_octets f =
     flat_map-append frame_octets messages (f ∷ []) ∙ ap (λ x. octets_of messages ++ x) (append-nil (frame_octets f)) in
-    fails_in (Some m) max depth input (messages ++ f ∷ []) (lines ++ line) after word left old new known_input is (
+    fails_in (Some m) max depth input (messages ++ f ∷ []) (lines ++ line) after left old new known_input (
       omega (arith, length-append messages (f ∷ []), few),
       All-push (IsWithin max) messages f within fits,
       LinesOf-push depth messages lines line f shown last,
@@ -354,77 +297,76 @@ fails_as (Some m) max depth input messages lines rest after line word f left old
     leaves (let front_at = front m known_input in omega (arith, front_at.1)) front
 
 -- A write failed within what is buffered.
-put_fails : (max depth : ℕ) (input : List ℕ) (messages : List Frame) (lines rest word : List ℕ) (left old mid : Option (List ℕ)) (held : List ℕ) (new : Option (List ℕ)) → word ≡ codes "Write"
+put_fails : (max depth : ℕ) (input : List ℕ) (messages : List Frame) (lines rest : List ℕ) (left old mid : Option (List ℕ)) (held : List ℕ) (new : Option (List ℕ))
     → length messages ≤ 4294967295 → All (IsWithin max) messages → LinesOf depth messages lines → input ≡ octets_of messages ++ rest → LeavesPart rest left → 0 < length held
     → GrowsHolding old [] mid held lines → GrowsByFront mid new held
     → (before : List Frame) × (first subsequent : List ℕ) × (input ≡ octets_of before ++ subsequent) × All (IsWithin max) before × LinesOf depth before first × (length before ≤ 4294967295)
-    × StopsBy max depth (length before) subsequent first word left old new
-put_fails max depth input messages lines rest word left old mid held new is few within shown reads leaves some grows front =
+    × Stops {T = Unit {0}} max depth (length before) subsequent first (Err Write) left old new
+put_fails max depth input messages lines rest left old mid held new few within shown reads leaves some grows front =
     let P : List ℕ → Type 0 = λ o. GrowsByFront mid new o in
     let Q : List ℕ → Type 0 = λ o. GrowsByFront old new o in
     let size : length grows.0 + length held ≡ length lines = sym (length-append grows.0 held) ∙ ap length grows.1 in
-    fails_in old max depth input messages lines rest word left old new refl is (few, within, shown, reads) leaves (omega (arith, size, some))
+    fails_in old max depth input messages lines rest left old new refl (few, within, shown, reads) leaves (omega (arith, size, some))
     (subst Q (append-nil lines) (holding_front old [] mid held new lines [] grows (subst P (sym (append-nil held)) front)))
 
-pub stops : (max depth : ℕ) (input : List ℕ) (count : ℕ) (fault : ToolFault) (before left old mid : Option (List ℕ)) (held : List ℕ) (new : Option (List ℕ)) (now : List ℕ) → count < 4294967295
-    → Begun max depth input count before old mid held → Next max depth before (Err fault) left mid held new now
-    → Shows {T = Unit {0}} max depth input (Err fault) left old new
-stops max depth input count (Refused words) before left old mid held new now few (messages, lines, rest, size, within, shown, reads, known_input, grows) next =
-    let n = next rest known_input in
-    (messages, lines, rest, reads, within, shown, omega arith, (n.0, n.1, holding_out old [] mid held new lines grows n.2))
-stops max depth input count Memory before left old mid held new now few (messages, lines, rest, size, within, shown, reads, known_input, grows) next =
+pub stops : (max depth : ℕ) (input : List ℕ) (count : ℕ) (error : ShowError) (before left old mid : Option (List ℕ)) (held : List ℕ) (new : Option (List ℕ)) (now : List ℕ) → count < 4294967295
+    → Begun max depth input count before old mid held → Next max depth before (Err error) left mid held new now
+    → Shows {T = Unit {0}} max depth input (Err error) left old new
+stops max depth input count (Read fault) before left old mid held new now few (messages, lines, rest, size, within, shown, reads, known_input, grows) next =
     let n = next rest known_input in
     (messages, lines, rest, reads, within, shown, omega arith, (n.0, holding_out old [] mid held new lines grows n.1))
-stops max depth input count (Device word) before left old mid held new now few (messages, lines, rest, size, within, shown, reads, known_input, grows) next =
+stops max depth input count Write before left old mid held new now few (messages, lines, rest, size, within, shown, reads, known_input, grows) next =
     elim (next rest known_input) [
-      | inl n ↦ (messages, lines, rest, reads, within, shown, omega arith, inl (n.0, n.1, holding_out old [] mid held new lines grows n.2))
-      | inr (inl n) ↦ put_fails max depth input messages lines rest word.now left old mid held new n.0 (omega (arith, few, size)) within shown reads n.1 n.2 grows n.3
-      | inr (inr n) ↦
-          fails_as old max depth input messages lines rest n.2 n.3 word.now n.1 left old new refl n.0 (omega (arith, few, size)) within shown reads n.4 n.5 n.6
-          (holding_front old [] mid held new lines n.3 grows n.7)
+      | inl n ↦ put_fails max depth input messages lines rest left old mid held new (omega (arith, few, size)) within shown reads n.0 n.1 grows n.2
+      | inr n ↦
+          fails_as old max depth input messages lines rest n.1 n.2 n.0 left old new refl (omega (arith, few, size)) within shown reads n.3 n.4 n.5
+          (holding_front old [] mid held new lines n.2 grows n.6)
     ]
+stops max depth input count (NoHex line) before left old mid held new now few (messages, lines, rest, size, within, shown, reads, known_input, grows) next = absurd (next rest known_input)
+stops max depth input count (NoMessage line) before left old mid held new now few (messages, lines, rest, size, within, shown, reads, known_input, grows) next = absurd (next rest known_input)
+stops max depth input count Endless before left old mid held new now few (messages, lines, rest, size, within, shown, reads, known_input, grows) next = absurd (next rest known_input)
 
 -- An allocation fails before the first message.
-pub none_begun : (max depth : ℕ) (input : List ℕ) (left written : Option (List ℕ)) → left ≡ Some input → Shows {T = Unit {0}} max depth input (Err Memory) left written written
+pub none_begun : (max depth : ℕ) (input : List ℕ) (left written : Option (List ℕ)) → left ≡ Some input → Shows {T = Unit {0}} max depth input (Err (Read read.Memory)) left written written
 none_begun max depth input left written known_input =
-    stops max depth input 0 Memory left left written written [] written [] (omega arith) (begins max depth input left written [] refl known_input) (λ rest is. (all_left rest left is, (λ octets same. same ∙ ap Some (sym (append-nil octets)))))
+    stops max depth input 0 (Read read.Memory) left left written written [] written [] (omega arith) (begins max depth input left written [] refl known_input) (λ rest is. (all_left rest left is, (λ octets same. same ∙ ap Some (sym (append-nil octets)))))
 
 -- What was read ahead is consumed.
 leaves_after : (ahead rest : List ℕ) (left : Option (List ℕ)) → subsequent ahead left ≡ Some rest → LeavesPart rest left
 leaves_after ahead rest None is = cc
 leaves_after ahead rest (Some others) is = let same : ahead ++ others ≡ rest = cc in (ahead, others, sym same, refl)
 
--- The maximum number of messages.
-pub stops_full : (max depth : ℕ) (input : List ℕ) (count : ℕ) (r : Result (Unit {0}) ToolFault) (before left old mid : Option (List ℕ)) (held : List ℕ) (new : Option (List ℕ)) → count ≡ 4294967295
-    → Begun max depth input count before old mid held → Grows mid new held → IfRecorded before (λ rest. IsEnded max rest r left)
-    → Shows {T = Unit {0}} max depth input r left old new
-stops_full max depth input count (Ok _) before left old mid held new full (messages, lines, rest, size, within, shown, reads, known_input, holds) out end =
-    let e = end rest known_input in
-    (messages, lines, rest, reads, within, shown, omega arith, (e.0, e.1, holding_out old [] mid held new lines holds out))
-stops_full max depth input count (Err (Refused words)) before left old mid held new full (messages, lines, rest, size, within, shown, reads, known_input, holds) out end =
-    let e = end rest known_input in
-    (messages, lines, rest, reads, within, shown, omega arith, (e.0, e.1, holding_out old [] mid held new lines holds out))
-stops_full max depth input count (Err Memory) before left old mid held new full (messages, lines, rest, size, within, shown, reads, known_input, holds) out end =
-    (messages, lines, rest, reads, within, shown, omega arith, (end rest known_input, holding_out old [] mid held new lines holds out))
-stops_full max depth input count (Err (Device word)) before left old mid held new full (messages, lines, rest, size, within, shown, reads, known_input, holds) out end = (
-  messages,
-  lines,
-  rest,
-  reads,
-  within,
-  shown,
-  omega arith,
-  elim (end rest known_input) [
-    | inl e ↦ inl (e.0, e.1, holding_out old [] mid held new lines holds out)
-    | inr e ↦ inr (inr (e.0, omega arith, e.1, e.2, e.3, e.4, holding_out old [] mid held new lines holds out))
-  ],
-)
+-- The maximum number of messages was shown, and the run ends.
+stops_full : (max depth : ℕ) (input : List ℕ) (count : ℕ) (result : Result (Unit {0}) ShowError) (before left old mid : Option (List ℕ)) (held : List ℕ) (new : Option (List ℕ)) → count ≡ 4294967295
+    → Begun max depth input count before old mid held → Grows mid new held
+    → ((rest lines : List ℕ) → before ≡ Some rest → Grows old new lines → Stops max depth 4294967295 rest lines result left old new)
+    → Shows max depth input result left old new
+stops_full max depth input count result before left old mid held new full (messages, lines, rest, size, within, shown, reads, known_input, holds) out end =
+    let P : ℕ → Type 0 = λ n. Stops max depth n rest lines result left old new in
+    (messages, lines, rest, reads, within, shown, omega (arith, full, size), subst P (sym (size ∙ full)) (end rest lines known_input (holding_out old [] mid held new lines holds out)))
+
+pub full_end : (max depth : ℕ) (input : List ℕ) (count : ℕ) (before left old mid : Option (List ℕ)) (held : List ℕ) (new : Option (List ℕ)) → count ≡ 4294967295
+    → Begun max depth input count before old mid held → Grows mid new held → IfRecorded before (λ rest. IsEnded max rest (Ok true) left)
+    → Shows {T = Unit {0}} max depth input (Ok tt) left old new
+full_end max depth input count before left old mid held new full begun out end =
+    stops_full max depth input count (Ok tt) before left old mid held new full begun out (λ rest lines is grows. let e = end rest is in (e.0, e.1, grows))
+
+pub full_stop : (max depth : ℕ) (input : List ℕ) (count : ℕ) (fault : ReadFault) (before left old mid : Option (List ℕ)) (held : List ℕ) (new : Option (List ℕ)) → count ≡ 4294967295
+    → Begun max depth input count before old mid held → Grows mid new held → IfRecorded before (λ rest. IsEnded max rest (Err fault) left)
+    → Shows {T = Unit {0}} max depth input (Err (Read fault)) left old new
+full_stop max depth input count fault before left old mid held new full begun out end =
+    stops_full max depth input count (Err (Read fault)) before left old mid held new full begun out (λ rest lines is grows. (end rest is, grows))
+
+pub full_more : (max depth : ℕ) (input : List ℕ) (count : ℕ) (before left old mid : Option (List ℕ)) (held : List ℕ) (new : Option (List ℕ)) → count ≡ 4294967295
+    → Begun max depth input count before old mid held → Grows mid new held → IfRecorded before (λ rest. IsEnded max rest (Ok false) left)
+    → Shows {T = Unit {0}} max depth input (Err Endless) left old new
+full_more max depth input count before left old mid held new full begun out end =
+    stops_full max depth input count (Err Endless) before left old mid held new full begun out
+    (λ rest lines is grows. let e = end rest is in (refl, e.0, e.1, e.2, e.3, grows))
 
 -- A write failed after the maximum number of messages was shown.
-pub stops_full_unwritten : (max depth : ℕ) (input : List ℕ) (count : ℕ) (fault : ToolFault) (before left old mid : Option (List ℕ)) (held : List ℕ) (new : Option (List ℕ)) (ahead : List ℕ)
-    → count ≡ 4294967295 → before ≡ subsequent ahead left → Begun max depth input count before old mid held → IsWrite fault → 0 < length held → GrowsByFront mid new held
-    → Shows {T = Unit {0}} max depth input (Err fault) left old new
-stops_full_unwritten max depth input count (Refused words) before left old mid held new ahead full is begun word some front = absurd word
-stops_full_unwritten max depth input count Memory before left old mid held new ahead full is begun word some front = absurd word
-stops_full_unwritten max depth input count (Device word) before left old mid held new ahead full is (messages, lines, rest, size, within, shown, reads, known_input, grows) write some front =
-    put_fails max depth input messages lines rest word.now left old mid held new write (omega (arith, full, size)) within shown reads (leaves_after ahead rest left (sym is ∙ known_input)) some grows front
+pub stops_full_unwritten : (max depth : ℕ) (input : List ℕ) (count : ℕ) (left old mid : Option (List ℕ)) (held : List ℕ) (new : Option (List ℕ)) (ahead : List ℕ)
+    → count ≡ 4294967295 → Begun max depth input count (subsequent ahead left) old mid held → 0 < length held → GrowsByFront mid new held
+    → Shows {T = Unit {0}} max depth input (Err Write) left old new
+stops_full_unwritten max depth input count left old mid held new ahead full (messages, lines, rest, size, within, shown, reads, known_input, grows) some front =
+    put_fails max depth input messages lines rest left old mid held new (omega (arith, full, size)) within shown reads (leaves_after ahead rest left known_input) some grows front

@@ -1,3 +1,4 @@
 pub mod ReadAhead
 pub mod Show
+pub mod ShowErrors
 pub mod ShowHex

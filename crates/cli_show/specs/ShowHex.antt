@@ -1,18 +1,20 @@
 -- What `hsms show --hex` writes for an input: lines of hexadecimal, each of which is a message.
-use Rattle.std.specs.Prelude.{◌≡◌, ◌≢◌, ◌<◌, ◌≤◌, ◌+◌, ◌*◌, ◌⊎◌, ◌==◌, ◌||◌, ◌++◌, ℕ, Bool, true, false, List, [], ◌∷◌, length, take, slice_index, codes, decimal, string_bytes, if◌then◌else◌, Option, Some, None, Result, Ok, Err}
+use Rattle.std.specs.Prelude.{◌≡◌, ◌≢◌, ◌<◌, ◌≤◌, ◌+◌, ◌*◌, ◌⊎◌, ◌==◌, ◌||◌, ◌++◌, ℕ, Bool, true, false, List, [], ◌∷◌, length, take, slice_index, if◌then◌else◌, Option, Some, None, Result, Ok, Err}
 use Rattle.std.specs.List.{flat_map}
 use Rattle.std.specs.Str.Lines.{strip_carriage_return}
 use Rattle.hex.specs.Hex.{hex_digit_value}
+use Rattle.hsms_frame.specs.declared.fault.ReadFault.{ReadFault}
+use Rattle.hsms_frame.specs.declared.fault.ReadFault.TheVariants as read
 use Rattle.hsms_frame.specs.Io.{Grows, GrowsByFront}
 use Rattle.hsms_frame.specs.Frame.{Frame, frame_octets}
 use Rattle.hsms_frame.specs.Header.{header_octets}
 use Rattle.hsms_log.specs.Lines.{HasNone}
-use Rattle.cli_options.specs.declared.fault.ToolFault.{ToolFault}
-use Rattle.cli_options.specs.declared.fault.ToolFault.TheVariants.{Refused, Device, Memory}
 use Rattle.cli_output.specs.LineBuffer.{GrowsHolding}
 use Rattle.cli_output.specs.Line.{LineOf}
-use Rattle.cli_output.specs.IoErrors.{IsWrite, LeavesPart}
+use Rattle.cli_output.specs.IoErrors.{LeavesPart}
 use Rattle.cli_show.specs.Show.{IsWithin}
+use Rattle.cli_show.specs.declared.show_error.ShowError.{ShowError}
+use Rattle.cli_show.specs.declared.show_error.ShowError.TheVariants.{Read, NoHex, NoMessage, Write, Endless}
 use Rattle.cli_show.specs.declared.hex_lines.LineEnd.{LineEnd}
 use Rattle.cli_show.specs.declared.hex_lines.LineEnd.TheVariants.{Feed, Open, TooFar}
 
@@ -77,16 +79,15 @@ ShowsLine bare max depth line shown =
 abbrev pub IsNoMessage : Bool → ℕ → List ℕ → Type 0
 IsNoMessage bare max octets = (octets ≢ []) × ((f : Frame) → IsMessageOf bare max octets f → ⊥)
 
--- The text for an invalid line.
-abbrev pub at_line : List ℕ → ℕ → List ℕ
-at_line word number = word ++ codes " line=" ++ decimal number
+-- Holds if this is the error for the bytes of the line with this number, which are not a message.
+abbrev pub IsNotMessage : Bool → ℕ → ℕ → List ℕ → ShowError → Type 0
+IsNotMessage bare max number octets error = IsNoMessage bare max octets × (error ≡ NoMessage number)
 
--- The text for why a line is invalid: it has no valid bytes, or they are not a message.
-abbrev pub IsRefusedLine : Bool → ℕ → ℕ → List ℕ → List ℕ → Type 0
-IsRefusedLine bare max number line words =
-    ((octets_of_line line ≡ None) × (words ≡ at_line (codes "NoHex") number))
-    ⊎ ((octets : List ℕ) × (octets_of_line line ≡ Some octets) × IsNoMessage bare max octets
-    × (words ≡ at_line (codes "NoMessage") number))
+-- Holds if this is the error for an invalid line: it has no valid bytes, or they are not a message.
+abbrev pub IsRefusedLine : Bool → ℕ → ℕ → List ℕ → ShowError → Type 0
+IsRefusedLine bare max number line error =
+    ((octets_of_line line ≡ None) × (error ≡ NoHex number))
+    ⊎ ((octets : List ℕ) × (octets_of_line line ≡ Some octets) × IsNotMessage bare max number octets error)
 
 -- ---- the lines of an input
 
@@ -113,11 +114,11 @@ BeginsWithLine max input line = IsLine max line × ((input ≡ line) ⊎ ((after
 abbrev pub IsTooFar : ℕ → List ℕ → Type 0
 IsTooFar max input = (front after : List ℕ) × (input ≡ front ++ after) × HasNone 10 front × (line_limit max < length front)
 
--- The text for why an input is invalid at its first line, which has this number.
-abbrev pub IsRefusedAt : Bool → ℕ → ℕ → List ℕ → List ℕ → Type 0
-IsRefusedAt bare max number input words =
-    ((line : List ℕ) × BeginsWithLine max input line × IsRefusedLine bare max number line words)
-    ⊎ (IsTooFar max input × (words ≡ at_line (codes "NoMessage") number))
+-- Why an input is invalid at its first line, which has this number.
+abbrev pub IsRefusedAt : Bool → ℕ → ℕ → List ℕ → ShowError → Type 0
+IsRefusedAt bare max number input error =
+    ((line : List ℕ) × BeginsWithLine max input line × IsRefusedLine bare max number line error)
+    ⊎ (IsTooFar max input × (error ≡ NoMessage number))
 
 -- Holds if a prefix of the input was consumed, in which no line ends and which is not too long for one.
 abbrev pub StopsInLine : ℕ → List ℕ → Option (List ℕ) → Type 0
@@ -131,22 +132,22 @@ MayShow bare max depth input more =
 -- The results after some lines were passed. The next line has this number, `rest` is what follows in the input, and
 -- `shown` is what is shown of the passed lines. Each has what is left of the input, and what was written before and is
 -- now. After success, `rest` is the last line, which may be empty.
-abbrev pub StopsAt : {T : Type 0} → Bool → ℕ → ℕ → ℕ → List ℕ → List ℕ → Result T ToolFault → Option (List ℕ)
+abbrev pub StopsAt : {T : Type 0} → Bool → ℕ → ℕ → ℕ → List ℕ → List ℕ → Result T ShowError → Option (List ℕ)
     → Option (List ℕ) → Option (List ℕ) → Type 0
 StopsAt bare max depth number rest shown (Ok _) left old new =
     (last : List ℕ) × IsLine max rest × ShowsLine bare max depth rest last × (left ≡ Some []) × Grows old new (shown ++ last)
-StopsAt bare max depth number rest shown (Err (Refused words)) left old new =
-    IsRefusedAt bare max number rest (string_bytes words) × LeavesPart rest left × Grows old new shown
-StopsAt bare max depth number rest shown (Err (Device word)) left old new =
-    ((word.now ≡ codes "Read") × StopsInLine max rest left × Grows old new shown)
-    ⊎ ((word.now ≡ codes "Write") × LeavesPart rest left
-    × (more : List ℕ) × MayShow bare max depth rest more × GrowsByFront old new (shown ++ more))
-    ⊎ ((word.now ≡ codes "Endless") × (number ≡ 4294967296) × (rest ≢ []) × LeavesPart rest left × Grows old new shown)
-StopsAt bare max depth number rest shown (Err Memory) left old new = LeavesPart rest left × Grows old new shown
+StopsAt bare max depth number rest shown (Err (Read read.Read)) left old new = StopsInLine max rest left × Grows old new shown
+StopsAt bare max depth number rest shown (Err (Read read.Memory)) left old new = LeavesPart rest left × Grows old new shown
+StopsAt bare max depth number rest shown (Err Write) left old new =
+    LeavesPart rest left × (more : List ℕ) × MayShow bare max depth rest more × GrowsByFront old new (shown ++ more)
+StopsAt bare max depth number rest shown (Err Endless) left old new =
+    (number ≡ 4294967296) × (rest ≢ []) × LeavesPart rest left × Grows old new shown
+StopsAt bare max depth number rest shown (Err error) left old new =
+    IsRefusedAt bare max number rest error × LeavesPart rest left × Grows old new shown
 
 -- Holds if the input starts with some lines, and what is shown of them was appended to the earlier output, up to where
 -- the run stopped.
-abbrev pub ShowsHex : {T : Type 0} → Bool → ℕ → ℕ → List ℕ → Result T ToolFault → Option (List ℕ) → Option (List ℕ) → Option (List ℕ)
+abbrev pub ShowsHex : {T : Type 0} → Bool → ℕ → ℕ → List ℕ → Result T ShowError → Option (List ℕ) → Option (List ℕ) → Option (List ℕ)
     → Type 0
 ShowsHex bare max depth input result left old new =
     (lines : List (List ℕ)) × (shown rest : List ℕ) × (input ≡ ended lines ++ rest) × ShowsLines bare max depth lines shown
@@ -172,65 +173,45 @@ is_open Open = true
 is_open TooFar = false
 
 -- Holds if the next line of an input ends in what was read ahead, or the input ends if the line has no end there.
-abbrev pub FindsEnd : ℕ → List ℕ → Result LineEnd ToolFault → List ℕ → Option (List ℕ) → Type 0
+abbrev pub FindsEnd : ℕ → List ℕ → Result LineEnd ReadFault → List ℕ → Option (List ℕ) → Type 0
 FindsEnd max input (Ok end) ahead left =
     (rest : List ℕ) × (left ≡ Some rest) × (input ≡ ahead ++ rest) × EndsAt max ahead end × (end ≡ Open → rest ≡ [])
-FindsEnd max input (Err (Refused words)) ahead left = ⊥
-FindsEnd max input (Err (Device word)) ahead left = (word.now ≡ codes "Read") × StopsInLine max input left
-FindsEnd max input (Err Memory) ahead left = LeavesPart input left
+FindsEnd max input (Err read.Read) ahead left = StopsInLine max input left
+FindsEnd max input (Err read.Memory) ahead left = LeavesPart input left
+FindsEnd max input (Err fault) ahead left = ⊥
 
 -- Holds if the next line's end is searched for while bytes are buffered before a sink.
-abbrev pub FindsEndHolding : ℕ → List ℕ → Result LineEnd ToolFault → List ℕ → Option (List ℕ) → Option (List ℕ) → List ℕ
+abbrev pub FindsEndHolding : ℕ → List ℕ → Result LineEnd ShowError → List ℕ → Option (List ℕ) → Option (List ℕ) → List ℕ
     → Option (List ℕ) → List ℕ → Type 0
 FindsEndHolding max input (Ok end) ahead left old held new now =
     FindsEnd max input (Ok end) ahead left × GrowsHolding old held new now []
-FindsEndHolding max input (Err (Refused words)) ahead left old held new now = ⊥
-FindsEndHolding max input (Err (Device word)) ahead left old held new now =
-    ((word.now ≡ codes "Read") × StopsInLine max input left × Grows old new held)
-    ⊎ ((word.now ≡ codes "Write") × LeavesPart input left × GrowsByFront old new held)
-FindsEndHolding max input (Err Memory) ahead left old held new now = LeavesPart input left × Grows old new held
+FindsEndHolding max input (Err (Read fault)) ahead left old held new now = FindsEnd max input (Err fault) ahead left × Grows old new held
+FindsEndHolding max input (Err Write) ahead left old held new now = LeavesPart input left × GrowsByFront old new held
+FindsEndHolding max input (Err error) ahead left old held new now = ⊥
 
--- Holds if a line has no valid bytes, or an allocation failed.
-abbrev pub IsNoHex : ℕ → List ℕ → ToolFault → Type 0
-IsNoHex number line (Refused words) = (octets_of_line line ≡ None) × (string_bytes words ≡ at_line (codes "NoHex") number)
-IsNoHex number line (Device word) = ⊥
-IsNoHex number line Memory = Unit {0}
+-- Holds if nothing is left, or for why that is unknown: the input continues (false), or reading stopped.
+abbrev pub IsAllRead : List ℕ → Result Bool ReadFault → Option (List ℕ) → Type 0
+IsAllRead input (Ok true) left = (input ≡ []) × (left ≡ Some [])
+IsAllRead input (Ok false) left = (input ≢ []) × LeavesPart input left
+IsAllRead input (Err read.Read) left = left ≡ Some input
+IsAllRead input (Err read.Memory) left = LeavesPart input left
+IsAllRead input (Err fault) left = ⊥
 
--- Holds for an error that is not an I/O error.
-abbrev pub IsNoDevice : ToolFault → Type 0
-IsNoDevice (Refused words) = Unit {0}
-IsNoDevice (Device word) = ⊥
-IsNoDevice Memory = Unit {0}
-
--- Holds if the buffer is written and the error is unchanged, or a write failed.
-abbrev pub IsStoppedBy : ToolFault → ToolFault → Option (List ℕ) → List ℕ → Option (List ℕ) → Type 0
-IsStoppedBy fault result old held new = ((result ≡ fault) × Grows old new held) ⊎ (IsWrite result × GrowsByFront old new held)
-
--- Holds if nothing is left, or for why that is unknown: the input continues, or reading stopped.
-abbrev pub IsAllRead : List ℕ → Result (Unit {0}) ToolFault → Option (List ℕ) → Type 0
-IsAllRead input (Ok _) left = (input ≡ []) × (left ≡ Some [])
-IsAllRead input (Err (Refused words)) left = ⊥
-IsAllRead input (Err (Device word)) left =
-    ((word.now ≡ codes "Read") × (left ≡ Some input)) ⊎ ((word.now ≡ codes "Endless") × (input ≢ []) × LeavesPart input left)
-IsAllRead input (Err Memory) left = LeavesPart input left
-
--- Holds if what is shown of a line was appended to the buffer; or the buffer was written and the line is invalid, or an
--- allocation failed; or a write failed within the buffer and what is shown.
-abbrev pub AppendsShown : (List ℕ → Type 0) → (List ℕ → Type 0) → Result (Unit {0}) ToolFault → Option (List ℕ) → List ℕ
+-- Holds if what is shown of a line was appended to the buffer; or a write failed within the buffer and what is shown;
+-- or the buffer was written and an allocation failed, or the line is invalid.
+abbrev pub AppendsShown : (List ℕ → Type 0) → (ShowError → Type 0) → Result (Unit {0}) ShowError → Option (List ℕ) → List ℕ
     → Option (List ℕ) → List ℕ → Type 0
 AppendsShown Shown IsWhy (Ok _) old held new now = (shown : List ℕ) × Shown shown × GrowsHolding old held new now shown
-AppendsShown Shown IsWhy (Err (Refused words)) old held new now = IsWhy (string_bytes words) × Grows old new held
-AppendsShown Shown IsWhy (Err (Device word)) old held new now =
-    (word.now ≡ codes "Write") × (more : List ℕ) × ((more ≡ []) ⊎ Shown more) × GrowsByFront old new (held ++ more)
-AppendsShown Shown IsWhy (Err Memory) old held new now = Grows old new held
+AppendsShown Shown IsWhy (Err Write) old held new now =
+    (more : List ℕ) × ((more ≡ []) ⊎ Shown more) × GrowsByFront old new (held ++ more)
+AppendsShown Shown IsWhy (Err (Read read.Memory)) old held new now = Grows old new held
+AppendsShown Shown IsWhy (Err error) old held new now = IsWhy error × Grows old new held
 
 -- Holds if one line is read and what is shown of it is appended to the buffer, or the run stops.
-abbrev pub ShowsNextLine : Bool → ℕ → ℕ → ℕ → List ℕ → Result Bool ToolFault → Option (List ℕ) → Option (List ℕ) → List ℕ
+abbrev pub ShowsNextLine : Bool → ℕ → ℕ → ℕ → List ℕ → Result Bool ShowError → Option (List ℕ) → Option (List ℕ) → List ℕ
     → Option (List ℕ) → List ℕ → Type 0
 ShowsNextLine bare max depth number input (Ok true) left old held new now =
     (line after shown : List ℕ) × (input ≡ line ++ 10 ∷ after) × IsLine max line × ShowsLine bare max depth line shown
     × (left ≡ Some after) × GrowsHolding old held new now shown
-ShowsNextLine bare max depth number input (Ok false) left old held new now =
-    StopsAt {T = Bool} bare max depth number input held (Ok false) left old new
-ShowsNextLine bare max depth number input (Err fault) left old held new now =
-    StopsAt {T = Bool} bare max depth number input held (Err fault) left old new
+ShowsNextLine bare max depth number input result left old held new now =
+    StopsAt bare max depth number input held result left old new

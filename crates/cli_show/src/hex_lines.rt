@@ -1,16 +1,16 @@
 //! The lines of an input that is read ahead.
 
-ghost use Rattle.std.specs.Prelude.{◌≡◌, ◌≤◌, ◌<◌, ◌++◌, [], IfOk, IfErr, codes, length, slice_index, take, if◌then◌else◌};
+ghost use Rattle.std.specs.Prelude.{◌≡◌, ◌≤◌, ◌<◌, ◌++◌, [], IfOk, length, slice_index, take, if◌then◌else◌};
 ghost use Rattle.hsms_frame.specs.CallCounts.{next_count};
 ghost use Rattle.hsms_frame.specs.Io.{IfRecorded};
 ghost use Rattle.hsms_log.specs.Lines.{HasNone};
-ghost use Rattle.cli_output.specs.IoErrors.{CountsFailure, HasWord, IsReadOrWrite};
+ghost use Rattle.cli_show.specs.ShowErrors.{failures_after, reads_after, writes_after};
 ghost use Rattle.cli_show.specs.ShowHex.{EndsAt, FindsEnd, FindsEndHolding, IsPlaced, is_open};
 
 use crate::next_frame::read_more;
-use cli_options::ToolFault;
+use crate::show_error::ShowError;
 use cli_output::put_out;
-use hsms_frame::{Ahead, Sink, Source};
+use hsms_frame::{Ahead, ReadFault, Sink, Source};
 use memchr::memchr;
 use secs_text::Block;
 
@@ -33,21 +33,20 @@ pub fn next_end<R: Source, W: Sink>(
     ahead: &mut Ahead,
     held: &mut Block,
     max: u32,
-) -> Result<LineEnd, ToolFault>
+) -> Result<LineEnd, ShowError>
     ensures end { IfRecorded (R.state source.old).left (λ rest. FindsEndHolding max (ahead.old ++ rest) result ahead.new
         (R.state source.new).left (W.state sink.old).written held.old (W.state sink.new).written held.new) }
     ensures placed { IfOk result (IsPlaced max ahead.new) }
     ensures ends { IfOk result (λ end. (R.state source.new).ends
         ≡ (if is_open end then next_count (R.state source.old).ends else (R.state source.old).ends)) }
-    ensures word { IfErr result IsReadOrWrite }
-    ensures reads { CountsFailure (codes "Read") result (R.state source.old).failures (R.state source.new).failures }
-    ensures writes { CountsFailure (codes "Write") result (W.state sink.old).failures (W.state sink.new).failures }
+    ensures reads { (R.state source.new).failures ≡ reads_after result (R.state source.old).failures }
+    ensures writes { (W.state sink.new).failures ≡ writes_after result (W.state sink.old).failures }
 {
     match end_in(ahead.as_slice(), 0, max) {
-        LineEnd::Open => match put_out(sink, held) {
-            Ok(()) => read_to_end(source, ahead, held, max),
-            Err(fault) => Err(fault),
-        },
+        LineEnd::Open => {
+            put_out(sink, held)?;
+            Ok(read_to_end(source, ahead, held, max)?)
+        }
         LineEnd::Feed(place) => Ok(LineEnd::Feed(place)),
         LineEnd::TooFar => Ok(LineEnd::TooFar),
     }
@@ -60,15 +59,14 @@ fn read_to_end<R: Source>(
     ahead: &mut Ahead,
     held: &Block,
     max: u32,
-) -> Result<LineEnd, ToolFault>
+) -> Result<LineEnd, ReadFault>
     requires { held.now ≡ [] }
     ensures end { IfRecorded (R.state source.old).left
         (λ rest. FindsEnd max (ahead.old ++ rest) result ahead.new (R.state source.new).left) }
     ensures placed { IfOk result (IsPlaced max ahead.new) }
     ensures ends { IfOk result (λ end. (R.state source.new).ends
         ≡ (if is_open end then next_count (R.state source.old).ends else (R.state source.old).ends)) }
-    ensures word { IfErr result (HasWord (codes "Read")) }
-    ensures reads { CountsFailure (codes "Read") result (R.state source.old).failures (R.state source.new).failures }
+    ensures reads { (R.state source.new).failures ≡ failures_after result (R.state source.old).failures }
 {
     let mut end = end_in(ahead.as_slice(), 0, max);
     while is_to_be_read(end) {

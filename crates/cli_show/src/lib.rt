@@ -8,8 +8,10 @@
 mod hex_lines;
 mod hex_message;
 mod next_frame;
+mod show_error;
 mod showing;
 mod showing_hex;
 
+pub use show_error::ShowError;
 pub use showing::show;
 pub use showing_hex::show_hex;

@@ -1,22 +1,22 @@
 //! `hsms show --hex`: messages in lines of hexadecimal, as lines.
 
-ghost use Rattle.std.specs.Prelude.{◌≡◌, ◌≤◌, ◌++◌, [], Bool, Err, Some, IfOk, IfErr, OnOk, codes, if◌then◌else◌};
+ghost use Rattle.std.specs.Prelude.{◌≡◌, ◌≤◌, ◌++◌, ℕ, [], Ok, true, IfOk, OnOk, if◌then◌else◌, option_map};
 ghost use Rattle.hsms_frame.specs.CallCounts.{next_count};
 ghost use Rattle.hsms_frame.specs.Io.{IfRecorded};
 ghost use Rattle.cli_options.specs.Request.{is_bare};
-ghost use Rattle.cli_options.specs.Status.{IsRefusedAs};
 ghost use Rattle.cli_show.specs.ReadAhead.{left_after};
-ghost use Rattle.cli_output.specs.IoErrors.{CountsFailure, HasWord, IsOfInput, IsReadOrWrite, IsReadWriteOrEndless};
-ghost use Rattle.cli_show.specs.ShowHex.{IsAllRead, IsNoDevice, IsNoHex, IsNoMessage, IsRefusedLine, IsStoppedBy, AppendsShown, ShowsHex, ShowsLine, ShowsNextLine, ShowsOctets, at_line, octets_of_line};
+ghost use Rattle.cli_show.specs.ShowErrors.{failures_after, reads_after, writes_after};
+ghost use Rattle.cli_show.specs.ShowHex.{AppendsShown, IsAllRead, IsNotMessage, IsRefusedLine, ShowsHex, ShowsLine, ShowsNextLine, ShowsOctets, octets_of_line};
 
 use crate::hex_lines::{LineEnd, next_end};
 use crate::hex_message::{message_of, octets_in};
 use crate::next_frame::read_more;
-use cli_options::{Showing, ToolFault, refusal};
+use crate::show_error::ShowError;
+use cli_options::Showing;
 use cli_output::{append_line, put_out};
-use hsms_frame::{Ahead, Sink, Source};
+use hsms_frame::{Ahead, ReadFault, Sink, Source};
 use secs_text::Block;
-use std::alloc::Global;
+use std::alloc::{AllocError, Global};
 
 /// Writes the line of each message of the input, in order, up to the end of the input or the first error. Each line of
 /// the input is one message in hexadecimal digits of either case, or nothing.
@@ -28,27 +28,26 @@ use std::alloc::Global;
 ///
 /// # Errors
 ///
-/// - `Refused`, if a line has no valid bytes (`NoHex`), or its bytes are not exactly one message within `max`, or it is
-///   too long (`NoMessage`), with the number of the line, counted from 1. The lines of the messages before are written.
-/// - `Device`: `Read` or `Write`, if a read or write failed in this call. `Endless`, if 4,294,967,295 lines are passed
-///   and the input continues. After a failed write a part of the next line may be written. After a failed read all
-///   messages whose lines were read completely are shown.
-/// - `Memory`. The lines of the messages before are written.
+/// - `NoHex`, if a line has no valid bytes. `NoMessage`, if its bytes are not exactly one message within `max`, or it is
+///   too long. Both have the number of the line, counted from 1. The lines of the messages before are written.
+/// - `Read`: `Read`, if a read failed in this call, or `Memory`. All messages whose lines were read completely are
+///   shown after a failed read.
+/// - `Write`, if a write failed in this call. A part of the next line may be written.
+/// - `Endless`, if 4,294,967,295 lines are passed and the input continues.
 pub fn show_hex<R: Source, W: Sink>(
     alloc: Global,
     source: &mut R,
     sink: &mut W,
     showing: Showing,
-) -> Result<(), ToolFault>
+) -> Result<(), ShowError>
     requires { showing.depth ≤ 100 }
     ensures lines { IfRecorded (R.state source.old).left
         (λ input. ShowsHex (is_bare showing.form) showing.max showing.depth input result
         (R.state source.new).left (W.state sink.old).written (W.state sink.new).written) }
     // If the source does not record its bytes, its end was still found once.
     ensures end { OnOk result ((R.state source.new).ends ≡ next_count (R.state source.old).ends) }
-    ensures word { IfErr result IsReadWriteOrEndless }
-    ensures reads { CountsFailure (codes "Read") result (R.state source.old).failures (R.state source.new).failures }
-    ensures writes { CountsFailure (codes "Write") result (W.state sink.old).failures (W.state sink.new).failures }
+    ensures reads { (R.state source.new).failures ≡ reads_after result (R.state source.old).failures }
+    ensures writes { (W.state sink.new).failures ≡ writes_after result (W.state sink.old).failures }
 {
     let mut ahead = Ahead::new(alloc)?;
     let mut held = Block::new(alloc)?;
@@ -59,25 +58,27 @@ pub fn show_hex<R: Source, W: Sink>(
         }
     }
     put_out(sink, &mut held)?;
-    find_end(source, &mut ahead, &held)
+    if is_at_end(source, &mut ahead, &held)? {
+        return Ok(());
+    }
+    Err(ShowError::Endless)
 }
 
 // Checks for the end of the input, after the maximum number of lines was passed.
-fn find_end<R: Source>(source: &mut R, ahead: &mut Ahead, held: &Block) -> Result<(), ToolFault>
+fn is_at_end<R: Source>(source: &mut R, ahead: &mut Ahead, held: &Block) -> Result<bool, ReadFault>
     requires { held.now ≡ [] }
     ensures answer { IfRecorded (R.state source.old).left
         (λ rest. IsAllRead (ahead.old ++ rest) result (R.state source.new).left) }
-    ensures end { OnOk result ((R.state source.new).ends ≡ next_count (R.state source.old).ends) }
-    ensures word { IfErr result IsOfInput }
-    ensures reads { CountsFailure (codes "Read") result (R.state source.old).failures (R.state source.new).failures }
+    ensures end { result ≡ Ok true → (R.state source.new).ends ≡ next_count (R.state source.old).ends }
+    ensures reads { (R.state source.new).failures ≡ failures_after result (R.state source.old).failures }
 {
     if !ahead.as_slice().is_empty() {
-        return Err(ToolFault::Device("Endless"));
+        return Ok(false);
     }
     if read_more(ahead, source, held)? {
-        return Err(ToolFault::Device("Endless"));
+        return Ok(false);
     }
-    Ok(())
+    Ok(true)
 }
 
 // Shows the next line, and returns whether one may follow it. What is shown is buffered, and written at the end of the
@@ -91,15 +92,14 @@ fn show_next<R: Source, W: Sink>(
     held: &mut Block,
     showing: Showing,
     number: u32,
-) -> Result<bool, ToolFault>
+) -> Result<bool, ShowError>
     requires { showing.depth ≤ 100 }
     ensures line { IfRecorded (R.state source.old).left (λ rest. ShowsNextLine (is_bare showing.form) showing.max showing.depth number (ahead.old ++ rest)
         result (left_after result ahead.new (R.state source.new).left) (W.state sink.old).written held.old (W.state sink.new).written held.new) }
     ensures end { IfOk result (λ is_more. (R.state source.new).ends
         ≡ (if is_more then (R.state source.old).ends else next_count (R.state source.old).ends)) }
-    ensures word { IfErr result IsReadOrWrite }
-    ensures reads { CountsFailure (codes "Read") result (R.state source.old).failures (R.state source.new).failures }
-    ensures writes { CountsFailure (codes "Write") result (W.state sink.old).failures (W.state sink.new).failures }
+    ensures reads { (R.state source.new).failures ≡ reads_after result (R.state source.old).failures }
+    ensures writes { (W.state sink.new).failures ≡ writes_after result (W.state sink.old).failures }
 {
     match next_end(source, sink, ahead, held, showing.max)? {
         LineEnd::Feed(place) => {
@@ -119,7 +119,10 @@ fn show_next<R: Source, W: Sink>(
             put_out(sink, held)?;
             Ok(false)
         }
-        LineEnd::TooFar => Err(stop(sink, held, line_refusal(alloc, "NoMessage", number))),
+        LineEnd::TooFar => {
+            put_out(sink, held)?;
+            Err(ShowError::NoMessage { line: number })
+        }
     }
 }
 
@@ -131,77 +134,61 @@ fn append_shown<W: Sink>(
     line: &[u8],
     showing: Showing,
     number: u32,
-) -> Result<(), ToolFault>
+) -> Result<(), ShowError>
     requires { showing.depth ≤ 100 }
     ensures shown { AppendsShown (ShowsLine (is_bare showing.form) showing.max showing.depth line.now)
         (IsRefusedLine (is_bare showing.form) showing.max number line.now) result
         (W.state sink.old).written held.old (W.state sink.new).written held.new }
-    ensures word { IfErr result (HasWord (codes "Write")) }
-    ensures writes { CountsFailure (codes "Write") result (W.state sink.old).failures (W.state sink.new).failures }
+    ensures reads { (n : ℕ) → reads_after result n ≡ n }
+    ensures writes { (W.state sink.new).failures ≡ writes_after result (W.state sink.old).failures }
 {
-    match octets_of_line(alloc, line, number) {
-        Ok(octets) => append_octets(alloc, sink, held, &octets, showing, number),
-        Err(fault) => Err(stop(sink, held, fault)),
+    match octets_of_line(alloc, line) {
+        Ok(Some(octets)) => append_octets(sink, held, &octets, showing, number),
+        Ok(None) => {
+            put_out(sink, held)?;
+            Err(ShowError::NoHex { line: number })
+        }
+        Err(AllocError) => {
+            put_out(sink, held)?;
+            Err(ShowError::Read(ReadFault::Memory))
+        }
     }
 }
 
 // Appends what is shown of the line's bytes to the buffer.
 fn append_octets<W: Sink>(
-    alloc: Global,
     sink: &mut W,
     held: &mut Block,
     octets: &[u8],
     showing: Showing,
     number: u32,
-) -> Result<(), ToolFault>
+) -> Result<(), ShowError>
     requires { showing.depth ≤ 100 }
     ensures shown { AppendsShown (ShowsOctets (is_bare showing.form) showing.max showing.depth octets.now)
-        (λ words. IsNoMessage (is_bare showing.form) showing.max octets.now × (words ≡ at_line (codes "NoMessage") number)) result
+        (IsNotMessage (is_bare showing.form) showing.max number octets.now) result
         (W.state sink.old).written held.old (W.state sink.new).written held.new }
-    ensures word { IfErr result (HasWord (codes "Write")) }
-    ensures writes { CountsFailure (codes "Write") result (W.state sink.old).failures (W.state sink.new).failures }
+    ensures reads { (n : ℕ) → reads_after result n ≡ n }
+    ensures writes { (W.state sink.new).failures ≡ writes_after result (W.state sink.old).failures }
 {
     if octets.is_empty() {
         return Ok(());
     }
     match message_of(octets, showing.max, showing.form) {
-        Some((header, text)) => append_line(sink, held, header, text, showing.depth),
-        None => Err(stop(sink, held, line_refusal(alloc, "NoMessage", number))),
+        Some((header, text)) => Ok(append_line(sink, held, header, text, showing.depth)?),
+        None => {
+            put_out(sink, held)?;
+            Err(ShowError::NoMessage { line: number })
+        }
     }
 }
 
-// Writes the buffer, and returns the error for which the command stops: this one, or that of the write.
-fn stop<W: Sink>(sink: &mut W, held: &mut Block, fault: ToolFault) -> ToolFault
-    requires { IsNoDevice fault }
-    ensures stops { IsStoppedBy fault result (W.state sink.old).written held.old (W.state sink.new).written }
-    ensures word { HasWord (codes "Write") result }
-    ensures writes { CountsFailure {T = Bool} (codes "Write") (Err result)
-        (W.state sink.old).failures (W.state sink.new).failures }
-{
-    match put_out(sink, held) {
-        Ok(()) => fault,
-        Err(failed) => failed,
-    }
-}
-
-// Returns the bytes of a line, which may end with a carriage return.
-fn octets_of_line(alloc: Global, line: &[u8], number: u32) -> Result<Vec<u8>, ToolFault>
-    ensures ok { IfOk result (λ octets. octets_of_line line.now ≡ Some octets.items) }
-    ensures err { IfErr result (IsNoHex number line.now) }
+// Returns the bytes of a line, which may end with a carriage return. Returns `None` if it is not hexadecimal.
+fn octets_of_line(alloc: Global, line: &[u8]) -> Result<Option<Vec<u8>>, AllocError>
+    ensures { IfOk result (λ found. option_map (λ octets. octets.items) found ≡ octets_of_line line.now) }
 {
     let text = match line {
         [front @ .., b'\r'] => front,
         _ => line,
     };
-    let Some(octets) = octets_in(alloc, text)? else {
-        return Err(line_refusal(alloc, "NoHex", number));
-    };
-    Ok(octets)
-}
-
-// Returns the error for an invalid line, or `Memory` if its text cannot be allocated.
-fn line_refusal(alloc: Global, word: &str, number: u32) -> ToolFault
-    ensures { IsRefusedAs (at_line word.now number) result }
-{
-    refusal(format!(in alloc; "{word} line={number}"))
+    octets_in(alloc, text)
 }

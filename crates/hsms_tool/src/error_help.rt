@@ -1,9 +1,15 @@
 //! Explanations for people: what an error means, and what to do about it.
 
 use crate::caret::placed;
-use cli_options::ToolFault;
+use cli_filters::{AuditError, CommandError, EncodeError, Refusal};
+use cli_options::{ToolFault, exit_status};
 use cli_serve::ConnectError;
+use cli_show::ShowError;
+use hsms_frame::ReadFault;
+use hsms_log::AuditFault;
+use secs_text::TextFault;
 use std::alloc::{AllocError, Global};
+use std::fmt;
 use std::io::{BufRead, ErrorKind};
 
 /// The context of an error, in addition to its name.
@@ -17,32 +23,79 @@ pub enum Known {
     Packets,
     /// The input, which should be notation.
     Notation(Vec<u8>),
-    /// The input should be a capture of packets.
-    Capture,
+}
+
+/// Why the command ends before its work is done.
+#[derive(Debug, Drop)]
+pub enum Fault {
+    /// A part between input and output stopped.
+    Command(CommandError),
+    /// The command line is invalid, or another part stopped.
+    Tool(ToolFault),
+}
+
+impl fmt::Display for Fault {
+    fn fmt<W: fmt::Write>(&self, f: &mut fmt::Formatter<W>) -> fmt::Result {
+        match self {
+            Fault::Command(error) => write!(f, "{error}"),
+            Fault::Tool(fault) => write!(f, "{fault}"),
+        }
+    }
 }
 
 /// Why the command ends before its work is done, with the context.
 #[derive(Drop)]
 pub struct Failure {
-    pub fault: ToolFault,
+    pub fault: Fault,
     pub known: Known,
 }
 
 impl Failure {
     /// Creates a failure from an error and its context.
     pub fn new(fault: ToolFault, known: Known) -> Failure {
-        Failure { fault, known }
+        Failure {
+            fault: Fault::Tool(fault),
+            known,
+        }
+    }
+
+    /// Creates a failure from an error of a part between input and output, and its context.
+    pub fn of_command(error: CommandError, known: Known) -> Failure {
+        Failure {
+            fault: Fault::Command(error),
+            known,
+        }
     }
 
     /// Creates a failure from an error and its message. Without a message if its allocation failed.
     pub fn said(fault: ToolFault, words: Result<String, AllocError>) -> Failure {
         Failure::new(fault, words.map_or(Known::Nothing, Known::Said))
     }
+
+    /// Returns the status with which the command ends.
+    pub fn status(self) -> u8 {
+        match self.fault {
+            Fault::Command(error) => error.status(),
+            Fault::Tool(fault) => exit_status(&Err(fault)),
+        }
+    }
 }
 
 impl From<ToolFault> for Failure {
     fn from(fault: ToolFault) -> Failure {
         Failure::new(fault, Known::Nothing)
+    }
+}
+
+impl From<EncodeError> for Failure {
+    fn from(error: EncodeError) -> Failure {
+        Failure::of_command(CommandError::Encode(error), Known::Nothing)
+    }
+}
+
+impl From<AuditError> for Failure {
+    fn from(error: AuditError) -> Failure {
+        Failure::of_command(CommandError::Audit(error), Known::Nothing)
     }
 }
 
@@ -65,19 +118,15 @@ const CAPTURES: [[u8; 4]; 5] = [
 /// starts with the position, if the error has one: the line and the column. The line itself follows, with a mark below
 /// the position.
 pub fn words_for(alloc: Global, failure: &Failure) -> Result<String, AllocError> {
-    let name = failure.fault.to_string(alloc)?;
-    let name = name.as_str();
-    let (name, place) = name.split_once(" at=").unwrap_or((name, ""));
-    let sentence = said_of(name, SENTENCES).unwrap_or("see docs/CLI.md");
+    let advice = advice(&failure.fault);
     let said = match &failure.known {
         Known::Said(words) => words.as_str(),
-        Known::Notation(input) => match place.parse::<usize>() {
-            Ok(at) => return placed(alloc, input, at, sentence),
-            Err(_) => sentence,
+        Known::Notation(input) => match position(&failure.fault) {
+            Some(at) => return placed(alloc, input, at, advice),
+            None => advice,
         },
         Known::Packets => { "this is a packet capture: use hsms capture (docs/CAPTURES.md)" }
-        Known::Capture => said_of(name, CAPTURE_SENTENCES).unwrap_or(sentence),
-        Known::Nothing => sentence,
+        Known::Nothing => advice,
     };
     String::from_str(alloc, said)
 }
@@ -127,48 +176,159 @@ pub fn link_words(
     }
 }
 
-// What an error name means, and what to do. It is the only table of these texts.
-const SENTENCES: &str = "\
-    command: run hsms --help, or hsms COMMAND --help\n\
-    TooShort: a message length is below 10: this is not HSMS data, or bytes are missing before it\n\
-    TooLong: a message is longer than --max: raise --max, or check that the input is HSMS data\n\
-    CutOff: the input ends inside a message\n\
-    NoHex: this line is not hexadecimal; without --hex the input is read as bytes\n\
-    NoMessage: this line is not exactly one message within --max; lines of a log have no length bytes: add --bare\n\
-    Input: the input is longer than 67108864 bytes: split it\n\
-    Syntax: unexpected token; a message is S1F1 W <A \"text\"> . and ends with a full stop\n\
-    Number: not a value of this type, or out of range\n\
-    Count: the number in brackets does not match the number of values\n\
-    Deep: lists are nested deeper than --depth: raise --depth, or nest fewer lists\n\
-    TooLarge: a value or list has more than 16777215 bytes or elements\n\
-    Endless: the input exceeds the program's counters: split it\n\
-    Read: cannot read standard input: is it open, and not a directory?\n\
-    Write: cannot write standard output: is the disk full, or the pipe closed?\n\
-    Log: cannot write the log: is standard output open, the disk full, or the pipe closed?\n\
-    Link: the connection failed: the peer reset it, or accepted no data for T8. The log shows how far it got\n\
-    Turns: the turn limit was reached while the connection was up: raise --turns\n\
-    Memory: out of memory: provide more, or split the input";
+// Returns the position of an error in a notation.
+fn position(fault: &Fault) -> Option<usize> {
+    match fault {
+        Fault::Command(CommandError::Encode(EncodeError::Text(fault))) => match *fault {
+            TextFault::Syntax { at } | TextFault::Number { at } => Some(at),
+            TextFault::Count { at } | TextFault::Deep { at } => Some(at),
+            TextFault::Memory => None,
+        },
+        _ => None,
+    }
+}
 
-// The sentences for errors of `capture` that differ from those above, or exist only there.
-const CAPTURE_SENTENCES: &str = "\
-    Lost: this packet shows that the capture lost data: capture at the end itself, whole packets (-s 0), without drops\n\
-    Length: a message is shorter than 10 bytes or longer than --max: is this the HSMS port? If so, raise --max\n\
-    Differs: a retransmission carries other data than the original: capture closer to the end, where one device sends it\n\
-    Full: too much data waits for missing packets: capture at the end itself, whole packets, without drops\n\
-    CutOff: the file is empty or ends inside a packet: stop the capturing program first, or check what truncated it\n\
-    Capture: not a valid pcap or pcapng file here: use an uncompressed file from tcpdump, tshark or Wireshark\n\
-    Time: this packet has no usable time stamp: capture with time stamps, or remove the packet\n\
-    Overlap: a connection starts while another is up, and a log holds one at a time: leave out --log to audit each\n\
-    Peer: this connection has other addresses, and a log holds one pair of addresses: choose one with --peer\n\
-    NoConnection: no connection came up at --port: check the port; if the capture starts inside a session, add --midstream\n\
-    NotJudged: the last line of the output names HSMS data that was not audited: add --midstream, its --device or its --port";
+// Returns what an error means, and what to do.
+fn advice(fault: &Fault) -> &'static str {
+    match fault {
+        Fault::Command(CommandError::Help) => WRITE,
+        Fault::Command(CommandError::Show(error)) => show_advice(*error),
+        Fault::Command(CommandError::Encode(error)) => encode_advice(*error),
+        Fault::Command(CommandError::Audit(error)) => audit_advice(*error),
+        Fault::Tool(ToolFault::Refused(words)) => refused_advice(words.as_str()),
+        Fault::Tool(ToolFault::Device(word)) => device_advice(word),
+        Fault::Tool(ToolFault::Memory) => MEMORY,
+    }
+}
 
-// Returns the text in a table for the first word of an error. Its position may follow that word.
-fn said_of(name: &str, table: &'static str) -> Option<&'static str> {
-    let (word, _) = name.split_once(' ').unwrap_or((name, ""));
-    table
-        .lines()
-        .filter_map(|line| line.split_once(": "))
-        .find(|entry| entry.0 == word)
-        .map(|entry| entry.1)
+const TOO_LONG: &str =
+    "a message is longer than --max: raise --max, or check that the input is HSMS data";
+
+const ENDLESS: &str = "the input exceeds the program's counters: split it";
+
+const READ: &str = "cannot read standard input: is it open, and not a directory?";
+
+const WRITE: &str = "cannot write standard output: is the disk full, or the pipe closed?";
+
+const MEMORY: &str = "out of memory: provide more, or split the input";
+
+fn show_advice(error: ShowError) -> &'static str {
+    match error {
+        ShowError::Read(ReadFault::TooShort { .. }) => {
+            "a message length is below 10: this is not HSMS data, or bytes are missing before it"
+        }
+        ShowError::Read(ReadFault::TooLong { .. }) => TOO_LONG,
+        ShowError::Read(ReadFault::CutOff) => "the input ends inside a message",
+        ShowError::Read(ReadFault::Memory) => MEMORY,
+        ShowError::Read(ReadFault::Read) => READ,
+        ShowError::NoHex { .. } => {
+            "this line is not hexadecimal; without --hex the input is read as bytes"
+        }
+        ShowError::NoMessage { .. } => {
+            "this line is not exactly one message within --max; lines of a log have no length bytes: add --bare"
+        }
+        ShowError::Write => WRITE,
+        ShowError::Endless => ENDLESS,
+    }
+}
+
+fn encode_advice(error: EncodeError) -> &'static str {
+    match error {
+        EncodeError::Input => "the input is longer than 67108864 bytes: split it",
+        EncodeError::Text(fault) => text_advice(fault),
+        EncodeError::Frame(Refusal::TooLarge) => {
+            "a value or list has more than 16777215 bytes or elements"
+        }
+        EncodeError::Frame(Refusal::TooLong(_)) => TOO_LONG,
+        EncodeError::Read => READ,
+        EncodeError::Write => WRITE,
+    }
+}
+
+fn text_advice(fault: TextFault) -> &'static str {
+    match fault {
+        TextFault::Syntax { .. } => {
+            "unexpected token; a message is S1F1 W <A \"text\"> . and ends with a full stop"
+        }
+        TextFault::Number { .. } => "not a value of this type, or out of range",
+        TextFault::Count { .. } => "the number in brackets does not match the number of values",
+        TextFault::Deep { .. } => {
+            "lists are nested deeper than --depth: raise --depth, or nest fewer lists"
+        }
+        TextFault::Memory => MEMORY,
+    }
+}
+
+fn audit_advice(error: AuditError) -> &'static str {
+    match error {
+        AuditError::Log(AuditFault::Read) => READ,
+        AuditError::Log(AuditFault::Endless) => ENDLESS,
+        AuditError::Log(AuditFault::Memory) => MEMORY,
+        AuditError::Write => WRITE,
+    }
+}
+
+fn device_advice(word: &str) -> &'static str {
+    match word {
+        "Endless" => ENDLESS,
+        "Read" => READ,
+        "Write" => WRITE,
+        "Log" =>
+            "cannot write the log: is standard output open, the disk full, or the pipe closed?",
+        "Link" => {
+            "the connection failed: the peer reset it, or accepted no data for T8. The log shows how far it got"
+        }
+        "Turns" => "the turn limit was reached while the connection was up: raise --turns",
+        _ => NO_ADVICE,
+    }
+}
+
+const NO_ADVICE: &str = "see docs/CLI.md";
+
+// Returns what the first word of the text of an error of the command line or of `capture` means, and what to do.
+fn refused_advice(words: &str) -> &'static str {
+    let (word, _) = words.split_once(' ').unwrap_or((words, ""));
+    match word {
+        "command" => "run hsms --help, or hsms COMMAND --help",
+        word => capture_advice(word),
+    }
+}
+
+fn capture_advice(word: &str) -> &'static str {
+    match word {
+        "Lost" => {
+            "this packet shows that the capture lost data: capture at the end itself, whole packets (-s 0), without drops"
+        }
+        "Length" => {
+            "a message is shorter than 10 bytes or longer than --max: is this the HSMS port? If so, raise --max"
+        }
+        "Differs" => {
+            "a retransmission carries other data than the original: capture closer to the end, where one device sends it"
+        }
+        "Full" => {
+            "too much data waits for missing packets: capture at the end itself, whole packets, without drops"
+        }
+        "CutOff" => {
+            "the file is empty or ends inside a packet: stop the capturing program first, or check what truncated it"
+        }
+        "Capture" => {
+            "not a valid pcap or pcapng file here: use an uncompressed file from tcpdump, tshark or Wireshark"
+        }
+        "Time" => {
+            "this packet has no usable time stamp: capture with time stamps, or remove the packet"
+        }
+        "Overlap" => {
+            "a connection starts while another is up, and a log holds one at a time: leave out --log to audit each"
+        }
+        "Peer" => {
+            "this connection has other addresses, and a log holds one pair of addresses: choose one with --peer"
+        }
+        "NoConnection" => {
+            "no connection came up at --port: check the port; if the capture starts inside a session, add --midstream"
+        }
+        "NotJudged" => {
+            "the last line of the output names HSMS data that was not audited: add --midstream, its --device or its --port"
+        }
+        _ => NO_ADVICE,
+    }
 }

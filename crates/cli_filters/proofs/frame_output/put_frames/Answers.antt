@@ -1,26 +1,24 @@
 use Rattle.std.proofs.Common.{◌++◌, ap, sym, true, false}
+use Rattle.std.proofs.lemmas.Result.{err_from_is_err_and}
 use Rattle.cli_filters.specs.Encode.{outputs_of}
 use Rattle.cli_filters.proofs.Encodings.{octets_are}
-use Rattle.cli_filters.proofs.Lines.{counts_write, has_write, writes_out}
+use Rattle.cli_filters.proofs.Lines.{front_as, grows_as}
 use Rattle.cli_filters.proofs.frame_output.put_frames.Goals as goal
+
+pub returns-in_err-put_lines-clause-output : goal.returns-in_err-put_lines-clause-output
+returns-in_err-put_lines-clause-output g c = λ fs are.
+    let p = err_from_is_err_and c.from_residual-in_err-put_lines.result c.from_residual-in_err-put_lines.ensures.1 in
+    rw (p.1, p.2, c.if-hex.true) (front_as _ _ _ (outputs_of true fs) (ap (λ o. o ++ outputs_of true fs) c.in_ok-held.ensures) (c.in_err-put_lines.ensures.err fs are))
 
 pub returns-then-hex-clause-output : goal.returns-then-hex-clause-output
 returns-then-hex-clause-output g c = λ fs are.
-    rw c.if-hex.true (writes_out c.put_lines.result _ (outputs_of true fs) _ _ (ap (λ o. o ++ outputs_of true fs) c.in_ok-held.ensures)
-    (c.put_lines.ensures.ok fs are) (c.put_lines.ensures.err fs are) c.put_lines.ensures.word)
+    rw c.if-hex.true (grows_as _ _ _ (outputs_of true fs) (ap (λ o. o ++ outputs_of true fs) c.in_ok-held.ensures) (c.in_ok-put_lines.ensures.ok fs are))
 
-pub returns-then-hex-clause-word : goal.returns-then-hex-clause-word
-returns-then-hex-clause-word g c = has_write c.put_lines.result c.put_lines.ensures.word
-
-pub returns-then-hex-clause-writes : goal.returns-then-hex-clause-writes
-returns-then-hex-clause-writes g c = counts_write c.put_lines.result _ _ c.put_lines.ensures.word c.put_lines.ensures.writes
+pub returns-in_err-give_all-clause-output : goal.returns-in_err-give_all-clause-output
+returns-in_err-give_all-clause-output g c = λ fs are.
+    let p = err_from_is_err_and c.from_residual-in_err-give_all.result c.from_residual-in_err-give_all.ensures.1 in
+    rw (p.1, p.2, c.if-hex.false) (front_as _ _ _ (outputs_of false fs) (sym (octets_are fs c.args.octets.now are)) c.in_err-give_all.ensures.err)
 
 pub returns-clause-output : goal.returns-clause-output
 returns-clause-output g c = λ fs are.
-    rw c.if-hex.false (writes_out c.put.result _ (outputs_of false fs) _ _ (sym (octets_are fs c.args.octets.now are)) c.put.ensures.ok c.put.ensures.err c.put.ensures.word)
-
-pub returns-clause-word : goal.returns-clause-word
-returns-clause-word g c = has_write c.put.result c.put.ensures.word
-
-pub returns-clause-writes : goal.returns-clause-writes
-returns-clause-writes g c = counts_write c.put.result _ _ c.put.ensures.word c.put.ensures.writes
+    rw c.if-hex.false (grows_as _ _ _ (outputs_of false fs) (sym (octets_are fs c.args.octets.now are)) c.in_ok-give_all.ensures.ok)

@@ -1,4 +1,4 @@
-use Rattle.std.proofs.Common.{◌<◌, ◌≤◌, ◌++◌, ◌∙◌, length, arith, ap, take, refl}
+use Rattle.std.proofs.Common.{◌<◌, ◌≤◌, ◌++◌, ◌∙◌, length, arith, ap, take}
 use Rattle.cli_filters.proofs.CompleteLines.{reads_more, reads_whole, reads_past, not_at_end, rewritten}
 use Rattle.cli_filters.proofs.read_input.read_past.Goals as goal
 
@@ -6,7 +6,7 @@ pub returns-in_default-clause-err : goal.returns-in_default-clause-err
 returns-in_default-clause-err g c = λ input known_input.
     let so_far = c.loop-source.invariant.0 input known_input in
     let within : length c.loop-source.octets.items ≤ c.args.limit = omega (arith, c.len.ensures, c.loop-source-test.true, c.loop-source.octets.ok) in
-    (refl, (c.loop-source.octets.items, so_far.0, within, so_far.1, c.in_default.ensures.none_lost so_far.0 so_far.2))
+    (c.loop-source.octets.items, so_far.0, within, so_far.1, c.in_default.ensures.none_lost so_far.0 so_far.2)
 
 pub returns-then-count-eq0-clause-ok : goal.returns-then-count-eq0-clause-ok
 returns-then-count-eq0-clause-ok g c =

@@ -14,7 +14,7 @@ loop-end-init g c = (
 pub returns-in_err-read_more-clause-end : goal.returns-in_err-read_more-clause-end
 returns-in_err-read_more-clause-end g c = λ input known_input.
     let p = err_from_is_err_and c.from_residual.result c.from_residual.ensures.1 in
-    rw (p.1, p.2) (reading_stops c.args.max c.args.ahead.now input c.loop-end.ahead c.read_more.new.ahead _ _ c.loop-end.end _ (c.loop-end.invariant.0 input known_input) (sym c.is_to_be_read.ensures ∙ c.loop-end-test.true) c.in_err-read_more.ensures.err c.in_err-read_more.ensures.word)
+    rw (p.1, p.2) (reading_stops c.args.max c.args.ahead.now input c.loop-end.ahead c.read_more.new.ahead _ _ c.loop-end.end _ (c.loop-end.invariant.0 input known_input) (sym c.is_to_be_read.ensures ∙ c.loop-end-test.true) c.in_err-read_more.ensures.err c.in_err-read_more.ensures.fault)
 
 pub returns-then-not-branch-clause-end : goal.returns-then-not-branch-clause-end
 returns-then-not-branch-clause-end g c = λ input known_input.

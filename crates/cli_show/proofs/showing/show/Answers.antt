@@ -1,7 +1,6 @@
 use Rattle.std.proofs.Common.{arith, refl, ◌∙◌}
 use Rattle.std.proofs.lemmas.Result.{err_from_is_err_and}
-use Rattle.cli_show.proofs.Runs.{along, begins_unread, can_continue, none_begun, ends, input_is_no_write, stops, stops_full, stops_full_unwritten}
-use Rattle.cli_output.proofs.Devices.{of_input, wider}
+use Rattle.cli_show.proofs.Runs.{along, begins_unread, can_continue, ends, full_end, full_more, full_stop, none_begun, stops, stops_full_unwritten}
 use Rattle.cli_show.proofs.showing.show.Goals as goal
 
 pub returns-in_err-ahead-clause-lines : goal.returns-in_err-ahead-clause-lines
@@ -43,22 +42,22 @@ loop-preserved g c =
       c.in_ok-show_next.ensures.writes ∙ c.loop.invariant.3,
     )
 
-pub returns-clause-lines : goal.returns-clause-lines
-returns-clause-lines g c = λ input known_input.
-    stops_full _ _ _ c.loop.counter _ _ _ _ _ _ _ (omega arith) (c.loop.invariant.0 input known_input) c.in_ok-put_out.ensures.ok (along _ _ _ c.find_end.ensures.answer)
-
-pub returns-in_err-show_next-clause-word : goal.returns-in_err-show_next-clause-word
-returns-in_err-show_next-clause-word g c =
-    let p = err_from_is_err_and c.from_residual-in_err-show_next.result c.from_residual-in_err-show_next.ensures.1 in
-    rw (p.1, p.2) (wider _ c.in_err-show_next.ensures.word)
-
-pub returns-clause-word : goal.returns-clause-word
-returns-clause-word g c = of_input _ c.find_end.ensures.word
-
-pub returns-clause-writes : goal.returns-clause-writes
-returns-clause-writes g c = rw (c.in_ok-put_out.ensures.writes ∙ c.loop.invariant.3) (input_is_no_write _ _ _ c.find_end.ensures.word)
-
 pub returns-in_err-put_out-clause-lines : goal.returns-in_err-put_out-clause-lines
 returns-in_err-put_out-clause-lines g c = λ input known_input.
     let p = err_from_is_err_and c.from_residual-in_err-put_out.result c.from_residual-in_err-put_out.ensures.1 in
-    rw (p.1, p.2) (stops_full_unwritten _ _ _ c.loop.counter _ _ _ _ _ _ _ c.loop.ahead (omega arith) refl (c.loop.invariant.0 input known_input) c.in_err-put_out.ensures.word c.in_err-put_out.ensures.some c.in_err-put_out.ensures.err)
+    rw (p.1, p.2) (stops_full_unwritten _ _ _ c.loop.counter _ _ _ _ _ c.loop.ahead (omega arith) (c.loop.invariant.0 input known_input) c.in_err-put_out.ensures.some c.in_err-put_out.ensures.err)
+
+pub returns-in_err-is_at_end-clause-lines : goal.returns-in_err-is_at_end-clause-lines
+returns-in_err-is_at_end-clause-lines g c = λ input known_input.
+    let p = err_from_is_err_and c.from_residual-in_err-is_at_end.result c.from_residual-in_err-is_at_end.ensures.1 in
+    rw (p.1, p.2) (full_stop _ _ _ c.loop.counter _ _ _ _ _ _ _ (omega arith) (c.loop.invariant.0 input known_input) c.in_ok-put_out.ensures.ok (along _ _ _ c.in_err-is_at_end.ensures.answer))
+
+pub returns-then-branch-clause-lines : goal.returns-then-branch-clause-lines
+returns-then-branch-clause-lines g c = λ input known_input.
+    let answer = rw c.if-branch.true at c.in_ok-is_at_end.ensures.answer in
+    full_end _ _ _ c.loop.counter _ _ _ _ _ _ (omega arith) (c.loop.invariant.0 input known_input) c.in_ok-put_out.ensures.ok (along _ _ _ answer)
+
+pub returns-clause-lines : goal.returns-clause-lines
+returns-clause-lines g c = λ input known_input.
+    let answer = rw c.if-branch.false at c.in_ok-is_at_end.ensures.answer in
+    full_more _ _ _ c.loop.counter _ _ _ _ _ _ (omega arith) (c.loop.invariant.0 input known_input) c.in_ok-put_out.ensures.ok (along _ _ _ answer)

@@ -12,7 +12,7 @@ returns-in_err-append_prefix-clause-line g c = λ rest known_input.
     let written = (g.W.Sink.state c.args.sink.now).written in
     let held = c.args.held.now in
     let p = err_from_is_err_and c.from_residual.result c.from_residual.ensures.1 in
-    rw (p.1, p.2) (append_stops _ _ _ c.args.ahead.now rest h size _ _ written held written held _ _ refl known_input front c.in_err-append_prefix.ensures.word (holds_same written held) c.in_err-append_prefix.ensures.line)
+    rw (p.1, p.2) (append_stops _ _ _ c.args.ahead.now rest h size _ written held written held _ c.append_prefix.new.held _ refl known_input front (holds_same written held) c.in_err-append_prefix.ensures.line)
 
 pub returns-clause-line : goal.returns-clause-line
 returns-clause-line g c = λ rest known_input.

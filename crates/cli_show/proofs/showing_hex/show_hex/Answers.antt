@@ -1,9 +1,8 @@
 use Rattle.std.proofs.Common.{arith, refl, ◌∙◌}
 use Rattle.std.proofs.lemmas.Result.{err_from_is_err_and}
 use Rattle.cli_options.specs.Request.{is_bare}
-use Rattle.cli_output.proofs.Devices.{of_input, wider}
-use Rattle.cli_show.proofs.HexRuns.{lines_begin, lines_end, lines_full, lines_go_on, lines_stop, lines_unwritten, no_line}
-use Rattle.cli_show.proofs.Runs.{along, input_is_no_write}
+use Rattle.cli_show.proofs.HexRuns.{lines_begin, lines_end, lines_full_end, lines_full_more, lines_full_stop, lines_go_on, lines_stop, lines_unwritten, no_line}
+use Rattle.cli_show.proofs.Runs.{along}
 use Rattle.cli_show.proofs.showing_hex.show_hex.Goals as goal
 
 pub returns-in_err-ahead-clause-lines : goal.returns-in_err-ahead-clause-lines
@@ -45,22 +44,22 @@ loop-passed-preserved g c =
       c.in_ok-show_next.ensures.writes ∙ c.loop-passed.invariant.3,
     )
 
-pub returns-clause-lines : goal.returns-clause-lines
-returns-clause-lines g c = λ input known_input.
-    lines_full _ _ _ _ c.loop-passed.passed _ _ _ _ _ _ _ (omega arith) (c.loop-passed.invariant.0 input known_input) c.in_ok-put_out.ensures.ok (along _ _ _ c.find_end.ensures.answer)
-
-pub returns-in_err-show_next-clause-word : goal.returns-in_err-show_next-clause-word
-returns-in_err-show_next-clause-word g c =
-    let p = err_from_is_err_and c.from_residual-in_err-show_next.result c.from_residual-in_err-show_next.ensures.1 in
-    rw (p.1, p.2) (wider _ c.in_err-show_next.ensures.word)
-
-pub returns-clause-word : goal.returns-clause-word
-returns-clause-word g c = of_input _ c.find_end.ensures.word
-
-pub returns-clause-writes : goal.returns-clause-writes
-returns-clause-writes g c = rw (c.in_ok-put_out.ensures.writes ∙ c.loop-passed.invariant.3) (input_is_no_write _ _ _ c.find_end.ensures.word)
-
 pub returns-in_err-put_out-clause-lines : goal.returns-in_err-put_out-clause-lines
 returns-in_err-put_out-clause-lines g c = λ input known_input.
     let p = err_from_is_err_and c.from_residual-in_err-put_out.result c.from_residual-in_err-put_out.ensures.1 in
-    rw (p.1, p.2) (lines_unwritten _ _ _ _ c.loop-passed.passed _ _ _ _ _ _ c.loop-passed.ahead (omega arith) (c.loop-passed.invariant.0 input known_input) c.in_err-put_out.ensures.word c.in_err-put_out.ensures.err)
+    rw (p.1, p.2) (lines_unwritten _ _ _ _ c.loop-passed.passed _ _ _ _ _ c.loop-passed.ahead (omega arith) (c.loop-passed.invariant.0 input known_input) c.in_err-put_out.ensures.err)
+
+pub returns-in_err-is_at_end-clause-lines : goal.returns-in_err-is_at_end-clause-lines
+returns-in_err-is_at_end-clause-lines g c = λ input known_input.
+    let p = err_from_is_err_and c.from_residual-in_err-is_at_end.result c.from_residual-in_err-is_at_end.ensures.1 in
+    rw (p.1, p.2) (lines_full_stop _ _ _ _ c.loop-passed.passed _ _ _ _ _ _ _ (omega arith) (c.loop-passed.invariant.0 input known_input) c.in_ok-put_out.ensures.ok (along _ _ _ c.in_err-is_at_end.ensures.answer))
+
+pub returns-then-branch-clause-lines : goal.returns-then-branch-clause-lines
+returns-then-branch-clause-lines g c = λ input known_input.
+    let answer = rw c.if-branch.true at c.in_ok-is_at_end.ensures.answer in
+    lines_full_end _ _ _ _ c.loop-passed.passed _ _ _ _ _ _ (omega arith) (c.loop-passed.invariant.0 input known_input) c.in_ok-put_out.ensures.ok (along _ _ _ answer)
+
+pub returns-clause-lines : goal.returns-clause-lines
+returns-clause-lines g c = λ input known_input.
+    let answer = rw c.if-branch.false at c.in_ok-is_at_end.ensures.answer in
+    lines_full_more _ _ _ _ c.loop-passed.passed _ _ _ _ _ _ (omega arith) (c.loop-passed.invariant.0 input known_input) c.in_ok-put_out.ensures.ok (along _ _ _ answer)

@@ -3,7 +3,7 @@ use Rattle.std.proofs.lemmas.Result.{err_from_is_err_and}
 use Rattle.cli_options.specs.Request.{is_bare}
 use Rattle.cli_show.specs.ReadAhead.{subsequent}
 use Rattle.cli_show.specs.ShowHex.{BeginsWithLine}
-use Rattle.cli_show.proofs.HexSteps.{far_stops, appended_of, last_shown, last_unwritten, line_at, line_stops, no_end, only_line}
+use Rattle.cli_show.proofs.HexSteps.{far_stops, appended_of, last_shown, last_unwritten, line_at, line_stops, no_end, only_line, unwritten}
 use Rattle.cli_show.proofs.Runs.{holding_then}
 use Rattle.cli_show.proofs.showing_hex.show_next.Goals as goal
 
@@ -55,9 +55,9 @@ returns-in_err-put_out-in-Open-clause-line g c = λ rest known_input.
     let p = err_from_is_err_and c.from_residual-in_err-put_out-in-Open.result c.from_residual-in_err-put_out-in-Open.ensures.1 in
     let ahead = c.next_end.new.ahead in
     let l = appended_of (is_bare c.args.showing.form) c.args.showing.max c.args.showing.depth c.as_slice-in-Open.result.now ahead (g.W.Sink.state c.next_end.new.sink).written c.next_end.new.held (g.W.Sink.state c.append_shown-in-Open.new.sink).written c.append_shown-in-Open.new.held c.as_slice-in-Open.ensures c.in_ok-append_shown-in-Open.ensures.shown in
-    rw (p.1, p.2) (last_unwritten (is_bare c.args.showing.form) c.args.showing.max c.args.showing.depth c.args.number (c.args.ahead.now ++ rest) ahead l.0 _ (g.R.Source.state c.next_end.new.source).left (g.W.Sink.state c.args.sink.now).written (g.W.Sink.state c.next_end.new.sink).written (g.W.Sink.state c.append_shown-in-Open.new.sink).written c.args.held.now c.next_end.new.held c.append_shown-in-Open.new.held (g.W.Sink.state c.put_out.new.sink).written c.put_out.new.held
+    rw (p.1, p.2) (last_unwritten (is_bare c.args.showing.form) c.args.showing.max c.args.showing.depth c.args.number (c.args.ahead.now ++ rest) ahead l.0 (g.R.Source.state c.next_end.new.source).left (g.W.Sink.state c.args.sink.now).written (g.W.Sink.state c.next_end.new.sink).written (g.W.Sink.state c.append_shown-in-Open.new.sink).written c.args.held.now c.next_end.new.held c.append_shown-in-Open.new.held (g.W.Sink.state c.put_out.new.sink).written c.put_out.new.held
     (only_line c.args.showing.max (c.args.ahead.now ++ rest) ahead a.0.0 a.0.2 (a.0.4 refl) a.0.3) (ahead, a.0.0, a.0.2, a.0.1) a.1 l.1 l.2
-    c.in_err-put_out-in-Open.ensures.word c.in_err-put_out-in-Open.ensures.err)
+    c.in_err-put_out-in-Open.ensures.err)
 
 pub returns-in_ok-put_out-in-Open-clause-line : goal.returns-in_ok-put_out-in-Open-clause-line
 returns-in_ok-put_out-in-Open-clause-line g c = λ rest known_input.
@@ -67,8 +67,15 @@ returns-in_ok-put_out-in-Open-clause-line g c = λ rest known_input.
     last_shown (is_bare c.args.showing.form) c.args.showing.max c.args.showing.depth c.args.number (c.args.ahead.now ++ rest) ahead a.0.0 l.0 (g.R.Source.state c.next_end.new.source).left (g.W.Sink.state c.args.sink.now).written (g.W.Sink.state c.next_end.new.sink).written (g.W.Sink.state c.append_shown-in-Open.new.sink).written c.args.held.now c.next_end.new.held c.append_shown-in-Open.new.held (g.W.Sink.state c.put_out.new.sink).written c.put_out.new.held
     a.0.2 (a.0.4 refl) a.0.3 a.0.1 a.1 l.1 l.2 c.in_ok-put_out-in-Open.ensures.ok
 
-pub returns-in-TooFar-clause-line : goal.returns-in-TooFar-clause-line
-returns-in-TooFar-clause-line g c = λ rest known_input.
+pub returns-in_err-put_out-in-TooFar-clause-line : goal.returns-in_err-put_out-in-TooFar-clause-line
+returns-in_err-put_out-in-TooFar-clause-line g c = λ rest known_input.
     let a = rw c.in-TooFar.is at (c.in_ok-place.ensures.end rest known_input) in
-    far_stops (is_bare c.args.showing.form) c.args.showing.max c.args.showing.depth c.args.number (c.args.ahead.now ++ rest) c.next_end.new.ahead a.0.0 c.line_refusal.result c.stop.result (g.R.Source.state c.next_end.new.source).left (g.W.Sink.state c.args.sink.now).written (g.W.Sink.state c.next_end.new.sink).written c.args.held.now c.next_end.new.held (g.W.Sink.state c.stop.new.sink).written c.stop.new.held
-    a.0.2 a.0.3 a.0.1 a.1 c.line_refusal.ensures c.stop.ensures.stops
+    let p = err_from_is_err_and c.from_residual-in_err-put_out-in-TooFar.result c.from_residual-in_err-put_out-in-TooFar.ensures.1 in
+    rw (p.1, p.2) (unwritten (is_bare c.args.showing.form) c.args.showing.max c.args.showing.depth c.args.number (c.args.ahead.now ++ rest) c.next_end.new.ahead a.0.0 (g.R.Source.state c.next_end.new.source).left (g.W.Sink.state c.args.sink.now).written (g.W.Sink.state c.next_end.new.sink).written c.args.held.now c.next_end.new.held (g.W.Sink.state c.put_out-in-TooFar.new.sink).written c.put_out-in-TooFar.new.held
+    a.0.2 a.0.1 a.1 c.in_err-put_out-in-TooFar.ensures.err)
+
+pub returns-in_ok-put_out-in-TooFar-clause-line : goal.returns-in_ok-put_out-in-TooFar-clause-line
+returns-in_ok-put_out-in-TooFar-clause-line g c = λ rest known_input.
+    let a = rw c.in-TooFar.is at (c.in_ok-place.ensures.end rest known_input) in
+    far_stops (is_bare c.args.showing.form) c.args.showing.max c.args.showing.depth c.args.number (c.args.ahead.now ++ rest) c.next_end.new.ahead a.0.0 (g.R.Source.state c.next_end.new.source).left (g.W.Sink.state c.args.sink.now).written (g.W.Sink.state c.next_end.new.sink).written c.args.held.now c.next_end.new.held (g.W.Sink.state c.put_out-in-TooFar.new.sink).written c.put_out-in-TooFar.new.held
+    a.0.2 a.0.3 a.0.1 a.1 c.in_ok-put_out-in-TooFar.ensures.ok
