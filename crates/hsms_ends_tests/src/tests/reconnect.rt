@@ -139,13 +139,7 @@ fn serve_host(
     settings: Settings,
     script: &[Step],
 ) -> Result<ServedAgain, ServeFault> {
-    serve_again(
-        alloc,
-        link,
-        log,
-        HostDesk,
-        &options_of(settings, script, 3),
-    )
+    serve_again(alloc, link, log, HostDesk, &options_of(settings, script, 3))
 }
 
 /// Checks that three connections of a host give a log that passes the audit with 15 entries.
