@@ -1,5 +1,5 @@
 -- With what `hsms serve` serves a connection, and how it reports the result.
-use Rattle.std.specs.Prelude.{◌≡◌, ◌==◌, ◌||◌, not, ℕ, Bool, true, List, codes, Option, Some, None, Result, Ok, Err, if◌then◌else◌}
+use Rattle.std.specs.Prelude.{◌≡◌, ◌==◌, ◌||◌, not, ℕ, Bool, true, List, [], codes, Option, Some, None, Result, Ok, Err, if◌then◌else◌}
 use Rattle.secs_text.specs.declared.message.Message.{Message}
 use Rattle.secs_text.specs.Content.{Content}
 use Rattle.hsms_endpoint.specs.Answer.{Answered}
@@ -7,12 +7,14 @@ use Rattle.hsms_endpoint.specs.Desk.{equipment_answer, host_answer}
 use Rattle.hsms_endpoint.specs.EndState.{initial_state}
 use Rattle.hsms_frame.specs.Io.{SinkState}
 use Rattle.hsms_machine.specs.declared.settings.Role.TheVariants as role
+use Rattle.hsms_machine.specs.Settings.{several_of}
 use Rattle.hsms_ends.specs.declared.fault.ServeFault.{ServeFault}
 use Rattle.hsms_ends.specs.declared.fault.ServeFault.TheVariants as serve
 use Rattle.hsms_ends.specs.declared.reconnect.ServedAgain.{ServedAgain}
 use Rattle.hsms_ends.specs.declared.serving.ServedScript.{ServedScript}
 use Rattle.hsms_ends.specs.declared.step.Step.{Step}
 use Rattle.hsms_ends.specs.Link.{LinkState}
+use Rattle.hsms_ends.specs.Reconnect.{ServesAgain}
 use Rattle.hsms_ends.specs.ScriptedDesk.{scripted_answer}
 use Rattle.hsms_ends.specs.Serving.{ServesTesting, is_complete}
 use Rattle.cli_serve.specs.declared.handler_choice.ChosenHandler.{ChosenHandler}
@@ -75,3 +77,10 @@ pause_for linktest = if linktest == 0 then None else Some linktest
 abbrev pub ServesTo : Service → ChosenHandler → List Step → Result ServedScript ServeFault → SinkState → SinkState → LinkState → LinkState → Type 0
 ServesTo service desk script result log log' link link' =
     ServesTesting own_answer (pause_for service.linktest) (record { desk = desk; known = initial_state service.settings service.first_system }) script service.turns result log log' link link'
+
+-- Holds if new ends served connections one after another with this message handler, as the service requests. With
+-- `once`, only the first connection uses the script.
+abbrev pub ServesAgainTo : {D : Type 0} → (D → ℕ → Content → Answered) → Service → D → List Step → Result ServedAgain ServeFault → SinkState → SinkState → LinkState → LinkState → Type 0
+ServesAgainTo answers service desk script result log log' link link' =
+    ServesAgain answers (pause_for service.linktest) desk (several_of service.settings) service.first_system script
+    (if service.repeat.once then [] else script) service.turns service.repeat.connections result log log' link link'

@@ -1,14 +1,13 @@
 //! `hsms serve`: one connection, served.
 
 ghost use Rattle.std.specs.Prelude.{◌≡◌, if◌then◌else◌, []};
-ghost use Rattle.hsms_machine.specs.Settings.{several_of};
-ghost use Rattle.hsms_ends.specs.Reconnect.{ServesAgain};
-ghost use Rattle.cli_serve.specs.Serving.{ServesTo, ReturnsServeFault, ReturnsServed, ReturnsServedAgain, own_answer, pause_for};
+ghost use Rattle.cli_serve.specs.Serving.{ServesTo, ServesAgainTo, ReturnsServeFault, ReturnsServed, ReturnsServedAgain, own_answer, pause_for};
 
 use crate::handler_choice::ChosenHandler;
 use cli_options::{Service, ToolFault};
 use hsms_ends::{
-    Again, Lent, Link, ServeFault, ServedAgain, ServedScript, Step, serve_again, serve_testing,
+    Again, Lent, Link, ServeAgainOptions, ServeFault, ServeOptions, ServedAgain, ServedScript,
+    Step, serve_again, serve_testing,
 };
 use hsms_frame::Sink;
 use std::alloc::Global;
@@ -34,17 +33,14 @@ pub fn serve_to<L: Link, W: Sink>(
     ensures { ServesTo service.now desk script.now result (W.state log.old) (W.state log.new)
         (L.link_state link.old) (L.link_state link.new) }
 {
-    serve_testing(
-        alloc,
-        link,
-        log,
-        service.settings,
-        desk,
-        service.first_system,
+    let options = ServeOptions {
+        settings: service.settings,
+        first_system: service.first_system,
         script,
-        pause_of(service.linktest),
-        u64::from(service.turns),
-    )
+        linktest: pause_of(service.linktest),
+        turns: u64::from(service.turns),
+    };
+    serve_testing(alloc, link, log, desk, &options)
 }
 
 // Returns the idle time in milliseconds after which the link is tested, if it is tested.
@@ -69,24 +65,21 @@ pub fn serve_again_to<L: Again, W: Sink>(
     desk: Lent<'_, ChosenHandler>,
     script: &[Step],
 ) -> Result<ServedAgain, ServeFault>
-    ensures { ServesAgain (λ lent. own_answer lent.desk.now) (pause_for service.now.linktest) desk.entry
-        (several_of service.now.settings)
-        service.now.first_system script.now (if service.now.repeat.once then [] else script.now) service.now.turns
-        service.now.repeat.connections result (W.state log.old) (W.state log.new) (L.link_state link.old) (L.link_state link.new) }
+    ensures { ServesAgainTo (λ lent. own_answer lent.desk.now) service.now desk.entry script.now result
+        (W.state log.old) (W.state log.new) (L.link_state link.old) (L.link_state link.new) }
 {
-    serve_again(
-        alloc,
-        link,
-        log,
-        service.settings,
-        desk,
-        service.first_system,
-        script,
-        later_steps(script, service.repeat.once),
-        pause_of(service.linktest),
-        u64::from(service.turns),
-        u64::from(service.repeat.connections),
-    )
+    let options = ServeAgainOptions {
+        first: ServeOptions {
+            settings: service.settings,
+            first_system: service.first_system,
+            script,
+            linktest: pause_of(service.linktest),
+            turns: u64::from(service.turns),
+        },
+        later_script: later_steps(script, service.repeat.once),
+        connections: u64::from(service.repeat.connections),
+    };
+    serve_again(alloc, link, log, desk, &options)
 }
 
 // Returns the script of each connection except the first.

@@ -3,7 +3,7 @@ use Rattle.std.specs.Prelude.{false, true, ◌≡◌, ◌≤◌, ◌-◌, ◌++�
 use Rattle.secs_text.specs.Content.{Content}
 use Rattle.hsms_frame.specs.Io.{SinkState}
 use Rattle.hsms_machine.specs.declared.entry.Entry.{Entry}
-use Rattle.hsms_machine.specs.Settings.{Parameters}
+use Rattle.hsms_machine.specs.Settings.{Parameters, several_of}
 use Rattle.hsms_machine.specs.Entry.{entry_at}
 use Rattle.hsms_machine.specs.Run.{IsRun}
 use Rattle.hsms_machine.specs.Laws.{EndsDown}
@@ -12,6 +12,7 @@ use Rattle.hsms_log.specs.Log.{LogText, written_log}
 use Rattle.hsms_endpoint.specs.Answer.{Answered}
 use Rattle.hsms_endpoint.specs.EndState.{EndOf, initial_since}
 use Rattle.hsms_ends.specs.declared.reconnect.ServedAgain.{ServedAgain}
+use Rattle.hsms_ends.specs.declared.serve_options.ServeAgainOptions.{ServeAgainOptions}
 use Rattle.hsms_ends.specs.declared.step.Step.{Step}
 use Rattle.hsms_ends.specs.declared.serving.ServedScript.{ServedScript}
 use Rattle.hsms_ends.specs.declared.fault.ServeFault.{ServeFault}
@@ -122,8 +123,8 @@ is_log_fault_again (Err serve.Turns) = false
 is_log_fault_again (Err serve.Memory) = false
 is_log_fault_again (Err serve.Log) = true
 
--- What `serve_again` did under the settings of several connections, in at most `most` of them, with tests of the link
--- after this pause.
+-- The effect of serving connections under the settings of several ones, in at most `most` of them, with tests of the
+-- link after this pause.
 pub record ServesAgain {D : Type 0} (answers : D → ℕ → Content → Answered) (pause : Option ℕ) (desk : D) (s : Parameters) (first_system : ℕ) (script later : List Step) (limit most : ℕ) (result : Result ServedAgain ServeFault) (log log' : SinkState) (link link' : LinkState) : Type 0 where
   pub connections : List Connection
   pub are : AreServed answers pause desk s first_system limit script later 0 connections link link'
@@ -137,3 +138,10 @@ pub record ServesAgain {D : Type 0} (answers : D → ℕ → Content → Answere
   pub answer : AnswersAgain result connections
   -- The times, the bytes and the results of `wait` in the stories are those that the link gave.
   pub processes_input : ProcessesInput link link' (processed_all connections)
+
+-- What `serve_again` did by its options, in one log of several connections, with endpoints that have this message
+-- handler.
+abbrev pub ServesAgainBy : {D : Type 0} → (D → ℕ → Content → Answered) → D → ServeAgainOptions → Result ServedAgain ServeFault → SinkState → SinkState → LinkState → LinkState → Type 0
+ServesAgainBy answers desk options result log log' link link' =
+    ServesAgain answers options.first.linktest desk (several_of options.first.settings) options.first.first_system
+    options.first.script.now options.later_script.now options.first.turns options.connections result log log' link link'

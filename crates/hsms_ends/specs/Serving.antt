@@ -11,10 +11,11 @@ use Rattle.hsms_machine.specs.Settings.{Parameters}
 use Rattle.hsms_log.specs.LineFormat.{settings_line}
 use Rattle.hsms_log.specs.Log.{LogText, written_log}
 use Rattle.hsms_endpoint.specs.Answer.{Answered}
-use Rattle.hsms_endpoint.specs.EndState.{EndOf}
+use Rattle.hsms_endpoint.specs.EndState.{EndOf, initial_state}
 use Rattle.hsms_endpoint.specs.Turn.{start, lost}
 use Rattle.hsms_endpoint.specs.End.{Accepts}
 use Rattle.hsms_ends.specs.declared.step.Step.{Step}
+use Rattle.hsms_ends.specs.declared.serve_options.ServeOptions.{ServeOptions}
 use Rattle.hsms_ends.specs.declared.serving.Served.{Served}
 use Rattle.hsms_ends.specs.declared.serving.ServedScript.{ServedScript}
 use Rattle.hsms_ends.specs.declared.fault.ServeFault.{ServeFault}
@@ -213,8 +214,8 @@ abbrev pub failures_after : Bool → ℕ → ℕ
 failures_after true n = next_count n
 failures_after false n = n
 
--- What `serve_testing` did, with a new endpoint and a script, in at most `limit` turns, with tests of the link after
--- this pause.
+-- The effect of serving a new endpoint with a script, in at most `limit` turns, with tests of the link after this
+-- pause.
 pub record ServesTesting {D : Type 0} (answers : D → ℕ → Content → Answered) (pause : Option ℕ) (new : EndOf D) (script : List Step) (limit : ℕ) (result : Result ServedScript ServeFault) (log log' : SinkState) (link link' : LinkState) : Type 0 where
   -- The start, the turns and the entries that the endpoint returned for its inputs.
   pub story : Story
@@ -243,6 +244,12 @@ pub record ServesTesting {D : Type 0} (answers : D → ℕ → Content → Answe
   pub failed_is : MayHaveFailed result failed
   -- `serve` reports a lost connection to the endpoint only after the link failed.
   pub lost_is : has_lost story ≡ true → failed ≡ true
+
+-- What `serve_testing` did by its options, with a new endpoint that has this message handler.
+abbrev pub ServesBy : {D : Type 0} → (D → ℕ → Content → Answered) → D → ServeOptions → Result ServedScript ServeFault → SinkState → SinkState → LinkState → LinkState → Type 0
+ServesBy answers desk options result log log' link link' =
+    ServesTesting answers options.linktest (record { desk = desk; known = initial_state options.settings options.first_system })
+    options.script.now options.turns result log log' link link'
 
 -- A result with the number of remaining steps of the script.
 abbrev pub with_left : ℕ → Result Served ServeFault → Result ServedScript ServeFault

@@ -1,19 +1,18 @@
 //! Consecutive connections, served in one log.
 
 ghost use Rattle.std.specs.Prelude.{◌≡◌};
-ghost use Rattle.hsms_machine.specs.Settings.{several_of};
-ghost use Rattle.hsms_ends.specs.Reconnect.{ServesAgain};
+ghost use Rattle.hsms_ends.specs.Reconnect.{ServesAgainBy};
 ghost use Rattle.hsms_ends.specs.ReconnectSteps.{NextServed, script_at};
 ghost use Rattle.hsms_ends.specs.ServeSteps.{IsReady};
 
 use crate::fault::ServeFault;
 use crate::link::Again;
+use crate::serve_options::{ServeAgainOptions, ServeOptions};
 use crate::serving::serve_end;
 use crate::step::Step;
 use hsms_endpoint::{Answer, End, TurnDesk};
 use hsms_frame::Sink;
 use hsms_log::write_settings;
-use hsms_machine::Settings;
 use secs_text::Message;
 use std::alloc::{AllocError, Global};
 
@@ -74,19 +73,15 @@ pub fn serve_again<L: Again, W: Sink, D: TurnDesk + Copy>(
     alloc: Global,
     link: &mut L,
     log: &mut W,
-    settings: Settings,
     desk: D,
-    first_system: u32,
-    script: &[Step],
-    later: &[Step],
-    pause: Option<u64>,
-    turns: u64,
-    connections: u64,
+    options: &ServeAgainOptions<'_>,
 ) -> Result<ServedAgain, ServeFault>
-    ensures { ServesAgain D.answers_after pause desk (several_of settings) first_system script.now later.now turns connections result
-        (W.state log.old) (W.state log.new) (L.link_state link.old) (L.link_state link.new) }
+    ensures { ServesAgainBy D.answers_after desk options.now result (W.state log.old) (W.state log.new)
+        (L.link_state link.old) (L.link_state link.new) }
 {
-    let several = settings.several();
+    let first = &options.first;
+    let connections = options.connections;
+    let several = first.settings.several();
     match write_settings(log, &several) {
         Ok(()) => {}
         Err(_) => return Err(ServeFault::Log),
@@ -95,9 +90,14 @@ pub fn serve_again<L: Again, W: Sink, D: TurnDesk + Copy>(
     let mut since = 0;
     let mut complete = true;
     while done < connections && link.again() {
-        let mut end = End::since(alloc, several, desk, first_system, since);
-        let steps = steps_of(script, later, done);
-        let answer = serve_next(link, log, &mut end, steps, pause, turns);
+        let mut end = End::since(alloc, several, desk, first.first_system, since);
+        let script = steps_of(first.script, options.later_script, done);
+        let next = ServeOptions {
+            settings: several,
+            script,
+            ..*first
+        };
+        let answer = serve_next(link, log, &mut end, &next);
         let moment = end.last_time();
         match answer {
             Ok(is_complete) => {
@@ -126,15 +126,13 @@ fn serve_next<L: Again, W: Sink, D: TurnDesk>(
     link: &mut L,
     log: &mut W,
     end: &mut End<D>,
-    script: &[Step],
-    pause: Option<u64>,
-    turns: u64,
+    options: &ServeOptions<'_>,
 ) -> Result<bool, ServeFault>
     requires { IsReady end.old }
-    ensures { NextServed D.answers_after pause end.old end.new script.now turns result
-        (W.state log.old) (W.state log.new) (L.link_state link.old) (L.link_state link.new) }
+    ensures { NextServed D.answers_after options.now.linktest end.old end.new options.now.script.now options.now.turns
+        result (W.state log.old) (W.state log.new) (L.link_state link.old) (L.link_state link.new) }
 {
-    match serve_end(link, log, end, script, pause, turns) {
+    match serve_end(link, log, end, options) {
         Ok(served) => Ok(served.is_complete()),
         Err(ServeFault::Link) => Ok(false),
         Err(ServeFault::Log) => Err(ServeFault::Log),

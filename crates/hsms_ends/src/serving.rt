@@ -2,12 +2,13 @@
 
 ghost use Rattle.std.specs.Prelude.{◌≡◌, drop, length};
 ghost use Rattle.hsms_endpoint.specs.EndState.{initial_state};
-ghost use Rattle.hsms_ends.specs.Serving.{Serves, ServesTesting};
+ghost use Rattle.hsms_ends.specs.Serving.{Serves, ServesBy};
 ghost use Rattle.hsms_ends.specs.ServeSteps.{IsReady, ServesEnd, RestClosed, StoppedAs};
 
 use crate::fault::ServeFault;
 use crate::link::Link;
 use crate::output::{Stop, entries_are_in_range, log_rest};
+use crate::serve_options::ServeOptions;
 use crate::step::Step;
 use crate::turns::{Progress, has_gone, run};
 use hsms_endpoint::{End, TurnDesk};
@@ -81,20 +82,17 @@ pub fn serve<L: Link, W: Sink, D: TurnDesk + Drop>(
     script: &[Step],
     turns: u64,
 ) -> Result<Served, ServeFault>
-    ensures { Serves D.answers_after (record { desk = desk; known = initial_state settings first_system }) script.now turns result
-        (W.state log.old) (W.state log.new) (L.link_state link.old) (L.link_state link.new) }
+    ensures { Serves D.answers_after (record { desk = desk; known = initial_state settings first_system })
+        script.now turns result (W.state log.old) (W.state log.new) (L.link_state link.old) (L.link_state link.new) }
 {
-    let answer = serve_testing(
-        alloc,
-        link,
-        log,
+    let options = ServeOptions {
         settings,
-        desk,
         first_system,
         script,
-        None,
+        linktest: None,
         turns,
-    );
+    };
+    let answer = serve_testing(alloc, link, log, desk, &options);
     match answer {
         Ok(served) => Ok(served.counts),
         Err(fault) => Err(fault),
@@ -102,9 +100,9 @@ pub fn serve<L: Link, W: Sink, D: TurnDesk + Drop>(
 }
 
 /// Serves one connection as [`serve`] does, and tests the link. The endpoint sends Linktest.req (SEMI E37, section 7,
-/// linktest procedure) if no step is due and nothing was received or logged for `pause` milliseconds. It does so
+/// linktest procedure) if no step is due and nothing was received or logged for `linktest` milliseconds. It does so
 /// while the session is selected, no Linktest.req is open, and fewer than 64 own transactions are open (`test_due` of
-/// `hsms_endpoint`). T6 then runs. Without a pause it is `serve`.
+/// `hsms_endpoint`). T6 then runs. If `linktest` is `None` it is `serve`.
 ///
 /// It ensures what `serve` does, and the number of remaining steps of the script. Each test of the link is one of the
 /// turns of its story (`MustTest`).
@@ -112,37 +110,32 @@ pub fn serve_testing<L: Link, W: Sink, D: TurnDesk + Drop>(
     alloc: Global,
     link: &mut L,
     log: &mut W,
-    settings: Settings,
     desk: D,
-    first_system: u32,
-    script: &[Step],
-    pause: Option<u64>,
-    turns: u64,
+    options: &ServeOptions<'_>,
 ) -> Result<ServedScript, ServeFault>
-    ensures { ServesTesting D.answers_after pause (record { desk = desk; known = initial_state settings first_system }) script.now turns
-        result (W.state log.old) (W.state log.new) (L.link_state link.old) (L.link_state link.new) }
+    ensures { ServesBy D.answers_after desk options.now result (W.state log.old) (W.state log.new)
+        (L.link_state link.old) (L.link_state link.new) }
 {
-    match write_settings(log, &settings) {
+    match write_settings(log, &options.settings) {
         Ok(()) => {
-            let mut end = End::new(alloc, settings, desk, first_system);
-            serve_end(link, log, &mut end, script, pause, turns)
+            let mut end = End::new(alloc, options.settings, desk, options.first_system);
+            serve_end(link, log, &mut end, options)
         }
         Err(_) => Err(ServeFault::Log),
     }
 }
 
-/// Serves an endpoint that has received no input. Does not write the settings line.
+/// Serves an endpoint that has received no input, and has the settings and the first system bytes of the options. Does
+/// not write the settings line.
 pub fn serve_end<L: Link, W: Sink, D: TurnDesk>(
     link: &mut L,
     log: &mut W,
     end: &mut End<D>,
-    script: &[Step],
-    pause: Option<u64>,
-    turns: u64,
+    options: &ServeOptions<'_>,
 ) -> Result<ServedScript, ServeFault>
     requires { IsReady end.old }
-    ensures { ServesEnd D.answers_after pause end.old end.new script.now turns result (W.state log.old) (W.state log.new)
-        (L.link_state link.old) (L.link_state link.new) }
+    ensures { ServesEnd D.answers_after options.now.linktest end.old end.new options.now.script.now options.now.turns
+        result (W.state log.old) (W.state log.new) (L.link_state link.old) (L.link_state link.new) }
 {
     let mut progress = Progress {
         place: 0,
@@ -150,16 +143,7 @@ pub fn serve_end<L: Link, W: Sink, D: TurnDesk>(
         refused: 0,
     };
     let mut room = [0u8; ROOM];
-    match run(
-        link,
-        log,
-        end,
-        script,
-        &mut progress,
-        pause,
-        turns,
-        &mut room,
-    ) {
+    match run(link, log, end, options, &mut progress, &mut room) {
         Ok(()) => {
             if has_gone(end) {
                 Ok(ServedScript {
@@ -167,7 +151,7 @@ pub fn serve_end<L: Link, W: Sink, D: TurnDesk>(
                         entries: progress.entries,
                         refused: progress.refused,
                     },
-                    left: left_over(script, progress.place),
+                    left: left_over(options.script, progress.place),
                 })
             } else {
                 Err(ServeFault::Turns)

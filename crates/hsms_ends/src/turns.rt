@@ -11,6 +11,7 @@ ghost use Rattle.hsms_ends.specs.ServeSteps.{called, IsReady, Yields, Handed, Fo
 use crate::endpoint_call::Call;
 use crate::link::{Got, Link};
 use crate::output::{Stop, entries_are_in_range, put_out};
+use crate::serve_options::ServeOptions;
 use crate::step::Step;
 use hsms_endpoint::{End, EndFault, TurnDesk};
 use hsms_frame::Sink;
@@ -285,16 +286,15 @@ pub fn run<L: Link, W: Sink, D: TurnDesk>(
     link: &mut L,
     log: &mut W,
     end: &mut End<D>,
-    script: &[Step],
+    options: &ServeOptions<'_>,
     progress: &mut Progress,
-    pause: Option<u64>,
-    turns: u64,
     into: &mut [u8],
 ) -> Result<(), Stop>
     requires ready { IsReady end.old }
     requires none { progress.old ≡ record { place = 0; entries = 0; refused = 0 } }
     requires room { 0 < length into.old }
-    ensures { Ran D.answers_after pause result turns end.old end.new script.now (drop progress.new.place script.now)
+    ensures { Ran D.answers_after options.now.linktest result options.now.turns end.old end.new
+        options.now.script.now (drop progress.new.place options.now.script.now)
         (W.state log.old) (W.state log.new) (L.link_state link.old) (L.link_state link.new)
         progress.new.entries progress.new.refused }
 {
@@ -303,9 +303,18 @@ pub fn run<L: Link, W: Sink, D: TurnDesk>(
         Ok(()) => {}
         Err(stop) => return Err(stop),
     }
+    let turns = options.turns;
     let mut done = 0;
     while done < turns && !has_gone(end) {
-        match turn(link, log, end, script, progress, pause, into) {
+        match turn(
+            link,
+            log,
+            end,
+            options.script,
+            progress,
+            options.linktest,
+            into,
+        ) {
             Ok(()) => done += 1,
             Err(stop) => return Err(stop),
         }

@@ -4,7 +4,10 @@ use super::connection::{audited, link_of, log_of, settings_of};
 use super::{
     Abort, Global, Role, Settings, Stop, Store, TurnDesk, assert_octets, assert_so, equipment,
 };
-use hsms_ends::{HostDesk, Lent, Scripted, ServeFault, ServedAgain, Step, serve_again};
+use hsms_ends::{
+    HostDesk, Lent, Scripted, ServeAgainOptions, ServeFault, ServeOptions, ServedAgain, Step,
+    serve_again,
+};
 use secs_text::read;
 
 /// Checks that this many connections were served. A failed allocation is passed on.
@@ -33,6 +36,21 @@ fn assert_entries(rt: &impl Abort, alloc: Global, log: &Store, entries: u64) -> 
     Ok(())
 }
 
+/// Returns how this number of connections is served, with a script in the first one.
+fn options_of(settings: Settings, script: &[Step], connections: u64) -> ServeAgainOptions<'_> {
+    ServeAgainOptions {
+        first: ServeOptions {
+            settings,
+            first_system: 1,
+            script,
+            linktest: None,
+            turns: 100,
+        },
+        later_script: &[],
+        connections,
+    }
+}
+
 /// Serves two connections of equipment.
 fn serve_lent<D: TurnDesk>(
     alloc: Global,
@@ -42,7 +60,7 @@ fn serve_lent<D: TurnDesk>(
     desk: &D,
 ) -> Result<ServedAgain, ServeFault> {
     let lent = Lent { desk };
-    serve_again(alloc, link, log, settings, lent, 1, &[], &[], None, 100, 2)
+    serve_again(alloc, link, log, lent, &options_of(settings, &[], 2))
 }
 
 /// Checks that two connections of equipment give this text, which passes the audit with this number of entries.
@@ -121,19 +139,7 @@ fn serve_host(
     settings: Settings,
     script: &[Step],
 ) -> Result<ServedAgain, ServeFault> {
-    serve_again(
-        alloc,
-        link,
-        log,
-        settings,
-        HostDesk,
-        1,
-        script,
-        &[],
-        None,
-        100,
-        3,
-    )
+    serve_again(alloc, link, log, HostDesk, &options_of(settings, script, 3))
 }
 
 /// Checks that three connections of a host give a log that passes the audit with 15 entries.
