@@ -40,10 +40,6 @@ adds_item (Ok done) item old new first second is_a is_p adds_a adds_p at = λ a 
   time = at ∙ ap (λ (n : ℕ). max n item.time) have.time ∙ sym (latest_more 0 items item);
 }
 
-pub on_ok : {T E A : Type 0} (result : Result T E) → A → OnOk result A
-on_ok (Ok x) a = a
-on_ok (Err e) a = tt
-
 abbrev note_with : Side → ℕ → LogItem → Option EntryKind → Note
 note_with side was item kind = record {
   remark = item.comment;

@@ -83,8 +83,10 @@ impl PairLogs {
 
     // Logs an entry after its comment.
     fn log_entry(&mut self, alloc: Global, comment: LogComment, kind: EntryKind) -> Result<(), Stop>
-        ensures active { OnOk result (Adds (note_by comment self.old.time (event_at Active kind)) self.old.active self.new.active) }
-        ensures passive { OnOk result (Adds (note_by comment self.old.time (event_at Passive kind)) self.old.passive self.new.passive) }
+        ensures active { OnOk result
+            (Adds (note_by comment self.old.time (event_at Active kind)) self.old.active self.new.active) }
+        ensures passive { OnOk result
+            (Adds (note_by comment self.old.time (event_at Passive kind)) self.old.passive self.new.passive) }
         ensures same { OnOk result (self.new.time ≡ self.old.time) }
         ensures unrefused { IfErr result IsNoRefusal }
     {

@@ -13,8 +13,8 @@ use hsms_machine::Role;
 use std::alloc::{AllocError, Global};
 use std::net::SocketAddr;
 
-/// Returns the line of an endpoint of this role and side: the addresses of the connection, the shortfall, and the verdict
-/// on the endpoint's log, if it has one.
+/// Returns the line of an endpoint of this role and side: the addresses of the connection, the shortfall, and the
+/// verdict on the endpoint's log, if it has one.
 pub fn end_line(
     alloc: Global,
     pair: &Pair,
