@@ -1,0 +1,4 @@
+pub mod Lists
+pub mod LoggedMore
+pub mod NextSegment
+pub mod ConnectionStates

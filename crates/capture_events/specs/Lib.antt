@@ -1,0 +1,4 @@
+pub mod ConnectionItems
+pub mod LoggedEvents
+pub mod TrackedConnection
+pub mod ConnectionState

@@ -1,0 +1,2 @@
+pub mod LogNotes
+pub mod NextEvent

@@ -1,0 +1,4 @@
+pub mod SkippedPackets
+pub mod VerdictLine
+pub mod VerdictReport
+pub mod ReportState
