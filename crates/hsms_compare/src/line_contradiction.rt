@@ -32,7 +32,7 @@ pub enum LineContradiction {
 }
 
 impl LineContradiction {
-    ghost use Rattle.std.specs.Prelude.{◌≡◌, List, Bool, true, false, Some, None, IfOk};
+    ghost use Rattle.std.specs.Prelude.{◌≡◌, ℕ, List, Bool, true, false, Some, None, IfOk, OnOk};
     ghost use Rattle.hsms_compare.specs.Conversation.{Line};
     ghost use Rattle.hsms_compare.specs.LineContradiction.{FirstByLines};
     ghost use Rattle.hsms_compare.specs.Passes.{HavePaused, IsFirstSent};
@@ -50,9 +50,11 @@ impl LineContradiction {
         host: &mut H,
         equipment: &mut E,
     ) -> Result<Option<LineContradiction>, ReadFault>
-        ensures { IfOk result (λ found. (h e : List Line) (host_more equipment_more : Bool)
+        ensures found { IfOk result (λ found. (h e : List Line) (host_more equipment_more : Bool)
             → H.left host.old h host_more → E.left equipment.old e equipment_more
             → FirstByLines host_more equipment_more h e found) }
+        ensures host_text { OnOk result ((text : List ℕ) → H.reads host.old text → H.reads host.new text) }
+        ensures equipment_text { OnOk result ((text : List ℕ) → E.reads equipment.old text → E.reads equipment.new text) }
     {
         match PassEnd::read(alloc, host, equipment)? {
             PassEnd::Differs(receiver, sent, received) => Ok(Some(LineContradiction::Differs {
@@ -74,9 +76,11 @@ impl LineContradiction {
         equipment: &mut E,
         equipment_pause: Pause,
     ) -> Result<Option<LineContradiction>, ReadFault>
-        ensures { IfOk result (λ found. (h e h_left e_left : List Line) (host_more equipment_more : Bool)
+        ensures found { IfOk result (λ found. (h e h_left e_left : List Line) (host_more equipment_more : Bool)
             → H.left host.old h_left host_more → E.left equipment.old e_left equipment_more
             → HavePaused h e h_left e_left host_pause equipment_pause → FirstByLines host_more equipment_more h e found) }
+        ensures host_text { OnOk result ((text : List ℕ) → H.reads host.old text → H.reads host.new text) }
+        ensures equipment_text { OnOk result ((text : List ℕ) → E.reads equipment.old text → E.reads equipment.new text) }
     {
         match host_pause {
             Pause::Done => match equipment_pause {
@@ -104,10 +108,12 @@ impl LineContradiction {
         equipment: &mut E,
         equipment_line: u64,
     ) -> Result<Option<LineContradiction>, ReadFault>
-        ensures { IfOk result (λ found. (h e h_left e_left : List Line) (host_more equipment_more : Bool)
+        ensures found { IfOk result (λ found. (h e h_left e_left : List Line) (host_more equipment_more : Bool)
             → H.left host.old h_left host_more → E.left equipment.old e_left equipment_more
             → HavePaused h e h_left e_left (Waits host_line) (Waits equipment_line)
             → FirstByLines host_more equipment_more h e found) }
+        ensures host_text { OnOk result ((text : List ℕ) → H.reads host.old text → H.reads host.new text) }
+        ensures equipment_text { OnOk result ((text : List ℕ) → E.reads equipment.old text → E.reads equipment.new text) }
     {
         let Some(host_from) = Self::first_sent(alloc, equipment)? else {
             return Ok(Some(LineContradiction::Unsent {
@@ -142,7 +148,8 @@ impl LineContradiction {
 
     /// Reads a log up to the next frame that it sends, and returns that line.
     fn first_sent<R: Entries>(alloc: Global, reader: &mut R) -> Result<Option<u64>, ReadFault>
-        ensures { IfOk result (λ sent. (lines : List Line) (more : Bool) → R.left reader.old lines more → IsFirstSent lines sent) }
+        ensures sent { IfOk result (λ sent. (lines : List Line) (more : Bool) → R.left reader.old lines more → IsFirstSent lines sent) }
+        ensures text { OnOk result ((text : List ℕ) → R.reads reader.old text → R.reads reader.new text) }
     {
         loop {
             match reader.next(alloc)? {

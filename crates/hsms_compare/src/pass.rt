@@ -44,7 +44,7 @@ pub enum PassEnd {
 }
 
 impl PassEnd {
-    ghost use Rattle.std.specs.Prelude.{List, Bool, IfOk};
+    ghost use Rattle.std.specs.Prelude.{ℕ, List, Bool, IfOk, OnOk};
     ghost use Rattle.hsms_machine.specs.declared.settings.Role.TheVariants.{Host};
     ghost use Rattle.hsms_compare.specs.Conversation.{Line};
     ghost use Rattle.hsms_compare.specs.Merge.{IsMergeOf};
@@ -61,10 +61,12 @@ impl PassEnd {
         host: &mut H,
         equipment: &mut E,
     ) -> Result<PassEnd, ReadFault>
-        ensures { IfOk result (λ end. (h e : List Line) (host_more equipment_more : Bool)
+        ensures pass { IfOk result (λ end. (h e : List Line) (host_more equipment_more : Bool)
             → H.left host.old h host_more → E.left equipment.old e equipment_more
             → (h_left e_left : List Line) × H.left host.new h_left host_more × E.left equipment.new e_left equipment_more
             × HasStopped h e h_left e_left end) }
+        ensures host_text { OnOk result ((text : List ℕ) → H.reads host.old text → H.reads host.new text) }
+        ensures equipment_text { OnOk result ((text : List ℕ) → E.reads equipment.old text → E.reads equipment.new text) }
     {
         let mut merge = Merge::new(alloc);
         let mut host_next = host.next(alloc)?;
