@@ -2,8 +2,10 @@
 
 use crate::input::Input;
 use crate::line_read::LineRead;
+use crate::read_entry::Content;
 use hsms_compare::{NumberedEntry, ReadFault};
 use hsms_frame::Source;
+use hsms_log::Verdict;
 use std::alloc::Global;
 
 /// A reader of the entries of a log after its settings.
@@ -20,9 +22,11 @@ pub struct EntryReader<R> {
 
 impl<R: Source + Drop> EntryReader<R> {
     ghost use Rattle.std.specs.Prelude.{◌≡◌, ◌+◌, ◌≤◌, ℕ, List, IfOk, OnOk, length};
+    ghost use Rattle.hsms_log.specs.Verdict.{HasAuditVerdict};
     ghost use Rattle.hsms_compare.specs.Conversation.{Line};
     ghost use Rattle.hsms_compare.specs.Readings.{IsRead, pending};
     ghost use Rattle.hsms_compare_logs.specs.Audited.{ReadsText};
+    ghost use Rattle.hsms_compare_logs.specs.LogEntries.{after_up};
     ghost use Rattle.hsms_compare_logs.specs.Entries.{AreLeft, most_left};
 
     /// Returns the next entry, or `None` at the end.
@@ -54,5 +58,39 @@ impl<R: Source + Drop> EntryReader<R> {
             }
         }
         Ok(None)
+    }
+
+    /// Reads up to the first `up`, or to the end.
+    pub fn skip_to_up(&mut self, alloc: Global) -> Result<(), ReadFault>
+        ensures entries { OnOk result ((found : List Line)
+            → AreLeft self.old.input.block.items (R.state self.old.input.source).left self.old.max self.old.lines self.old.is_ended found
+            → AreLeft self.new.input.block.items (R.state self.new.input.source).left self.new.max self.new.lines self.new.is_ended (after_up found)) }
+        ensures text { OnOk result ((text : List ℕ) → ReadsText text self.old.input.audit (R.state self.old.input.source).left
+            → ReadsText text self.new.input.audit (R.state self.new.input.source).left) }
+    {
+        loop {
+            match self.next(alloc)? {
+                None => return Ok(()),
+                Some(next) => {
+                    if Content::is_up(&next.entry.event) {
+                        return Ok(());
+                    }
+                }
+            }
+        }
+    }
+
+    /// Reads the rest of the log, and returns the verdict on it.
+    pub fn finish(self, alloc: Global) -> Result<Verdict, ReadFault>
+        ensures { IfOk result (λ verdict. (text : List ℕ)
+            → ReadsText text self.input.audit (R.state self.input.source).left → HasAuditVerdict text verdict) }
+    {
+        let EntryReader {
+            input,
+            max: _,
+            lines: _,
+            is_ended: _,
+        } = self;
+        input.finish(alloc)
     }
 }

@@ -2,10 +2,14 @@
 #![tactic(auto)]
 
 mod bounded_audit;
+mod comparing;
 mod entry_reader;
 mod input;
 mod line_read;
 mod log_entries;
+mod opened_log;
 mod read_entry;
 
+pub use comparing::LogComparison;
 pub use log_entries::LogEntries;
+pub use opened_log::OpenedLog;

@@ -4,6 +4,7 @@ use crate::entry_reader::EntryReader;
 use crate::read_entry::Content;
 use hsms_compare::{Entries, NumberedEntry, ReadFault};
 use hsms_frame::Source;
+use hsms_log::Verdict;
 use std::alloc::Global;
 
 /// A reader of the first connection of a log.
@@ -19,7 +20,8 @@ pub struct LogEntries<R> {
 }
 
 impl<R: Source + Drop> LogEntries<R> {
-    ghost use Rattle.std.specs.Prelude.{◌≡◌, ◌≤◌, ◌+◌, false, ℕ, List, OnOk, length};
+    ghost use Rattle.std.specs.Prelude.{◌≡◌, ◌≤◌, ◌+◌, false, ℕ, List, IfOk, OnOk, length};
+    ghost use Rattle.hsms_log.specs.Verdict.{HasAuditVerdict};
     ghost use Rattle.hsms_compare.specs.Conversation.{Line};
     ghost use Rattle.hsms_compare.specs.Readings.{pending};
     ghost use Rattle.hsms_compare_logs.specs.Audited.{ReadsText};
@@ -53,6 +55,25 @@ impl<R: Source + Drop> LogEntries<R> {
             }
         }
         Ok(())
+    }
+
+    /// Reads the rest of the log, and returns the verdict on it.
+    ///
+    /// # Errors
+    ///
+    /// Returns `Read` if a read fails, `Endless` after 2^62 bytes, or `Memory` if an allocation fails.
+    pub fn finish(self, alloc: Global) -> Result<Verdict, ReadFault>
+        ensures { IfOk result (λ verdict. (text : List ℕ)
+            → ReadsText text self.reader.input.audit (R.state self.reader.input.source).left → HasAuditVerdict text verdict) }
+    {
+        let LogEntries {
+            reader,
+            next,
+            is_down: _,
+            is_followed: _,
+        } = self;
+        drop(next);
+        reader.finish(alloc)
     }
 }
 
