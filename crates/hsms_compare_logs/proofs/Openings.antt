@@ -1,7 +1,9 @@
 -- The first line of a log, and the entries after it.
-use Rattle.std.proofs.Common.{◌≡◌, ◌++◌, ℕ, List, [], ◌∷◌, Some, None, Bool, true, false, sym, ◌∙◌, ap, subst}
+use Rattle.std.proofs.Common.{◌≡◌, ◌≢◌, ◌++◌, ℕ, List, [], ◌∷◌, Some, None, Bool, true, false, refl, sym, ◌∙◌, ap, subst}
 use Rattle.std.specs.Prelude.{Option, Result, Ok, Err, IfOk, IfSome}
 use Rattle.std.specs.Str.Lines.{strip_carriage_return}
+use Rattle.hsms_machine.specs.declared.settings.Role.{Role}
+use Rattle.hsms_machine.specs.declared.settings.Role.TheVariants.{Host, Equipment}
 use Rattle.hsms_machine.specs.Settings.{Parameters}
 use Rattle.hsms_log.specs.Lines.{HasNone, ended_lines, open_line}
 use Rattle.hsms_log.proofs.LineLemmas.{ended_lines-first, ended_lines-none, open_line-first}
@@ -39,3 +41,9 @@ last_is limit items text line left a last none is same h =
     let Q : List ℕ → Type 0 = λ x. HasNone 10 x in
     let b = subst P is h in
     (sym (ap (λ x. x ++ text) none) ∙ b.0 ∙ sym same, subst Q (sym same) b.1)
+
+-- ---- roles
+
+pub other_role : (a b : Role) → a ≢ b → a ≡ Equipment → b ≡ Host
+other_role a Host apart is = refl
+other_role a Equipment apart is = absurd (apart is)

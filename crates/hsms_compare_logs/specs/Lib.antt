@@ -3,3 +3,4 @@ pub mod LogEntries
 pub mod Reader
 pub mod Entries
 pub mod Connection
+pub mod Comparison

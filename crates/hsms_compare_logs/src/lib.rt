@@ -3,6 +3,7 @@
 
 mod bounded_audit;
 mod comparing;
+mod comparing_logs;
 mod entry_reader;
 mod input;
 mod line_read;
@@ -11,5 +12,6 @@ mod opened_log;
 mod read_entry;
 
 pub use comparing::LogComparison;
+pub use comparing_logs::CompareFault;
 pub use log_entries::LogEntries;
 pub use opened_log::OpenedLog;
