@@ -28,7 +28,7 @@ sends-of_take log j k frame n s =
       number = s.number ∙ ap (λ x. length (sent x)) (take-take k j log (omega arith));
     }
 
-sends-append : (a b : List Entry) (k : ℕ) (frame : Frame) (n : ℕ) → SendsAs b k frame n → SendsAs (a ++ b) (length a + k) frame (length (sent a) + n)
+pub sends-append : (a b : List Entry) (k : ℕ) (frame : Frame) (n : ℕ) → SendsAs b k frame n → SendsAs (a ++ b) (length a + k) frame (length (sent a) + n)
 sends-append a b k frame n s = record {
   there = (let l = length-append a b in let t = s.there in omega arith);
   frame_is = ap (λ (x : Entry). sent_by x.event) (get_or-append-add a b k (record { time = 0; event = Up })) ∙ s.frame_is;
@@ -52,7 +52,7 @@ first_sent : (log : List Entry) → 0 < length (sent log) → (k : ℕ) × (fram
 first_sent [] some = absurd (omega arith)
 first_sent (entry ∷ log) some = first_sent_at entry log (first_sent log) (sends_cases entry.event) some
 
-receives_silent : (event : Event) (frame : Frame) → received_by event ≡ frame ∷ [] → sent_by event ≡ []
+pub receives_silent : (event : Event) (frame : Frame) → received_by event ≡ frame ∷ [] → sent_by event ≡ []
 receives_silent Up frame e = refl
 receives_silent (Sent other) frame e = absurd (cc)
 receives_silent (Taken other) frame e = refl

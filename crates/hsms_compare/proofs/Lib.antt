@@ -9,5 +9,7 @@ pub mod Outcomes
 pub mod Finals
 pub mod RequestStates
 pub mod Connected
+pub mod Completions
 pub mod LinesRead
 pub mod OpenLogs
+pub mod LineContradictions

@@ -3,7 +3,9 @@ pub mod Agreement
 pub mod Merge
 pub mod Outcome
 pub mod Connections
-pub mod LineStops
+pub mod Readings
+pub mod LineContradiction
+pub mod Passes
 pub mod Laws
 pub mod ByteStreams
 pub mod RequestState

@@ -1,8 +1,6 @@
-//! The comparison of two logs that are read once.
+//! Readers of logs.
 
-use crate::merge::Merge;
-use crate::stop::MergeResult;
-use hsms_machine::{Entry, Role};
+use hsms_machine::Entry;
 use std::alloc::{AllocError, Global};
 
 /// An entry that was read, and its position: its line number.
@@ -12,104 +10,52 @@ pub struct NumberedEntry {
     pub entry: Entry,
 }
 
+/// Why a log was not read to its end.
+#[derive(Clone, Copy, Debug, PartialEq, Eq)]
+pub enum ReadFault {
+    /// A read failed.
+    Read,
+    /// All reads were used, and none found the end.
+    Endless,
+    /// An allocation failed.
+    Memory,
+}
+
+impl From<AllocError> for ReadFault {
+    ghost use Rattle.std.specs.Prelude.{◌≡◌};
+    ghost use Rattle.hsms_compare.specs.declared.reading.ReadFault.TheVariants.{Memory};
+
+    ghost from_gives = { λ _ e. e ≡ Memory };
+
+    fn from(_: AllocError) -> ReadFault {
+        ReadFault::Memory
+    }
+}
+
 /// A reader of the log of one connection.
 pub trait Entries {
-    ghost use Rattle.std.specs.Prelude.{List, IfOk};
+    ghost use Rattle.std.specs.Prelude.{◌≡◌, ◌+◌, ◌≤◌, ℕ, List, [], Bool, IfOk, OnOk, length};
     ghost use Rattle.hsms_compare.specs.Conversation.{Line};
-    ghost use Rattle.hsms_compare.specs.LineStops.{IsRead};
+    ghost use Rattle.hsms_compare.specs.Readings.{IsRead, pending};
 
-    ghost left: { Self → List Line };
+    /// Holds if these entries are left, and whether the log may have more after them. It holds for no entries if the
+    /// reader does not record its input.
+    ghost left: { Self → List Line → Bool → Type 0 };
+
+    /// Holds if it reads the log with this text.
+    ghost reads: { Self → List ℕ → Type 0 };
+
+    /// No more than this many entries are left, recorded or not.
+    ghost most: { Self → ℕ };
 
     /// Returns the next entry, or `None` at the end.
-    fn next(&mut self, alloc: Global) -> Result<Option<NumberedEntry>, AllocError>
-        ensures { IfOk result (λ next. IsRead (left self.old) next (left self.new)) };
-}
+    fn next(&mut self, alloc: Global) -> Result<Option<NumberedEntry>, ReadFault>
+        ensures entry { IfOk result (λ next. (lines : List Line) (more : Bool) → left self.old lines more
+            → (rest : List Line) × IsRead lines next rest × left self.new rest more) }
+        ensures text { OnOk result ((text : List ℕ) → reads self.old text → reads self.new text) }
+        ensures fewer { IfOk result (λ next. length (pending next) + most self.new ≤ most self.old) };
 
-/// Why a log cannot be merged any further with the other one, by positions.
-#[derive(Clone, Copy, Debug)]
-pub enum LineStop {
-    /// It has no more entries.
-    Done,
-    /// The entry at this position receives a frame, and the other log has sent no frame that is not received yet.
-    Waits(u64),
-    /// The entry at the first position receives another frame than the one that the other log sent, with the entry at
-    /// the second position.
-    Differs(u64, u64),
-}
-
-/// The result of offering the next entry of a log to a merge.
-#[derive(Clone, Copy, Debug)]
-pub enum Offered {
-    Accepted,
-    Stopped(LineStop),
-}
-
-/// Why each of two logs cannot be merged any further.
-#[derive(Clone, Copy, Debug)]
-pub struct LineStops {
-    pub host: LineStop,
-    pub equipment: LineStop,
-}
-
-impl LineStops {
-    ghost use Rattle.std.specs.Prelude.{List, IfOk};
-    ghost use Rattle.hsms_compare.specs.Conversation.{Line};
-    ghost use Rattle.hsms_compare.specs.Merge.{IsMergeOf};
-    ghost use Rattle.hsms_compare.specs.LineStops.{IsOffered, AreLineStops};
-
-    /// Reads the logs of one connection up to the last entries that agree, and returns why each goes no further.
-    /// Buffers the frames in flight and one entry of each log.
-    ///
-    /// # Errors
-    ///
-    /// Returns `AllocError` if an allocation fails.
-    pub fn read<H: Entries, E: Entries>(
-        alloc: Global,
-        host: &mut H,
-        equipment: &mut E,
-    ) -> Result<LineStops, AllocError>
-        ensures { IfOk result (λ stops. AreLineStops (H.left host.old) (E.left equipment.old) stops) }
-    {
-        let mut merge = Merge::new(alloc);
-        let mut host_next = host.next(alloc)?;
-        let mut equipment_next = equipment.next(alloc)?;
-        loop {
-            match Self::offer(alloc, &mut merge, Role::Host, &host_next)? {
-                Offered::Accepted => host_next = host.next(alloc)?,
-                Offered::Stopped(host_stop) => {
-                    match Self::offer(alloc, &mut merge, Role::Equipment, &equipment_next)? {
-                        Offered::Accepted => equipment_next = equipment.next(alloc)?,
-                        Offered::Stopped(equipment_stop) => {
-                            return Ok(LineStops {
-                                host: host_stop,
-                                equipment: equipment_stop,
-                            });
-                        }
-                    }
-                }
-            }
-        }
-    }
-
-    /// Merges the entry that was read, if there is one and it agrees.
-    fn offer(
-        alloc: Global,
-        merge: &mut Merge,
-        end: Role,
-        next: &Option<NumberedEntry>,
-    ) -> Result<Offered, AllocError>
-        ensures { IfOk result (λ offer. (own other : List Line) → IsMergeOf end merge.old own other
-            → IsOffered own other end next.now merge.old offer merge.new) }
-    {
-        let Some(next) = next else {
-            return Ok(Offered::Stopped(LineStop::Done));
-        };
-        match merge.add(alloc, end, next.position, &next.entry)? {
-            MergeResult::Merged => Ok(Offered::Accepted),
-            MergeResult::NoneInFlight => Ok(Offered::Stopped(LineStop::Waits(next.position))),
-            MergeResult::OtherInFlight(sender) => {
-                Ok(Offered::Stopped(LineStop::Differs(next.position, sender)))
-            }
-        }
-    }
+    /// Returns at the end whether the log may have more entries.
+    fn is_open(&self) -> bool
+        ensures { (more : Bool) → left self.now [] more → result ≡ more };
 }

@@ -2,17 +2,21 @@
 
 mod connections;
 mod pairs;
+mod texts;
 
 use connections::CONNECTIONS;
 use hsms_compare::{
     LogContradiction, LogCounts, Outcome, RequestState, first_contradiction, outcome_of,
 };
+use hsms_compare_logs::LogComparison;
+use hsms_frame::Feed;
 use hsms_log::{Line, LineFault, read_line};
 use hsms_machine::{Entry, Event};
 use pairs::PAIRS;
 use std::alloc::{AllocError, Global};
 use std::fmt::InlineText;
 use std::process::Abort;
+use texts::TEXTS;
 
 /// Why a test ends: an allocation fails, or a line cannot be read.
 #[derive(Clone, Copy, Debug)]
@@ -174,4 +178,49 @@ fn compares_logs_of_one_connection(rt: HostRuntime) -> Result<(), Stop> {
 #[test]
 fn compares_logs_of_several_connections(rt: HostRuntime) -> Result<(), Stop> {
     check_pairs(&rt, rt.alloc(), CONNECTIONS)
+}
+
+/// Adds a line to a text.
+fn push_line(text: &mut Vec<u8>, line: &str) -> Result<(), AllocError> {
+    text.extend_from_slice(line.as_bytes())?;
+    text.push(b'\n')?;
+    Ok(())
+}
+
+/// Checks the comparison of two texts, in either order. Each read returns seven bytes.
+fn check_texts(rt: &impl Abort, alloc: Global, lines: &str, name: &str) -> Result<(), Stop> {
+    let mut host = Vec::new(alloc);
+    let mut equipment = Vec::new(alloc);
+    for line in lines.lines() {
+        let (word, rest) = line.split_once(' ').ok_or(Stop::Line)?;
+        match word {
+            "host" => push_line(&mut host, rest)?,
+            "equipment" => push_line(&mut equipment, rest)?,
+            _ => {
+                let one = Feed::new(Vec::from_slice(alloc, host.as_slice())?, 7, u64::MAX);
+                let other = Feed::new(Vec::from_slice(alloc, equipment.as_slice())?, 7, u64::MAX);
+                let found = LogComparison::of_logs(alloc, other, one)
+                    .ok()
+                    .ok_or(Stop::Line)?;
+                let contradiction = found.contradiction;
+                assert_text(
+                    rt,
+                    InlineText::of(format_args!("{contradiction:?}")),
+                    rest,
+                    name,
+                );
+            }
+        }
+    }
+    Ok(())
+}
+
+#[test]
+fn compares_texts(rt: HostRuntime) -> Result<(), Stop> {
+    for pair in TEXTS.split("# ") {
+        if let Some((name, lines)) = pair.split_once('\n') {
+            check_texts(&rt, rt.alloc(), lines, name)?;
+        }
+    }
+    Ok(())
 }

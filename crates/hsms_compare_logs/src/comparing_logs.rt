@@ -1,0 +1,96 @@
+//! The comparison of two logs of version 1, in either order.
+
+use crate::comparing::LogComparison;
+use crate::opened_log::OpenedLog;
+use hsms_compare::ReadFault;
+use hsms_frame::Source;
+use hsms_machine::{Role, Settings};
+use std::alloc::Global;
+
+/// Why two logs are not compared.
+#[derive(Clone, Copy, Debug, PartialEq, Eq)]
+pub enum CompareFault {
+    /// A log was not read to its end.
+    Log(ReadFault),
+    /// The first line of the first log encodes no settings.
+    FirstLineOfFirst,
+    /// The first line of the second log encodes no settings.
+    FirstLineOfSecond,
+    /// Both logs are of a host, or both of equipment.
+    SameRole,
+    /// Both logs are of the active end, or both of the passive one.
+    SameLink,
+    /// The logs have different device IDs.
+    Device,
+    /// A log is of several connections (version 2).
+    Version,
+}
+
+impl From<ReadFault> for CompareFault {
+    ghost use Rattle.std.specs.Prelude.{◌≡◌};
+    ghost use Rattle.hsms_compare_logs.specs.declared.comparing_logs.CompareFault.TheVariants.{Log};
+
+    ghost from_gives = { λ fault e. e ≡ Log fault };
+
+    fn from(fault: ReadFault) -> CompareFault {
+        CompareFault::Log(fault)
+    }
+}
+
+impl CompareFault {
+    ghost use Rattle.std.specs.Prelude.{◌≡◌, None};
+    ghost use Rattle.hsms_compare_logs.specs.Comparison.{CanCompare};
+
+    /// Returns why logs with these settings are not compared, if they are not.
+    fn of(first: &Settings, second: &Settings) -> Option<CompareFault>
+        ensures { result ≡ None → CanCompare first.now second.now }
+    {
+        if first.role() == second.role() {
+            return Some(CompareFault::SameRole);
+        }
+        if first.link() == second.link() {
+            return Some(CompareFault::SameLink);
+        }
+        if first.device() != second.device() {
+            return Some(CompareFault::Device);
+        }
+        if first.version() != 1 || second.version() != 1 {
+            return Some(CompareFault::Version);
+        }
+        None
+    }
+}
+
+impl LogComparison {
+    ghost use Rattle.std.specs.Prelude.{◌≡◌, ℕ, List, Some, IfOk};
+    ghost use Rattle.hsms_compare_logs.specs.Comparison.{AreCompared};
+
+    /// Compares two logs, the host's and equipment's in either order, each from its first `up` to the next one.
+    ///
+    /// # Errors
+    ///
+    /// Returns the reason why the settings do not allow it, or why a log was not read to its end.
+    pub fn of_logs<R: Source + Drop, S: Source + Drop>(
+        alloc: Global,
+        first: R,
+        second: S,
+    ) -> Result<LogComparison, CompareFault>
+        ensures { IfOk result (λ comparison. (one other : List ℕ)
+            → (R.state first).left ≡ Some one → (S.state second).left ≡ Some other → AreCompared one other comparison) }
+    {
+        let Some(first) = OpenedLog::open(alloc, first)? else {
+            return Err(CompareFault::FirstLineOfFirst);
+        };
+        let Some(second) = OpenedLog::open(alloc, second)? else {
+            return Err(CompareFault::FirstLineOfSecond);
+        };
+        if let Some(fault) = CompareFault::of(&first.settings, &second.settings) {
+            return Err(fault);
+        }
+        let role = first.settings.role();
+        match role {
+            Role::Host => Ok(LogComparison::of(alloc, first.entries, second.entries)?),
+            Role::Equipment => Ok(LogComparison::of(alloc, second.entries, first.entries)?),
+        }
+    }
+}
