@@ -886,7 +886,7 @@ def runs(script, is_built, **how):
     if is_built:
         built_in_order(calls)
         lines = answer.error.decode().splitlines()
-        same(lines[0], "hsms: proving and building the program; this takes several minutes")
+        same(lines[0], "hsms: the program is not built, or older than its sources")
         same(re.sub(r"\d+", "N", lines[1]).replace("up to N", "one").split(" at ")[0], "hsms: proving N crates, one")
         same([line[: len("hsms: N of 5 crates proved")] for line in lines[2:]], [f"hsms: {n} of 5 crates proved" for n in range(1, 6)])
         same(lines[-1], "hsms: 5 of 5 crates proved: hsms_tool")
