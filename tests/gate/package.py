@@ -5,8 +5,8 @@ Both are built twice, and are the same bytes; their checksums are right. The arc
 and the Debian package into another one. There each command of the README and of the examples' page writes what the
 page shows, with the packaged program and a few shell commands on the path, and no file of this repository. Each link
 of a packed page leads to a packed file. An existing folder stays as it was if the archive is unpacked as
-docs/BUILDING.md says. The program needs the C library alone. It packs what `rt ci` has built. The completions are those of
-the command line's definition, and have the options that `--help` shows. The last line is `N passed, M failed`.
+docs/BUILDING.md says. The program needs the C library alone. It packs what `rt ci` has built. Completions and manual
+pages are those of the command line's definition, and have the options that `--help` shows. The last line is `N passed, M failed`.
 """
 import filecmp
 import glob
@@ -100,9 +100,9 @@ def completed(line):
 
 
 def completions():
-    """Yields whether the completions are those of the definition, and have the options that the help shows."""
-    written = subprocess.run([f"{TOP}/contrib/completions", "--check"], stdout=subprocess.DEVNULL, check=False)
-    yield "the completions as they are generated", written.returncode == 0
+    """Yields whether what follows from the command line's definition is that, and has the options that the help shows."""
+    written = subprocess.run([f"{TOP}/contrib/command-line", "--check"], stdout=subprocess.DEVNULL, check=False)
+    yield "completions and manual pages as they are generated", written.returncode == 0
     for command in sorted(it for it in completed("hsms") if not it.startswith("-") and it != "help"):
         shown = subprocess.run([PROGRAM, command, "--help"], capture_output=True, text=True, check=True).stdout
         options = set(re.findall(r"^ +(?:-\w, )?(--[\w-]+)", shown, re.M))
