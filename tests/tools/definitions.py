@@ -1,13 +1,16 @@
 #!/usr/bin/env python3
 """Writes docs/DEFINITIONS.md: the definitions that public contracts cite, by the comments in the crates' specs/.
 
+A definition that no public contract reaches is in a file Inner*, and nothing else is there. The script checks that too.
+
 A definition is listed if a clause of an exported function cites it, or the model of an exported type does. Its text is the
 first sentence of the comment above it. Definitions that only others cite are explained in specs/, and laws
 in the module `laws` of their crate.
 
-`definitions.py --write` writes the page; without it the script compares the page with what it would write. The last line
-is `N passed, M failed`.
+`definitions.py --write` writes the page; without it the script compares the page with what it would write, and checks the
+files of definitions. The last line is `N passed, M failed`.
 """
+import glob
 import os
 import re
 import sys
@@ -17,22 +20,21 @@ sys.path.insert(0, os.path.abspath(f"{__file__}/../../.."))
 
 from tests.support.command import TOP
 from tests.support.contracts import (
-    CLAUSES, Word, bound_in, cited_in, definitions_of, function_at, is_public, lines_of, models_and_traits, names_with,
-    sources_of,
+    CLAUSES, Type, Word, bound_in, cited_by, cited_in, cited_in_block, definitions_of, function_at, is_public, lines_of,
+    models_and_traits, names_with, sources_of,
 )
 
 PAGE = f"{TOP}/docs/DEFINITIONS.md"
 BEGIN, END = "<!-- generated: python3 tests/tools/definitions.py --write -->", "<!-- end -->"
 
-# The crates in the order of the page, each with its heading. Crates of tests, and those that only `hsms capture` or
-# `hsms explain` uses, are omitted.
+# The crates in the order of the page, each with its heading. Crates of tests, those that only `hsms capture` or `hsms
+# explain` uses, and those that no command uses yet, are omitted.
 CRATES = {
     "secs_item": "Items",
     "secs_text": "Notation",
     "hsms_frame": "Messages and I/O",
     "hsms_machine": "The session machine",
     "hsms_log": "Log text and verdicts",
-    "hsms_compare": "Two logs of one connection",
     "hsms_endpoint": "One endpoint",
     "hsms_ends": "A served connection",
     "cli_options": "Options and errors of the command",
@@ -74,7 +76,7 @@ def clauses_of(source):
 
 
 def cited_in_crate(crate):
-    """Returns the definitions that the public functions and the models of the public types of a crate cite."""
+    """Returns what the public functions and the models of the public types of a crate cite."""
     found = set()
     for source in sources_of(crate):
         for clauses, names in clauses_of(source):
@@ -82,7 +84,40 @@ def cited_in_crate(crate):
     for of, cited in models_and_traits()[0].items():
         if of.crate == crate and is_public(of):
             found |= cited
-    return {it for it in found if isinstance(it, Word)}
+    return found
+
+
+def cited_by_impls(crate):
+    """Returns what the impls of traits for the public types of a crate name."""
+    found = set()
+    for source in sources_of(crate):
+        for block in source.blocks():
+            impl = re.match(r"(?:unsafe )?impl(?:<.*?>)? [\w:<>, ']+ for (\w+)", block[0])
+            if impl and is_public(Type(crate, source.module, impl[1])):
+                found |= cited_in_block(block, source)
+    return found
+
+
+def reached(crates):
+    """Returns the definitions that the public contracts of these crates reach."""
+    todo = set().union(*(cited_in_crate(crate) | cited_by_impls(crate) for crate in crates))
+    found = set()
+    while todo:
+        one = todo.pop()
+        found.add(one)
+        todo |= (cited_by(one) if isinstance(one, Word) else models_and_traits()[0].get(one, set())) - found
+    return found
+
+
+def misplaced():
+    """Yields for each file of definitions those that it should not have."""
+    paths = sorted(glob.glob(f"{TOP}/crates/*/specs/*.antt"))
+    public = reached(sorted({path.split("/")[-3] for path in paths}))
+    for path in paths:
+        crate, file = path.split("/")[-3], os.path.basename(path)[:-5]
+        if file not in ("Lib", "Laws"):
+            is_inner = file.startswith("Inner")
+            yield path, [it for it in definitions_of(crate, file) if (Word(crate, file, it) in public) == is_inner]
 
 
 def comment_above(crate, file, name):
@@ -120,7 +155,7 @@ def part_of(crate, words):
 
 
 def generated():
-    cited = set().union(*(cited_in_crate(crate) for crate in CRATES))
+    cited = {it for crate in CRATES for it in cited_in_crate(crate) if isinstance(it, Word)}
     parts = [line for crate in CRATES for line in part_of(crate, {it for it in cited if it.crate == crate})]
     return "\n".join([BEGIN, "", *parts, END])
 
@@ -135,8 +170,14 @@ def main():
     is_same = BEGIN in page and wanted == page
     if not is_same:
         print("docs/DEFINITIONS.md differs from the definitions' comments: tests/tools/definitions.py --write")
-    print(f"{int(is_same)} passed, {int(not is_same)} failed")
-    return 0 if is_same else 1
+    results = [is_same]
+    for path, names in misplaced():
+        if names:
+            other = "a public contract reaches" if "/Inner" in path else "no public contract reaches"
+            print(f"{os.path.relpath(path, TOP)}: {other} {', '.join(names)}")
+        results.append(not names)
+    print(f"{sum(results)} passed, {len(results) - sum(results)} failed")
+    return 0 if all(results) else 1
 
 
 if __name__ == "__main__":
