@@ -20,8 +20,10 @@ use Rattle.capture_events.specs.declared.tracked_connection.TrackedConnection.{T
 use Rattle.capture_events.specs.declared.connection_state.ConnectionState.{ConnectionState}
 use Rattle.capture_events.specs.declared.connection_state.ConnectionState.TheVariants as state
 use Rattle.capture_events.specs.ConnectionItems.{ConnectionItems, answered_by, begins_with_syn, ends, follow, is_answer, is_number, is_over, is_there, shortfall_by, lost_by, new_events, end_event, connection_items, items_by}
-use Rattle.capture_events.specs.TrackedConnection.{EndsTracked, Grows, IsTracked, TrackedAs, TakesAll, TakesTracked}
-use Rattle.capture_events.specs.ConnectionState.{EndsConnection, StateIs, TakesPacket, answers, is_idle, is_passive, seen_with, state_by}
+use Rattle.capture_events.specs.TrackedConnection.{IsTracked}
+use Rattle.capture_events.specs.InnerTrackedConnection.{EndsTracked, Grows, TrackedAs, TakesAll, TakesTracked}
+use Rattle.capture_events.specs.ConnectionState.{EndsConnection, StateIs, TakesPacket, is_idle, seen_with}
+use Rattle.capture_events.specs.InnerConnectionState.{answers, is_passive, state_by}
 use Rattle.capture_events.specs.LoggedEvents.{seen_waiting}
 use Rattle.capture_events.proofs.NextSegment.{new_events_of, nothing_emitted, runs_on}
 use Rattle.capture_tcp.proofs.LastingFacts.{numbered_front}

@@ -14,7 +14,8 @@ use Rattle.capture_events.specs.declared.log_item.LogItem.{LogItem}
 use Rattle.capture_events.specs.declared.incomplete.Shortfall.{Shortfall}
 use Rattle.capture_events.specs.declared.incomplete.Shortfall.TheVariants.{Length}
 use Rattle.capture_events.specs.ConnectionItems.{ConnectionItems, and_item, bare_resets, is_among, item_of_entry, logged, log_time_of}
-use Rattle.capture_events.specs.LoggedEvents.{LogsBy, logged_by, item_of_event, log_time_by}
+use Rattle.capture_events.specs.LoggedEvents.{logged_by, item_of_event, log_time_by}
+use Rattle.capture_events.specs.InnerLoggedEvents.{LogsBy}
 use Rattle.capture_events.proofs.Lists.{none_of, some_of}
 
 -- ---- the items continue after an event, or end there

@@ -32,8 +32,10 @@ use Rattle.capture_events.specs.declared.tracked_connection.Followed.TheVariants
 use Rattle.capture_events.specs.declared.waiting.Waiting.{Waiting}
 use Rattle.capture_events.specs.declared.tracked_connection.TrackedConnection.{TrackedConnection}
 use Rattle.capture_events.specs.ConnectionItems.{ConnectionItems, bare_if, bare_resets, down_if, ending_if, ending_with, ends, ends_by, follow, is_over, is_past, is_there, is_too_much, item_of_entry, shortfall_of, logged, new_events, end_event, emitted_items}
-use Rattle.capture_events.specs.LoggedEvents.{LogsBy, logged_by, item_of_event, seen_waiting}
-use Rattle.capture_events.specs.TrackedConnection.{EndsTracked, TakesAll, Grows, IsTracked, TrackedAs, TakesTracked, FollowsSegment, left_by, over_by}
+use Rattle.capture_events.specs.LoggedEvents.{logged_by, item_of_event, seen_waiting}
+use Rattle.capture_events.specs.InnerLoggedEvents.{LogsBy}
+use Rattle.capture_events.specs.TrackedConnection.{IsTracked}
+use Rattle.capture_events.specs.InnerTrackedConnection.{EndsTracked, TakesAll, Grows, TrackedAs, TakesTracked, FollowsSegment, left_by, over_by}
 use Rattle.capture_events.proofs.LoggedMore.{as_entries, logged_append, logs_nothing, over_same, plain}
 use Rattle.capture_events.proofs.Lists.{there_by}
 

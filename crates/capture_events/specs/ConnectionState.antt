@@ -1,18 +1,14 @@
 -- The state of a connection by the sequence number of the active end's SYN.
-use Rattle.std.specs.Prelude.{◌≡◌, ◌≤◌, ◌+◌, ◌%◌, ◌^◌, ◌&&◌, ◌||◌, ℕ, if◌then◌else◌, Bool, true, false, List, [], ◌∷◌, ◌++◌, map, length, Option, Some, None, is_some, is_none}
+use Rattle.std.specs.Prelude.{◌≡◌, ◌≤◌, ◌&&◌, ◌||◌, ℕ, if◌then◌else◌, Bool, true, List, [], ◌∷◌, ◌++◌, map, length, Option, Some, None, is_none}
 use Rattle.capture_log.specs.declared.socket_pair.Pair.{Pair}
-use Rattle.capture_tcp.specs.declared.packet.Segment.{Segment}
-use Rattle.capture_tcp.specs.declared.packet.Side.{Side}
-use Rattle.capture_tcp.specs.declared.packet.Side.TheVariants as side
 use Rattle.capture_tcp.specs.KnownStreams.{bases}
 use Rattle.capture_tcp.specs.Laws.{AreNumbered}
 use Rattle.capture_tcp.specs.TcpStreams.{Seen}
 use Rattle.capture_events.specs.declared.event.Event.{Event}
 use Rattle.capture_events.specs.declared.incomplete.Shortfall.{Shortfall}
-use Rattle.capture_events.specs.declared.tracked_connection.TrackedConnection.{TrackedConnection}
 use Rattle.capture_events.specs.declared.connection_state.ConnectionState.{ConnectionState}
 use Rattle.capture_events.specs.declared.connection_state.ConnectionState.TheVariants as state
-use Rattle.capture_events.specs.ConnectionItems.{answered_by, ends, first_shown, is_number, is_over, shortfall_by, new_events, connection_items}
+use Rattle.capture_events.specs.ConnectionItems.{answered_by, ends, first_shown, is_over, shortfall_by, new_events, connection_items}
 use Rattle.capture_events.specs.LoggedEvents.{seen_waiting}
 use Rattle.capture_events.specs.TrackedConnection.{IsTracked}
 
@@ -41,20 +37,3 @@ EndsConnection most pair number replaced missing st before after =
 -- True if the connection has no further events, unless more of its packets follow.
 abbrev pub is_idle : ℕ → ℕ → List Seen → Bool
 is_idle most number seen = is_over (connection_items most number seen) || (is_none (answered_by number seen) && is_none (first_shown seen))
-
--- ---- by segments
-
-abbrev pub state_by : Option TrackedConnection → ConnectionState
-state_by None = state.Over
-state_by (Some o) = state.Tracked o
-
-abbrev pub is_passive : Side → Bool
-is_passive side.Active = false
-is_passive side.Passive = true
-
-abbrev pub answers : ℕ → Segment → Bool
-answers number s = is_passive s.from && (s.flags.syn && is_number s.acknowledged ((number + 1) % 2 ^ 32))
-
-abbrev pub shows : Side → Option ℕ → Bool → Bool
-shows side.Active acknowledged some = is_some acknowledged || some
-shows side.Passive acknowledged some = some

@@ -1,19 +1,13 @@
 -- The items of the events of a TCP connection.
-use Rattle.std.specs.Prelude.{◌≡◌, ℕ, if◌then◌else◌, List, [], ◌∷◌, ◌++◌, map, length, Option, Some, None}
-use Rattle.hsms_frame.specs.Frame.{Frame}
-use Rattle.capture_log.specs.BothLogs.{is_no_message}
+use Rattle.std.specs.Prelude.{ℕ, List, [], ◌∷◌, Some, None}
 use Rattle.capture_log.specs.declared.audited_log.LogComment.TheVariants.{Packet}
-use Rattle.capture_log.specs.declared.socket_pair.Pair.{Pair}
 use Rattle.capture_tcp.specs.declared.events.TimedEvent.{TimedEvent}
 use Rattle.capture_tcp.specs.KnownStreams.{seen_of}
 use Rattle.capture_tcp.specs.EventSteps.{reported_as}
 use Rattle.capture_tcp.specs.TcpStreams.{Seen}
-use Rattle.capture_events.specs.declared.event.Event.{Event}
-use Rattle.capture_events.specs.declared.event.Event.TheVariants.{Logged}
 use Rattle.capture_events.specs.declared.log_item.LogItem.{LogItem}
 use Rattle.capture_events.specs.declared.waiting.Waiting.{Waiting}
-use Rattle.capture_events.specs.declared.incomplete.Shortfall.{Shortfall}
-use Rattle.capture_events.specs.ConnectionItems.{ConnectionItems, and_item, frame_in, is_among, log_time_of, kind_of}
+use Rattle.capture_events.specs.ConnectionItems.{ConnectionItems, and_item, is_among, log_time_of, kind_of}
 
 abbrev pub log_time_by : List ℕ → TimedEvent → ℕ
 log_time_by bare h = log_time_of (reported_as h.event) (is_among bare h.packet) h.time
@@ -24,17 +18,6 @@ item_of_event bare h = record { comment = Packet h.packet; time = log_time_by ba
 unfoldable pub logged_by : ℕ → List ℕ → List TimedEvent → ConnectionItems
 logged_by most bare [] = record { items = []; over = None }
 logged_by most bare (h ∷ hs) = and_item most (reported_as h.event) h.packet (item_of_event bare h) (logged_by most bare hs)
-
--- The message of these bytes, or `None` if no endpoint takes a message of this length.
-abbrev pub frame_by : ℕ → List ℕ → Option Frame
-frame_by most octets = if is_no_message most (length octets) then None else Some (frame_in octets)
-
--- The items are appended to the events.
-abbrev pub LogsItems : Pair → List LogItem → List Event → List Event → Type 0
-LogsItems pair items old new = new ≡ old ++ map (Logged pair) items
-
-abbrev pub LogsBy : ℕ → List ℕ → Pair → List TimedEvent → Option (Option Shortfall) → List Event → List Event → Type 0
-LogsBy most bare pair hs over old new = LogsItems pair (logged_by most bare hs).items old new × (over ≡ (logged_by most bare hs).over)
 
 abbrev pub seen_waiting : Waiting → Seen
 seen_waiting w = seen_of w.segment w.octets.items

@@ -5,7 +5,8 @@ ghost use Rattle.capture_tcp.specs.KnownStreams.{seen_of};
 ghost use Rattle.capture_tcp.specs.Laws.{AreNumbered};
 ghost use Rattle.capture_tcp.specs.TcpStreams.{Seen};
 ghost use Rattle.capture_events.specs.ConnectionItems.{connection_items, is_over, is_there, lost_by};
-ghost use Rattle.capture_events.specs.ConnectionState.{EndsConnection, StateIs, TakesPacket, answers, is_idle, shows, state_by};
+ghost use Rattle.capture_events.specs.ConnectionState.{EndsConnection, StateIs, TakesPacket, is_idle};
+ghost use Rattle.capture_events.specs.InnerConnectionState.{answers, shows, state_by};
 ghost use Rattle.capture_events.specs.declared.connection_state.ConnectionState.TheVariants.{Opening};
 ghost use Rattle.capture_events.specs.LoggedEvents.{seen_waiting};
 

@@ -2,7 +2,7 @@
 
 ghost use Rattle.std.specs.Prelude.{◌≡◌, ◌∷◌, [], IfOk, OnOk, Some};
 ghost use Rattle.capture_log.specs.declared.audited_log.LogComment.TheVariants.{Packet};
-ghost use Rattle.capture_events.specs.LoggedEvents.{LogsBy, LogsItems, frame_by};
+ghost use Rattle.capture_events.specs.InnerLoggedEvents.{LogsBy, LogsItems, frame_by};
 
 use crate::bare_resets::time_of;
 use crate::event::Event;

@@ -5,7 +5,8 @@ ghost use Rattle.capture_tcp.specs.KnownStreams.{bases, seen_of};
 ghost use Rattle.capture_events.specs.declared.event.Event.TheVariants.{Logged};
 ghost use Rattle.capture_events.specs.ConnectionItems.{down_if, end_event, shortfall_of};
 ghost use Rattle.capture_events.specs.LoggedEvents.{seen_waiting};
-ghost use Rattle.capture_events.specs.TrackedConnection.{EndsTracked, FollowsSegment, IsTracked, TakesAll, TakesTracked, left_by, over_by};
+ghost use Rattle.capture_events.specs.TrackedConnection.{IsTracked};
+ghost use Rattle.capture_events.specs.InnerTrackedConnection.{EndsTracked, FollowsSegment, TakesAll, TakesTracked, left_by, over_by};
 
 use crate::bare_resets::note_reset;
 use crate::event::Event;

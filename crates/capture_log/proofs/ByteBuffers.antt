@@ -2,7 +2,7 @@
 use Rattle.std.proofs.Common.{◌≡◌, ◌++◌, ℕ, List, [], refl, sym, ◌∙◌, ap, take, length, append_assoc}
 use Rattle.std.proofs.lemmas.List.{append-nil, take_at}
 use Rattle.std.specs.Prelude.{Result, Ok, Err, OnErr}
-use Rattle.capture_log.specs.ByteBuffer.{Leads}
+use Rattle.capture_log.specs.InnerByteBuffer.{Leads}
 
 pub stay : (old new : List ℕ) → new ≡ old → Leads old new
 stay old new is = ([], is ∙ sym (append-nil old))

@@ -23,7 +23,8 @@ use Rattle.hsms_log.proofs.WrittenLog.{comment_from, decimal_on_line, joined, on
 use Rattle.capture_log.specs.declared.audited_log.LogComment.{LogComment}
 use Rattle.capture_log.specs.declared.audited_log.LogComment.TheVariants as remark
 use Rattle.capture_log.specs.declared.audited_log.LogVerdict.{LogVerdict}
-use Rattle.capture_log.specs.AuditedLog.{FailsAt, FailsSo, ContinuesAfter, HasAudited, HasAuditedBy, HasLogged, ProcessesInput, Note, SaysOf, CurrentState, entry_text, failed_by, has_failed, log_text, note_text, packet_after, packet_named, remark_text}
+use Rattle.capture_log.specs.AuditedLog.{FailsAt, FailsSo, ContinuesAfter, HasAudited, HasAuditedBy, HasLogged, Note, SaysOf, CurrentState, entry_text, log_text, note_text, packet_after, packet_named, remark_text}
+use Rattle.capture_log.specs.InnerAuditedLog.{ProcessesInput, failed_by, has_failed}
 use Rattle.capture_log.specs.BothLogs.{Adds, remark_alone}
 
 pub log_text_more : (settings : Parameters) (notes : List Note) (note : Note)

@@ -1,6 +1,6 @@
 -- The log of one end of a connection, as it is told of a capture: the settings, and then each entry behind a comment that
 -- names its packet.
-use Rattle.std.specs.Prelude.{◌≡◌, ℕ, Bool, true, false, Option, None, Some, is_some, List, [], ◌∷◌, ◌++◌, flat_map, codes, decimal}
+use Rattle.std.specs.Prelude.{◌≡◌, ℕ, Option, None, Some, List, [], ◌∷◌, ◌++◌, flat_map, codes, decimal}
 use Rattle.hsms_machine.specs.Settings.{Parameters}
 use Rattle.hsms_machine.specs.declared.entry.Entry.{Entry}
 use Rattle.hsms_log.specs.LineFormat.{entry_line, settings_line}
@@ -103,19 +103,3 @@ pub record HasLogged (settings : Parameters) (notes : List Note) (account : Curr
   pub audited : HasAudited (log_text settings notes) account
   pub packet : account.packet ≡ packet_after 0 notes
   pub failed : FailsSo settings notes account.failed
-
--- a line of what the audit has heard fails
-abbrev pub has_failed : Option Auditor → Bool
-has_failed None = false
-has_failed (Some auditor) = is_some auditor.found
-
-abbrev pub failed_by : Option ℕ → Bool → ℕ → Option ℕ
-failed_by (Some first) fails packet = Some first
-failed_by None true packet = Some packet
-failed_by None false packet = None
-
--- the audit hears these octets too; where a line of them is the first that fails, it is of the packet that was named last
-pub record ProcessesInput (octets : List ℕ) (old new : CurrentState) : Type 0 where
-  pub audited : (text : List ℕ) → HasAudited text old → HasAudited (text ++ octets) new
-  pub packet : new.packet ≡ old.packet
-  pub failed : new.failed ≡ failed_by old.failed (has_failed new.auditor) old.packet

@@ -1,5 +1,5 @@
 -- Text in memory, as a sink.
-use Rattle.std.specs.Prelude.{◌≡◌, ◌++◌, ℕ, List, Some}
+use Rattle.std.specs.Prelude.{ℕ, List, Some}
 use Rattle.hsms_frame.specs.Io.{SinkState}
 
 -- the octets, how often it was called, and how often it failed
@@ -10,7 +10,3 @@ pub record Kept : Type 0 where
 
 abbrev pub sink_of : Kept → SinkState
 sink_of kept = record { written = Some kept.octets; gives = kept.calls; failures = kept.failures }
-
--- the octets that were there, and perhaps more behind them
-abbrev pub Leads : List ℕ → List ℕ → Type 0
-Leads old new = (subsequent : List ℕ) × (new ≡ old ++ subsequent)

@@ -3,8 +3,9 @@
 ghost use Rattle.std.specs.Prelude.{◌≡◌, ◌+◌, ◌++◌, [], ◌∷◌, ℕ, List, IfOk, OnErr, OnOk, Some, codes, decimal, is_some, length, ◌≤◌, ◌^◌, IfSome, IfErr, IsTrue, IsSome, None};
 ghost use Rattle.hsms_log.specs.Auditor.{HasAtMost, HasProcessed, HasRoom, CanProcess, IsBetween};
 ghost use Rattle.hsms_log.specs.LineFormat.{entry_line, settings_line, IsComment};
-ghost use Rattle.capture_log.specs.AuditedLog.{failed_by, note_text, packet_named, remark_text, CurrentState, HasLogged, ProcessesInput, Note, SaysOf};
-ghost use Rattle.capture_log.specs.ByteBuffer.{Leads};
+ghost use Rattle.capture_log.specs.AuditedLog.{note_text, packet_named, remark_text, CurrentState, HasLogged, Note, SaysOf};
+ghost use Rattle.capture_log.specs.InnerAuditedLog.{failed_by, ProcessesInput};
+ghost use Rattle.capture_log.specs.InnerByteBuffer.{Leads};
 ghost use Rattle.capture_log.specs.declared.audited_log.LogComment.TheVariants.{LeftOut};
 ghost use Rattle.hsms_machine.specs.Settings.{Parameters};
 ghost use Rattle.capture_log.specs.BothLogs.{Adds, remark_alone};

@@ -7,7 +7,7 @@ ghost use Rattle.capture_log.specs.declared.audited_log.LogComment.TheVariants.{
 ghost use Rattle.capture_log.specs.declared.stop.Stop.TheVariants.{Memory};
 ghost use Rattle.capture_log.specs.AuditedLog.{note_text, remark_text};
 ghost use Rattle.capture_log.specs.BothLogs.{event_of, reception_of, note_of};
-ghost use Rattle.capture_log.specs.ByteBuffer.{Leads};
+ghost use Rattle.capture_log.specs.InnerByteBuffer.{Leads};
 
 use crate::audited_log::{LogComment, append_note, append_remark, append_settings};
 use crate::both_logs::{LogResult, frame_within};

@@ -8,7 +8,8 @@ use Rattle.capture_tcp.specs.TcpStreams.{End, Placed}
 use Rattle.capture_tcp.specs.declared.reassembly.Cell.{Cell as HeldCell}
 use Rattle.capture_midstream.specs.declared.session_filter.Session.{Session}
 use Rattle.capture_midstream.specs.SyncPoint.{BeginsAtEnd, IsSureBy, NoMessageAt, SomeMessageAt}
-use Rattle.capture_midstream.specs.BufferedPacket.{FindsIn, held_octet, octet_at, octets_in, octets_upto}
+use Rattle.capture_midstream.specs.BufferedPacket.{octet_at, octets_in, octets_upto}
+use Rattle.capture_midstream.specs.InnerBufferedPacket.{FindsIn, held_octet}
 use Rattle.capture_midstream.proofs.Places.{dropped, next_octet, no_octet, none_is_sure, no_message_at, octet_is}
 
 abbrev pub NoneSoFar : Session → Store → ℕ → ℕ → ℕ → Type 0

@@ -7,7 +7,7 @@ use Rattle.capture_tcp.specs.Message.{cells_of}
 use Rattle.capture_tcp.specs.TcpStreams.{End, Placed}
 use Rattle.capture_tcp.specs.declared.packet.Side.{Side}
 use Rattle.capture_midstream.specs.declared.chunk.Piece.{Piece}
-use Rattle.capture_midstream.specs.BufferedPacket.{placed_by}
+use Rattle.capture_midstream.specs.InnerBufferedPacket.{placed_by}
 
 -- the pieces that were passed are held, from a place on
 pub record Holds (from : ℕ) (pieces rest : List Piece) (held : Store) : Type 0 where

@@ -6,7 +6,8 @@ use Rattle.capture_tcp.specs.TcpStreams.{octet, Placed}
 use Rattle.capture_tcp.specs.declared.packet.Side.{Side}
 use Rattle.capture_midstream.specs.declared.buffered_packet.BufferedPacket.{BufferedPacket}
 use Rattle.capture_midstream.specs.declared.chunk.Piece.{Piece}
-use Rattle.capture_midstream.specs.BufferedPacket.{acknowledged_after, piece_of, pieces_from, placed_by, placed_of}
+use Rattle.capture_midstream.specs.BufferedPacket.{acknowledged_after, piece_of, pieces_from}
+use Rattle.capture_midstream.specs.InnerBufferedPacket.{placed_by, placed_of}
 
 -- so many cells as octets
 pub cells_length : (octets : List ℕ) → length (cells_of false octets false) ≡ length octets

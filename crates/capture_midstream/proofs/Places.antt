@@ -7,7 +7,8 @@ use Rattle.capture_tcp.specs.Reassembly.{CellIs, IsStoreOf, Store, wire_cell}
 use Rattle.capture_tcp.specs.TcpStreams.{End, Placed}
 use Rattle.capture_midstream.specs.declared.session_filter.Session.{Session}
 use Rattle.capture_midstream.specs.SyncPoint.{CountsAs, IsSureBy, NoMessageAt, most}
-use Rattle.capture_midstream.specs.BufferedPacket.{and_more, held_octet, octet_at, octet_of, octets_in, octets_upto}
+use Rattle.capture_midstream.specs.BufferedPacket.{and_more, octet_at, octet_of, octets_in, octets_upto}
+use Rattle.capture_midstream.specs.InnerBufferedPacket.{held_octet}
 use Rattle.capture_midstream.proofs.Rows.{missing_counts}
 
 pub is_sure : (s : Session) (octets : List ℕ) (count : ℕ) → count ≡ 3 → CountsAs s most octets (Some count) → IsSureBy s octets true

@@ -9,7 +9,8 @@ use Rattle.capture_midstream.specs.declared.buffered_packet.BufferedPacket.{Buff
 use Rattle.capture_midstream.specs.declared.chunk.Piece.{Piece}
 use Rattle.capture_midstream.specs.declared.session_filter.Session.{Session}
 use Rattle.capture_midstream.specs.declared.candidate.Spot.{Spot}
-use Rattle.capture_midstream.specs.BufferedPacket.{BeginsWith, FindsIn, IsSpotOf, first_number, highest, lowest, midst, number_at, octet_at, pieces_from, placed_by, unbroken, unbroken_from}
+use Rattle.capture_midstream.specs.BufferedPacket.{BeginsWith, first_number, highest, lowest, midst, number_at, octet_at, pieces_from, unbroken, unbroken_from}
+use Rattle.capture_midstream.specs.InnerBufferedPacket.{FindsIn, IsSpotOf, placed_by}
 
 at_limits : (s : Session) (at : ℕ → Option ℕ) (from upto low high : ℕ) (spot : Spot) → from ≡ low → upto ≡ high → FindsIn s at from upto spot → FindsIn s at low high spot
 at_limits s at from upto low high spot first last finds =

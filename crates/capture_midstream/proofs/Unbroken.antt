@@ -3,7 +3,8 @@ use Rattle.std.proofs.Common.{◌≡◌, ◌<◌, ◌≤◌, ◌-◌, ℕ, suc, 
 use Rattle.capture_tcp.specs.Reassembly.{CellIs, IsStoreOf, Store}
 use Rattle.capture_tcp.specs.TcpStreams.{End, Placed}
 use Rattle.capture_tcp.specs.declared.reassembly.Cell.{Cell as HeldCell}
-use Rattle.capture_midstream.specs.BufferedPacket.{held_octet, midst, octet_at, unbroken}
+use Rattle.capture_midstream.specs.BufferedPacket.{midst, octet_at, unbroken}
+use Rattle.capture_midstream.specs.InnerBufferedPacket.{held_octet}
 use Rattle.capture_midstream.proofs.Places.{octet_is}
 
 abbrev pub UnbrokenSoFar : Store → ℕ → ℕ → Type 0

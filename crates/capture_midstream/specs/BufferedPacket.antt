@@ -1,8 +1,6 @@
 -- Where the directions of a session begin in the packets that were captured of it, of which none has a SYN.
 use Rattle.std.specs.Prelude.{◌≡◌, ◌≤◌, ◌<◌, ◌+◌, ◌-◌, ◌%◌, ◌^◌, ◌&&◌, ◌⊎◌, ◌++◌, ℕ, zero, suc, Bool, true, false, not, max, min, nat_le, nat_lt, if◌then◌else◌, List, [], ◌∷◌, length, Option, Some, None, is_some}
 use Rattle.std.specs.Option.{unwrap_or}
-use Rattle.capture_tcp.specs.declared.reassembly.Cell.{Cell as HeldCell}
-use Rattle.capture_tcp.specs.declared.reassembly.Cell.TheVariants as held
 use Rattle.capture_tcp.specs.declared.packet.Side.{Side}
 use Rattle.capture_tcp.specs.declared.packet.Side.TheVariants.{Active, Passive}
 use Rattle.capture_tcp.specs.KnownStreams.{end_at}
@@ -10,9 +8,7 @@ use Rattle.capture_tcp.specs.Message.{cells_of}
 use Rattle.capture_tcp.specs.TcpStreams.{End, Cell, syn, octet, fin, Placed, asks_only, cell_at, or_else}
 use Rattle.capture_midstream.specs.declared.buffered_packet.BufferedPacket.{BufferedPacket}
 use Rattle.capture_midstream.specs.declared.buffered_packet.Begun.{Begun}
-use Rattle.capture_midstream.specs.declared.chunk.Piece.{Piece}
 use Rattle.capture_midstream.specs.declared.session_filter.Session.{Session}
-use Rattle.capture_midstream.specs.declared.candidate.Spot.{Spot}
 use Rattle.capture_midstream.specs.SyncPoint.{IsSureBy, NoMessageAt, SomeMessageAt}
 use Rattle.capture_midstream.specs.SequenceNumbers.{from_by}
 
@@ -71,13 +67,6 @@ placed_as side place octets = record {
   reset = false;
 }
 
-abbrev pub placed_by : Side → Piece → Placed
-placed_by side piece = placed_as side piece.place piece.octets.items
-
-abbrev pub placed_of : Side → Option Piece → List Placed
-placed_of side None = []
-placed_of side (Some piece) = placed_by side piece ∷ []
-
 -- They count where they are some, end at most 2^25 places from the first number that is known, and don't only ask
 -- whether the other end is there still. Those of a RST are none.
 abbrev pub counts : ℕ → ℕ → BufferedPacket → Bool
@@ -118,12 +107,6 @@ octet_of None = None
 octet_of (Some syn) = None
 octet_of (Some (octet n)) = Some n
 octet_of (Some fin) = None
-
-abbrev pub held_octet : Option HeldCell → Option ℕ
-held_octet None = None
-held_octet (Some held.Syn) = None
-held_octet (Some (held.Octet n)) = Some n
-held_octet (Some held.Fin) = None
 
 -- the octet in a place, of two copies the first
 abbrev pub octet_at : List Placed → End → ℕ → Option ℕ
@@ -174,14 +157,6 @@ pub record BeginsBy (s : Session) (octets : ℕ → List ℕ) (from upto place :
 
 abbrev pub BeginsIn : Session → End → List Placed → ℕ → Type 0
 BeginsIn s d ps place = BeginsBy s (octets_from d ps) (unbroken_from d ps) (highest midst ps) place
-
--- the place is where they begin, and it is told whether that is sure
-abbrev pub FindsIn : Session → (ℕ → Option ℕ) → ℕ → ℕ → Spot → Type 0
-FindsIn s at from upto spot =
-    BeginsBy s (octets_upto upto at) from upto spot.place × IsSureBy s (octets_upto upto at spot.place) spot.is_sure
-
-abbrev pub IsSpotOf : Session → End → List Placed → Spot → Type 0
-IsSpotOf s d ps spot = FindsIn s (octet_at ps d) (unbroken_from d ps) (highest midst ps) spot
 
 -- a direction begins at this number, as far as these packets tell, and surely or not
 abbrev pub BeginsWith : Session → Side → List BufferedPacket → Begun → Type 0

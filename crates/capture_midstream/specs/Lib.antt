@@ -1,6 +1,9 @@
 pub mod SyncPoint
+pub mod InnerSyncPoint
 pub mod MessageCheck
+pub mod InnerMessageCheck
 pub mod BufferedPacket
+pub mod InnerBufferedPacket
 pub mod PacketBuffer
 pub mod SyntheticHandshake
 pub mod Laws

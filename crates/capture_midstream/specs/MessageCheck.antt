@@ -64,10 +64,3 @@ FrontAs s octets (Whole size) =
 FrontAs s octets Other =
     (14 ≤ length octets)
     × ((has_header s octets ≡ false) ⊎ ((4 + length_field octets ≤ length octets) × (IsText s.depth (text_at octets) → ⊥)))
-
--- what a text of so many octets is, by what stands behind its header
-abbrev pub TextAs : ℕ → List ℕ → ℕ → Found → Type 0
-TextAs depth subsequent size Missing = ⊥
-TextAs depth subsequent size Begun = length subsequent < size
-TextAs depth subsequent size (Whole count) = (count ≡ 14 + size) × (size ≤ length subsequent) × IsText depth (take size subsequent)
-TextAs depth subsequent size Other = (size ≤ length subsequent) × (IsText depth (take size subsequent) → ⊥)

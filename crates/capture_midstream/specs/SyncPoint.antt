@@ -40,11 +40,6 @@ pub record IsFirst (s : Session) (octets : List ℕ) (from place count : ℕ) : 
   pub others : (q : ℕ) → from ≤ q → q < place → IsRefused s octets q
   pub here : CountsAs s most (drop place octets) (Some count)
 
--- what is known of a place that isn't refused
-abbrev pub BeginsHere : Session → List ℕ → ℕ → Beginning → Type 0
-BeginsHere s octets place (Sure at) = (at ≡ place) × CountsAs s most (drop place octets) (Some 3)
-BeginsHere s octets place (Open at) = (at ≡ place) × ((count : ℕ) × (count < 3) × CountsAs s most (drop place octets) (Some count))
-
 -- The first place that isn't refused: a direction begins there where three messages stand there. Else more octets may
 -- refuse it.
 abbrev pub BeginsAs : Session → List ℕ → ℕ → Beginning → Type 0

@@ -2,7 +2,8 @@
 
 ghost use Rattle.std.specs.Prelude.{◌≡◌, ◌≤◌, IfOk, map};
 ghost use Rattle.capture_tcp.specs.declared.packet.Side.{Side as Direction};
-ghost use Rattle.capture_midstream.specs.BufferedPacket.{acknowledged_after, counts, acknowledged_number, acknowledged_of, first_number, highest, is_same, later_of, lowest, midst, number_at, own_number, own_of, piece_of, pieces_from, place_by, placed_by, placed_of};
+ghost use Rattle.capture_midstream.specs.BufferedPacket.{acknowledged_after, counts, acknowledged_number, acknowledged_of, first_number, highest, is_same, later_of, lowest, midst, number_at, own_number, own_of, piece_of, pieces_from, place_by};
+ghost use Rattle.capture_midstream.specs.InnerBufferedPacket.{placed_by, placed_of};
 
 use crate::buffered_packet::BufferedPacket;
 use crate::chunk::Piece;

@@ -2,7 +2,8 @@
 
 ghost use Rattle.std.specs.Prelude.{◌≡◌, ◌≤◌, ◌<◌, ◌^◌, ◌↔◌, IsTrue};
 ghost use Rattle.secs_item.specs.Encoding.{IsText};
-ghost use Rattle.capture_midstream.specs.MessageCheck.{FrontAs, TextAs, header_of, header_within};
+ghost use Rattle.capture_midstream.specs.MessageCheck.{FrontAs, header_of, header_within};
+ghost use Rattle.capture_midstream.specs.InnerMessageCheck.{TextAs};
 
 use crate::session_filter::{Session, is_of};
 use hsms_frame::{HEADER_LENGTH, Header};

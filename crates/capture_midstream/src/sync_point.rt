@@ -1,7 +1,8 @@
 //! Where a direction begins.
 
 ghost use Rattle.std.specs.Prelude.{◌≡◌, ◌≤◌, true, false, IfSome, IfNone, length};
-ghost use Rattle.capture_midstream.specs.SyncPoint.{BeginsAs, BeginsAtEnd, BeginsHere, CountsAs, IsRefused, NoMessageAt, SomeMessageAt, IsSureBy};
+ghost use Rattle.capture_midstream.specs.SyncPoint.{BeginsAs, BeginsAtEnd, CountsAs, IsRefused, NoMessageAt, SomeMessageAt, IsSureBy};
+ghost use Rattle.capture_midstream.specs.InnerSyncPoint.{BeginsHere};
 
 use crate::message_check::{Found, front_of};
 use crate::session_filter::Session;

@@ -5,7 +5,8 @@ ghost use Rattle.capture_tcp.specs.Reassembly.{IsStoreOf};
 ghost use Rattle.capture_tcp.specs.KnownStreams.{end_at};
 ghost use Rattle.capture_tcp.specs.TcpStreams.{End, Placed};
 ghost use Rattle.capture_tcp.specs.declared.packet.Side.{Side as Direction};
-ghost use Rattle.capture_midstream.specs.BufferedPacket.{BeginsWith, FindsIn, IsSpotOf, held_octet, midst, octet_at, octets_upto, placed_by, unbroken};
+ghost use Rattle.capture_midstream.specs.BufferedPacket.{BeginsWith, midst, octet_at, octets_upto, unbroken};
+ghost use Rattle.capture_midstream.specs.InnerBufferedPacket.{FindsIn, IsSpotOf, held_octet, placed_by};
 
 use crate::buffered_packet::{Begun, BufferedPacket};
 use crate::candidate::Spot;

@@ -15,7 +15,8 @@ use Rattle.capture_pcap.specs.declared.block_reader.Opening.{Opening}
 use Rattle.capture_pcap.specs.declared.block_reader.Opening.TheVariants as opening
 use Rattle.capture_pcap.specs.File.{State, Packet, Ending, complete, cut, faulty, EndsAs, Reads, ReadsAfter, ReadsFile, front_at, size_of, after, packets_in, greatest_count, new_state, opening_at}
 use Rattle.hsms_frame.specs.ReadAhead.{ReadsMore}
-use Rattle.capture_pcap.specs.BlockReader.{CountsOn, IsOfDevice, ends_after_find, ends_after_open, Reading, ReadsOn, ReadsAll, ReadsFor, OpensFor, OpensAs, FindsFront, FindsOpening, EndsWith, StepIsWithin, StepsAs, TakesFront, TakesHeader, TakesOn, Emits, front_reported, is_more, is_unopened, opening_reported, packet_of, step_of}
+use Rattle.capture_pcap.specs.BlockReader.{CountsOn, ends_after_open, Reading, ReadsOn, OpensAs, StepIsWithin, StepsAs, TakesFront, TakesHeader, TakesOn, Emits, packet_of}
+use Rattle.capture_pcap.specs.InnerBlockReader.{IsOfDevice, ends_after_find, ReadsAll, ReadsFor, OpensFor, FindsFront, FindsOpening, EndsWith, front_reported, is_more, is_unopened, opening_reported, step_of}
 use Rattle.capture_pcap.proofs.ReaderSteps.{IsSound, front_is_sound, size_is_within, open_is_short, opening_is_short, opening_is_there}
 use Rattle.capture_pcap.proofs.UnchangedBlocks.{found_stays, fault_stays, packets_stay, opening_keeps, Keeps}
 

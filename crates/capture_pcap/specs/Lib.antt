@@ -4,3 +4,4 @@ pub mod Segment
 pub mod File
 pub mod Laws
 pub mod BlockReader
+pub mod InnerBlockReader

@@ -4,7 +4,8 @@ ghost use Rattle.std.specs.Prelude.{◌≡◌, ◌≤◌, ◌<◌, Ok, true, fal
 ghost use Rattle.hsms_frame.specs.ReadAhead.{ReadsMore, ends_after_more};
 ghost use Rattle.hsms_frame.specs.Io.{IfRecorded, IsAtEnd, Stays};
 ghost use Rattle.capture_pcap.specs.File.{HasParts};
-ghost use Rattle.capture_pcap.specs.BlockReader.{EndsWith, FindsFront, FindsOpening, IsOfDevice, OpensFor, ReadsFor, ends_after_find, ends_after_open, failures_after, front_reported, greatest_ahead, is_more, is_unopened, opening_reported, step_of, Reading, CountsOn, OpensAs, PassesOn, StepIsWithin, StepsAs, TakesHeader, TakesOn, ends_after_step};
+ghost use Rattle.capture_pcap.specs.BlockReader.{ends_after_open, failures_after, greatest_ahead, Reading, CountsOn, OpensAs, PassesOn, StepIsWithin, StepsAs, TakesHeader, TakesOn, ends_after_step};
+ghost use Rattle.capture_pcap.specs.InnerBlockReader.{EndsWith, FindsFront, FindsOpening, IsOfDevice, OpensFor, ReadsFor, ends_after_find, front_reported, is_more, is_unopened, opening_reported, step_of};
 
 use crate::block_reader::{Format, Opening, Reader, format_of};
 use crate::fault::{CaptureFault, FileFault};

@@ -3,7 +3,7 @@ use Rattle.std.proofs.Common.{◌≡◌, ◌<◌, ◌≤◌, ◌+◌, ℕ, zero,
 use Rattle.std.proofs.lemmas.Bool.{lt-ltb, le-ltb}
 use Rattle.std.specs.List.{insert, slice_index_or}
 use Rattle.capture_tcp.specs.declared.packet.Packet.{Packet}
-use Rattle.capture_tcp.specs.OutOfOrder.{put_after}
+use Rattle.capture_tcp.specs.InnerOutOfOrder.{put_after}
 
 -- Holds if the first n packets do not come after this one.
 abbrev pub AreBefore : Packet → ℕ → List Packet → Type 0

@@ -18,7 +18,7 @@ use Rattle.capture_tcp.specs.Losses.{side_of}
 use Rattle.capture_tcp.specs.EventSteps.{entry_as}
 use Rattle.capture_tcp.specs.DeliverySteps.{and_log, due_of, emit_turns}
 use Rattle.capture_tcp.specs.ReaderState.{AreRising, HasPassed, IsStreamOf, Waits, lefts, log_of, emitted_dues}
-use Rattle.capture_tcp.specs.PacketArrival.{Arrives, Brings, BringsCells, BringsTo, arrival_cells, due_as, own_packet, or_differs}
+use Rattle.capture_tcp.specs.InnerPacketArrival.{Arrives, Brings, BringsCells, BringsTo, arrival_cells, due_as, own_packet, or_differs}
 use Rattle.capture_tcp.proofs.StoredCells.{puts_none}
 use Rattle.capture_tcp.proofs.Lists.{Each}
 use Rattle.capture_tcp.proofs.Longer.{cell_more, end_more}

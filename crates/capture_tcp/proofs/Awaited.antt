@@ -14,10 +14,14 @@ use Rattle.capture_tcp.specs.TcpStreams.{End, active, passive, Cell, Placed, Tur
 use Rattle.capture_tcp.specs.ConnectionEvents.{ConnectionEvent, up, message, down, Entry, entry}
 use Rattle.capture_tcp.specs.Reassembly.{Store, IsStoreOf, piece_from}
 use Rattle.capture_tcp.specs.KnownStreams.{end_at}
-use Rattle.capture_tcp.specs.EventSteps.{Processed, and_processed, process_input, processes_input, entry_as, IsLeft}
-use Rattle.capture_tcp.specs.DeliverySteps.{AreLeft, Log, and_log, due_of, is_over, remains_after, resets, opens, entries_at, delivers, emit_turns}
-use Rattle.capture_tcp.specs.Emitted.{AreTails, Drains, EachDue, Fits, IsHeldBack, Spans, SpansTo, is_sure, log_by}
-use Rattle.capture_tcp.specs.ReaderState.{AreRising, AreStreamsOf, HasPassed, IsLimit, IsStreamOf, MayFollow, EmitsBefore, Waits, left_at, lefts, log_of, emitted_dues}
+use Rattle.capture_tcp.specs.EventSteps.{Processed, and_processed, process_input, processes_input, entry_as}
+use Rattle.capture_tcp.specs.InnerEventSteps.{IsLeft}
+use Rattle.capture_tcp.specs.DeliverySteps.{Log, and_log, due_of, is_over, remains_after, resets, opens, entries_at, delivers, emit_turns}
+use Rattle.capture_tcp.specs.InnerDeliverySteps.{AreLeft}
+use Rattle.capture_tcp.specs.Emitted.{EachDue, IsHeldBack, is_sure}
+use Rattle.capture_tcp.specs.InnerEmitted.{AreTails, Drains, Fits, Spans, SpansTo, log_by}
+use Rattle.capture_tcp.specs.ReaderState.{AreRising, AreStreamsOf, HasPassed, IsStreamOf, MayFollow, Waits, left_at, lefts, log_of, emitted_dues}
+use Rattle.capture_tcp.specs.InnerReaderState.{IsLimit, EmitsBefore}
 use Rattle.capture_tcp.proofs.Lists.{Each, weaken}
 use Rattle.capture_tcp.proofs.Longer.{stream_length, stream_more}
 use Rattle.capture_tcp.proofs.Numbered.{before_later}

@@ -11,8 +11,10 @@ use Rattle.capture_tcp.specs.declared.events.EmitterState.{EmitterState}
 use Rattle.capture_tcp.specs.ConnectionEvents.{Entry, entry, up, down}
 use Rattle.capture_tcp.specs.Reassembly.{Store}
 use Rattle.capture_tcp.specs.KnownStreams.{end_at}
-use Rattle.capture_tcp.specs.EventSteps.{Cuts, ProcessesInput, and_processed, processes_input, comes_up, closes_down}
-use Rattle.capture_tcp.specs.DeliverySteps.{AckMoves, Acknowledges, AreLeft, Delivers, Moves, MovesTo, TakesTurn, brought, by_ack, delivers, other_side, reach, stream_at, answers, answer_entries, resets, reset_entry}
+use Rattle.capture_tcp.specs.EventSteps.{and_processed, processes_input, comes_up, closes_down}
+use Rattle.capture_tcp.specs.InnerEventSteps.{Cuts, ProcessesInput}
+use Rattle.capture_tcp.specs.DeliverySteps.{brought, by_ack, delivers, other_side, answers, answer_entries, resets, reset_entry}
+use Rattle.capture_tcp.specs.InnerDeliverySteps.{AckMoves, Acknowledges, AreLeft, Delivers, Moves, MovesTo, TakesTurn, reach, stream_at}
 use Rattle.capture_tcp.proofs.Slicing.{processed_as, processed_then, processes_append, processes_one, none_processed}
 
 of_answer : (b : Bool) (t : Due) → b ≡ true → cond b (entry t.at up ∷ []) [] ≡ entry t.at up ∷ []

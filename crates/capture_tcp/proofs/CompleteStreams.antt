@@ -14,7 +14,8 @@ use Rattle.capture_tcp.specs.declared.reassembly.Cell.TheVariants as held
 use Rattle.capture_tcp.specs.Cells.{Kept, all_of, some_octets}
 use Rattle.capture_tcp.specs.TcpStreams.{End, Cell, Placed, bound, cell_at, cells_up_to, end_of, stream_of}
 use Rattle.capture_tcp.specs.Message.{cells_to, message_size, octets_after, one_more, size_by}
-use Rattle.capture_tcp.specs.Reassembly.{Store, IsFront, IsPiece, IsStoreOf, fitting, in_piece, piece_from, further, octet_in, wire_cell}
+use Rattle.capture_tcp.specs.Reassembly.{Store, IsFront, IsPiece, IsStoreOf, fitting, in_piece, piece_from, wire_cell}
+use Rattle.capture_tcp.specs.InnerReassembly.{further, octet_in}
 
 pub piece_end : (ss : List (Option HeldCell)) (i : ℕ) → get_or ss i None ≡ None → in_piece (drop i ss) ≡ []
 piece_end [] zero e = refl

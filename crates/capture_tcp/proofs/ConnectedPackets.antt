@@ -7,8 +7,9 @@ use Rattle.std.proofs.lemmas.List.{append_assoc, append-nil, drop-append-le, dro
 use Rattle.capture_tcp.specs.declared.reassembly.Cell.{Cell as HeldCell}
 use Rattle.capture_tcp.specs.declared.reassembly.Cell.TheVariants as held
 use Rattle.capture_tcp.specs.TcpStreams.{or_else}
-use Rattle.capture_tcp.specs.Reassembly.{IsStored, cell_from, held_of, octets_of}
-use Rattle.capture_tcp.specs.Cells.{Joins, Kept, all_of, some_octets}
+use Rattle.capture_tcp.specs.InnerReassembly.{IsStored, cell_from, held_of, octets_of}
+use Rattle.capture_tcp.specs.Cells.{Kept, all_of, some_octets}
+use Rattle.capture_tcp.specs.InnerCells.{Joins}
 
 pub length_some : (ns : List ℕ) → length (some_octets ns) ≡ length ns
 length_some [] = refl

@@ -16,7 +16,8 @@ use Rattle.capture_tcp.specs.declared.events.TimedEvent.{TimedEvent}
 use Rattle.capture_tcp.specs.declared.events.EmitterState.TheVariants as emitter_state
 use Rattle.capture_tcp.specs.TcpStreams.{End, active, passive, other, Seen, Placed, places, place_of, ack_place, placed_at, timed, asks_only, end_of, received, confirmed, turns, loss, difference, earlier}
 use Rattle.capture_tcp.specs.Reassembly.{Store, IsStoreOf}
-use Rattle.capture_tcp.specs.KnownStreams.{ContinuesWith, Known, end_at, known, packet_of, placed_as, placed_after, seen_of}
+use Rattle.capture_tcp.specs.KnownStreams.{ContinuesWith, Known, end_at, known, packet_of, placed_after, seen_of}
+use Rattle.capture_tcp.specs.InnerKnownStreams.{placed_as}
 use Rattle.capture_tcp.specs.Laws.{AreNumbered}
 use Rattle.capture_tcp.specs.Losses.{ReturnsLoss, Watches, ends_of, first_of, shown_of, side_of}
 use Rattle.capture_tcp.specs.ConnectionEvents.{Entry, emits}
@@ -24,9 +25,12 @@ use Rattle.capture_tcp.specs.EventSteps.{entry_as}
 use Rattle.capture_tcp.specs.DeliverySteps.{Log, is_over, remains_after, emit_turns}
 use Rattle.capture_tcp.specs.Emitted.{IsHeldBack}
 use Rattle.capture_tcp.specs.ReaderState.{AreRising, AreStreamsOf, Waits, lefts, log_of, emitted_dues}
-use Rattle.capture_tcp.specs.EndOfStream.{BreaksAt, EndsSo, Finishes, IsShownEnded, broken, ended, ended_at, is_known, shown_by}
-use Rattle.capture_tcp.specs.PacketArrival.{BringsCells, HoldsFrom, IsArrival, IsReading, Outcome, Reacts, breaks_sure, own_packet}
-use Rattle.capture_tcp.specs.ReaderInvariant.{EndsAs, Followed, StateInvariantAs, TakesOn, EmittedAtOnce, EmittedIsFinal, of_side}
+use Rattle.capture_tcp.specs.EndOfStream.{EndsSo, IsShownEnded, broken, ended, ended_at, is_known, shown_by}
+use Rattle.capture_tcp.specs.InnerEndOfStream.{BreaksAt, Finishes}
+use Rattle.capture_tcp.specs.PacketArrival.{HoldsFrom, IsReading, breaks_sure}
+use Rattle.capture_tcp.specs.InnerPacketArrival.{BringsCells, IsArrival, Outcome, Reacts, own_packet}
+use Rattle.capture_tcp.specs.ReaderInvariant.{EndsAs, StateInvariantAs, TakesOn, EmittedAtOnce, EmittedIsFinal}
+use Rattle.capture_tcp.specs.InnerReaderInvariant.{Followed, of_side}
 use Rattle.capture_tcp.proofs.StreamPrefixes.{places_begin, places_more, places_rise}
 use Rattle.capture_tcp.proofs.EmitterSteps.{one_more}
 use Rattle.std.specs.Option.{option_map}

@@ -10,7 +10,8 @@ use Rattle.capture_tcp.specs.declared.reassembly.Cell.{Cell as HeldCell}
 use Rattle.capture_tcp.specs.declared.reassembly.Cell.TheVariants as held
 use Rattle.capture_tcp.specs.TcpStreams.{End, Cell, Placed, cell_at, is_other, contradicts}
 use Rattle.capture_tcp.specs.Message.{cells_of}
-use Rattle.capture_tcp.specs.Reassembly.{Store, wire_cell, IsStoreOf, ReturnsConflict, differs_at, is_another, differs, flag_of, octets_of, held_of}
+use Rattle.capture_tcp.specs.Reassembly.{Store, wire_cell, IsStoreOf, ReturnsConflict}
+use Rattle.capture_tcp.specs.InnerReassembly.{differs_at, is_another, differs, flag_of, octets_of, held_of}
 use Rattle.capture_tcp.proofs.StoredCells.{cells_length, flag_count, length_flag, length_octets, wire_is}
 
 -- ---- one cell

@@ -4,7 +4,7 @@ use Rattle.std.proofs.lemmas.Bool.{le-leb, lt-leb}
 use Rattle.std.proofs.lemmas.List.{append_assoc, append-nil}
 use Rattle.std.specs.Option.{unwrap_or}
 use Rattle.capture_tcp.specs.declared.packet.Packet.{Packet}
-use Rattle.capture_tcp.specs.OutOfOrder.{IsStopped, Drained, and_released, drained, acked}
+use Rattle.capture_tcp.specs.InnerOutOfOrder.{IsStopped, Drained, and_released, drained, acked}
 
 pub can_continue : (end : ℕ) (q : Packet) (qs : List Packet) → q.from ≤ end → drained end (q ∷ qs) ≡ and_released q (drained (max end q.to) qs)
 unfolding drained

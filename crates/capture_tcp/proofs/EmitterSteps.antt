@@ -6,8 +6,9 @@ use Rattle.std.specs.Option.{option_to_list, unwrap_or}
 use Rattle.capture_tcp.specs.declared.packet.Packet.{Packet}
 use Rattle.capture_tcp.specs.TcpStreams.{End, active, passive, other, same_end, Seen, Placed, Turn, acknowledged_at, acknowledges, end_of, greatest_acknowledged, ack_place, place_of, placed_at, places, latest, timed, received, confirmed, confirmed_by, bound, run, turns, turns_at}
 use Rattle.capture_tcp.specs.Laws.{absorb, insert_after, left_waiting, reached, waits, waiting_in}
-use Rattle.capture_tcp.specs.OutOfOrder.{IsStopped, Drained, drained, put_after, acked}
-use Rattle.capture_tcp.specs.KnownStreams.{Flow, ContinuesWith, Known, Step, flow_of, latest_after, packet_of, placed_as, placed_after, step, step_at, step_by, released_after}
+use Rattle.capture_tcp.specs.InnerOutOfOrder.{IsStopped, Drained, drained, put_after, acked}
+use Rattle.capture_tcp.specs.KnownStreams.{Flow, ContinuesWith, Known, flow_of, packet_of, placed_after, released_after}
+use Rattle.capture_tcp.specs.InnerKnownStreams.{Step, latest_after, placed_as, step, step_at, step_by}
 use Rattle.capture_tcp.proofs.Absorbed.{absorbed}
 use Rattle.capture_tcp.proofs.Draining.{stops}
 use Rattle.capture_tcp.proofs.StreamPrefixes.{places_more}

@@ -12,8 +12,10 @@ use Rattle.capture_tcp.specs.ConnectionEvents.{Entry}
 use Rattle.capture_tcp.specs.EventSteps.{entry_as}
 use Rattle.capture_tcp.specs.DeliverySteps.{Log, and_log, due_of, is_over, emit_turns}
 use Rattle.capture_tcp.specs.Emitted.{IsHeldBack, is_sure}
-use Rattle.capture_tcp.specs.ReaderState.{IsLimit, EmitsBefore, lefts, log_of, emitted_dues}
-use Rattle.capture_tcp.specs.EndOfStream.{BreaksAt, EachAfter, Finishes, broken, ended_by}
+use Rattle.capture_tcp.specs.ReaderState.{lefts, log_of, emitted_dues}
+use Rattle.capture_tcp.specs.InnerReaderState.{IsLimit, EmitsBefore}
+use Rattle.capture_tcp.specs.EndOfStream.{broken, ended_by}
+use Rattle.capture_tcp.specs.InnerEndOfStream.{BreaksAt, EachAfter, Finishes}
 use Rattle.capture_tcp.proofs.Lists.{Each}
 use Rattle.capture_tcp.proofs.DeliveredPackets.{Ordered, turns_ordered}
 

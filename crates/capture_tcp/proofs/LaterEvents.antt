@@ -15,8 +15,10 @@ use Rattle.capture_tcp.specs.Message.{message_size}
 use Rattle.capture_tcp.specs.Reassembly.{Store, piece_from}
 use Rattle.capture_tcp.specs.ConnectionEvents.{Entry}
 use Rattle.capture_tcp.specs.EventSteps.{Processed, processes_input, entry_as}
-use Rattle.capture_tcp.specs.DeliverySteps.{Log, MovesTo, TakesTurn, ReachesAll, and_log, by_ack, delivers, entries_at, given, remains_after, opens, other_side, resets, stream_at, emit_turns}
-use Rattle.capture_tcp.specs.Emitted.{AreTails, Drains, EachDue, Fits, HasEmitted, SameStores, Spans, SpansTo, is_sure, log_by}
+use Rattle.capture_tcp.specs.DeliverySteps.{Log, and_log, by_ack, delivers, entries_at, given, remains_after, opens, other_side, resets, emit_turns}
+use Rattle.capture_tcp.specs.InnerDeliverySteps.{MovesTo, TakesTurn, ReachesAll, stream_at}
+use Rattle.capture_tcp.specs.Emitted.{EachDue, is_sure}
+use Rattle.capture_tcp.specs.InnerEmitted.{AreTails, Drains, Fits, HasEmitted, SameStores, Spans, SpansTo, log_by}
 use Rattle.capture_tcp.proofs.Slicing.{piece_after}
 
 -- ---- what is left after a delivery is the end of the streams

@@ -14,7 +14,8 @@ use Rattle.capture_tcp.specs.KnownStreams.{ContinuesWith, Known, packet_of, plac
 use Rattle.capture_tcp.specs.Laws.{AreNumbered}
 use Rattle.capture_tcp.specs.ReaderState.{AreRising}
 use Rattle.capture_tcp.specs.ReaderInvariant.{StateInvariantAs}
-use Rattle.capture_tcp.specs.Timestamps.{AreDueTimed, AreTimed, EndsInTime, FollowsInTime, IsInTime, IsInTimeOf, ReactsInTime, TakesInTime, EmitsInTime, time_at}
+use Rattle.capture_tcp.specs.Timestamps.{AreDueTimed, AreTimed, EndsInTime, IsInTime, IsInTimeOf, TakesInTime, time_at}
+use Rattle.capture_tcp.specs.InnerTimestamps.{FollowsInTime, ReactsInTime, EmitsInTime}
 use Rattle.capture_tcp.proofs.Connecting.{all_rise, placed_one}
 use Rattle.capture_tcp.proofs.StreamPrefixes.{places_begin, places_more}
 use Rattle.capture_tcp.proofs.EmitterSteps.{one_more}

@@ -8,8 +8,10 @@ use Rattle.capture_tcp.specs.declared.reassembly.Head.{Head}
 use Rattle.capture_tcp.specs.declared.reassembly.Head.TheVariants as head
 use Rattle.capture_tcp.specs.TcpStreams.{Cell, syn, octet, fin, or_else}
 use Rattle.capture_tcp.specs.Message.{cells_to, message_size, one_more}
-use Rattle.capture_tcp.specs.Reassembly.{IsStored, IsPiece, Store, cell_from, fitting, further, held_of, in_piece, octets_of, wire_cell}
-use Rattle.capture_tcp.specs.DataOnly.{AreOctetsFrom, HeadSays, IsLonger, flags_end, is_octet}
+use Rattle.capture_tcp.specs.Reassembly.{IsPiece, Store, fitting, in_piece, wire_cell}
+use Rattle.capture_tcp.specs.InnerReassembly.{IsStored, cell_from, further, held_of, octets_of}
+use Rattle.capture_tcp.specs.DataOnly.{AreOctetsFrom, is_octet}
+use Rattle.capture_tcp.specs.InnerDataOnly.{HeadSays, IsLonger, flags_end}
 use Rattle.capture_tcp.proofs.StoredCells.{gone}
 use Rattle.capture_tcp.proofs.Lists.{Each}
 

@@ -20,9 +20,12 @@ use Rattle.capture_tcp.specs.ConnectionEvents.{Entry}
 use Rattle.capture_tcp.specs.EventSteps.{entry_as}
 use Rattle.capture_tcp.specs.DeliverySteps.{Log, and_log, due_of, is_over, remains_after, emit_turns}
 use Rattle.capture_tcp.specs.Emitted.{IsHeldBack, is_sure}
-use Rattle.capture_tcp.specs.ReaderState.{AreRising, AreStreamsOf, HasPassed, IsClosed, IsLimit, IsStreamOf, EmitsBefore, Waits, lefts, log_of, emitted_dues, initial_state}
-use Rattle.capture_tcp.specs.EndOfStream.{BreaksAt, Finishes, IsEnded, broken, ended_at, ended_by, ends_for_good, is_known, packets_after, EachAfter}
-use Rattle.capture_tcp.specs.PacketArrival.{Arrives, ContinuesWith, IsReading, MayLose, PassesBoth, PassesTo, Reacts, EmitsIfSettled, EmitsSettled, breaks_sure, is_first}
+use Rattle.capture_tcp.specs.ReaderState.{AreRising, AreStreamsOf, HasPassed, IsStreamOf, Waits, lefts, log_of, emitted_dues, initial_state}
+use Rattle.capture_tcp.specs.InnerReaderState.{IsClosed, IsLimit, EmitsBefore}
+use Rattle.capture_tcp.specs.EndOfStream.{IsEnded, broken, ended_at, ended_by, ends_for_good, is_known, packets_after}
+use Rattle.capture_tcp.specs.InnerEndOfStream.{BreaksAt, Finishes, EachAfter}
+use Rattle.capture_tcp.specs.PacketArrival.{IsReading, breaks_sure, is_first}
+use Rattle.capture_tcp.specs.InnerPacketArrival.{Arrives, ContinuesWith, MayLose, PassesBoth, PassesTo, Reacts, EmitsIfSettled, EmitsSettled}
 use Rattle.capture_tcp.proofs.Lists.{Each, weaken}
 use Rattle.capture_tcp.proofs.Numbered.{before_later, difference_more, later_packets, loss_past, passes, passes_both, passes_earlier, rising_after, rising_front, rising_lower}
 use Rattle.capture_tcp.proofs.DeliveredPackets.{Ordered, turns_each, turns_ordered}

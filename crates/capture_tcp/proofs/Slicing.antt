@@ -12,7 +12,8 @@ use Rattle.capture_tcp.specs.Message.{message_size}
 use Rattle.capture_tcp.specs.Reassembly.{Store, fitting, in_piece, piece_from}
 use Rattle.capture_tcp.specs.ConnectionEvents.{Entry, entry, down, message, entry_of}
 use Rattle.capture_tcp.specs.KnownStreams.{end_at}
-use Rattle.capture_tcp.specs.EventSteps.{Processed, ProcessesInput, process_input, processes_input, and_processed, entry_as, closes_down, says_first, cut_entries, cut_to, IsLeft, Cuts}
+use Rattle.capture_tcp.specs.EventSteps.{Processed, process_input, processes_input, and_processed, entry_as, closes_down, says_first, cut_entries, cut_to}
+use Rattle.capture_tcp.specs.InnerEventSteps.{ProcessesInput, IsLeft, Cuts}
 use Rattle.capture_tcp.proofs.Sizes.{is_size}
 
 -- ---- entries that are processed one after another

@@ -4,7 +4,7 @@ use Rattle.capture_tcp.specs.TcpStreams.{bound, cell_at, cells_up_to, cut_off, d
 use Rattle.capture_tcp.specs.Message.{cells_to, size_by}
 use Rattle.capture_tcp.specs.EventSteps.{processes_input}
 use Rattle.capture_tcp.specs.DeliverySteps.{emit_turns}
-use Rattle.capture_tcp.specs.Examples.{Asked, EarlyReply, FinWithin, GapAtEnd, HalfOpen, LostMessage, LostReply, OtherCopy, OverUnreported, Refused, RefusedOnce, ResetBetween, SeparateCrossed, UpLate}
+use Rattle.capture_tcp.specs.InnerExamples.{Asked, EarlyReply, FinWithin, GapAtEnd, HalfOpen, LostMessage, LostReply, OtherCopy, OverUnreported, Refused, RefusedOnce, ResetBetween, SeparateCrossed, UpLate}
 
 pub lost_reply : LostReply
 unfolding bound cell_at cells_up_to cut_off difference loss places run show turns

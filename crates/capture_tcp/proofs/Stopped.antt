@@ -16,11 +16,13 @@ use Rattle.capture_tcp.specs.TcpStreams.{End, active, passive, Cell, Placed, See
 use Rattle.capture_tcp.specs.Reassembly.{EndsFar}
 use Rattle.capture_tcp.specs.KnownStreams.{ContinuesWith, Known, known, packet_of, placed_after, seen_of}
 use Rattle.capture_tcp.specs.Losses.{side_of}
-use Rattle.capture_tcp.specs.DeliverySteps.{stream_at}
+use Rattle.capture_tcp.specs.InnerDeliverySteps.{stream_at}
 use Rattle.capture_tcp.specs.ReaderState.{first_kept}
-use Rattle.capture_tcp.specs.PacketArrival.{BringsCells, HoldsFrom}
+use Rattle.capture_tcp.specs.PacketArrival.{HoldsFrom}
+use Rattle.capture_tcp.specs.InnerPacketArrival.{BringsCells}
 use Rattle.capture_tcp.specs.ReaderInvariant.{StateInvariantAs}
-use Rattle.capture_tcp.specs.Limits.{FullIf, ContinuesAt, ContinuesBy, IsFar, IsFull, IsNear, StopsAt, StopsBy, of_held}
+use Rattle.capture_tcp.specs.Limits.{ContinuesBy, IsFar, StopsBy, of_held}
+use Rattle.capture_tcp.specs.InnerLimits.{FullIf, ContinuesAt, IsFull, IsNear, StopsAt}
 use Rattle.capture_tcp.proofs.Connecting.{not_ended, placed_one, side_back}
 
 -- ---- too long

@@ -8,7 +8,8 @@ use Rattle.capture_tcp.specs.declared.reassembly.Cell.{Cell as HeldCell}
 use Rattle.capture_tcp.specs.declared.reassembly.Cell.TheVariants as held
 use Rattle.capture_tcp.specs.TcpStreams.{End, Cell, syn, octet, Placed, or_else, cell_in, cell_at}
 use Rattle.capture_tcp.specs.Message.{cells_of}
-use Rattle.capture_tcp.specs.Reassembly.{Store, wire_cell, IsStored, IsStoreOf, PutsIn, cell_from, stored_at, stored_all, flag_of, octets_of, held_of, SameCells, CellIs}
+use Rattle.capture_tcp.specs.Reassembly.{Store, wire_cell, IsStoreOf, PutsIn, CellIs}
+use Rattle.capture_tcp.specs.InnerReassembly.{IsStored, cell_from, stored_at, stored_all, flag_of, octets_of, held_of, SameCells}
 use Rattle.capture_tcp.proofs.Ends.{same}
 use Rattle.capture_tcp.proofs.Longer.{cell_more}
 

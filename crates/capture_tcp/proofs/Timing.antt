@@ -6,9 +6,10 @@ use Rattle.capture_tcp.specs.declared.reader_state.Reading.{Reading}
 use Rattle.capture_tcp.specs.declared.streams.Due.{Due}
 use Rattle.capture_tcp.specs.declared.events.Event.{Event}
 use Rattle.capture_tcp.specs.declared.events.TimedEvent.{TimedEvent}
-use Rattle.capture_tcp.specs.PacketArrival.{due_as}
+use Rattle.capture_tcp.specs.InnerPacketArrival.{due_as}
 use Rattle.capture_tcp.specs.Emitted.{EachDue}
-use Rattle.capture_tcp.specs.Timestamps.{AreDueTimed, AreTimed, KeepsTimes, QueuesInTime, ReactsInTime, EmitsInTime}
+use Rattle.capture_tcp.specs.Timestamps.{AreDueTimed, AreTimed}
+use Rattle.capture_tcp.specs.InnerTimestamps.{KeepsTimes, QueuesInTime, ReactsInTime, EmitsInTime}
 
 -- ---- what is emitted at a packet
 

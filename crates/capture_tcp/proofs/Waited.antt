@@ -4,7 +4,7 @@ use Rattle.std.proofs.lemmas.Bool.{le-leb, lt-leb, lt-ltb, cases_lt}
 use Rattle.capture_tcp.specs.declared.packet.Packet.{Packet}
 use Rattle.capture_tcp.specs.TcpStreams.{End, same_end, Placed, cell_in, cell_at, end_of, insert_by_place, in_order}
 use Rattle.capture_tcp.specs.Laws.{Span, Covers, IsOrdered, IsHeld, absorb, insert_after, reached, left_waiting, waits, waiting_in}
-use Rattle.capture_tcp.specs.OutOfOrder.{Drained, and_released, put_after, drained}
+use Rattle.capture_tcp.specs.InnerOutOfOrder.{Drained, and_released, put_after, drained}
 use Rattle.capture_tcp.specs.KnownStreams.{packet_of}
 use Rattle.capture_tcp.proofs.Absorbed.{absorbed, none_waits, stopped}
 use Rattle.capture_tcp.proofs.Draining.{can_continue, stops}

@@ -9,7 +9,8 @@ use Rattle.capture_tcp.specs.declared.losses.Need.{Need}
 use Rattle.capture_tcp.specs.declared.packet.Packet.{Packet}
 use Rattle.capture_tcp.specs.declared.packet.Side.{Side}
 use Rattle.capture_tcp.specs.TcpStreams.{End, active, passive, Placed, end_of, is_past, is_beyond, loss}
-use Rattle.capture_tcp.specs.Losses.{ends_of, side_of, is_incomplete, needs_of, unsettled, IsUnsettled, need_at, other_end, own_end, past_of, HeadIncomplete, IsWatched, Watches, IsNext, WatchesOn, IsLoss, FindsLoss, ReturnsLoss, first_of}
+use Rattle.capture_tcp.specs.Losses.{ends_of, side_of, needs_of, need_at, other_end, past_of, HeadIncomplete, IsWatched, Watches, IsNext, WatchesOn, IsLoss, FindsLoss, ReturnsLoss, first_of}
+use Rattle.capture_tcp.specs.InnerLosses.{is_incomplete, unsettled, IsUnsettled, own_end}
 use Rattle.capture_tcp.proofs.Numbered.{loss_sure, settled_sure, where_true}
 
 -- ---- the first needs

@@ -1,6 +1,6 @@
 -- Consecutive cells as they are buffered: contiguous bytes at the front, then cells of any kind, of which some may be
 -- missing.
-use Rattle.std.specs.Prelude.{◌≡◌, ℕ, List, map, ◌++◌, Option, Some}
+use Rattle.std.specs.Prelude.{ℕ, List, map, ◌++◌, Option, Some}
 use Rattle.capture_tcp.specs.declared.reassembly.Cell.{Cell as HeldCell}
 use Rattle.capture_tcp.specs.declared.reassembly.Cell.TheVariants as held
 
@@ -14,7 +14,3 @@ pub record Kept : Type 0 where
 -- All of the cells.
 abbrev pub all_of : Kept → List (Option HeldCell)
 all_of k = some_octets k.octets ++ k.others
-
--- Holds if bytes from the front of the cells were appended to others.
-abbrev pub Joins : List ℕ → List (Option HeldCell) → List ℕ → List (Option HeldCell) → Type 0
-Joins octets cells new left = (moved : List ℕ) × (new ≡ octets ++ moved) × (cells ≡ some_octets moved ++ left)

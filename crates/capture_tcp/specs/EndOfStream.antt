@@ -1,14 +1,11 @@
 -- How the events of a connection end.
-use Rattle.std.specs.Prelude.{◌≡◌, ◌++◌, ◌∷◌, Bool, true, false, nat_lt, nat_le, if◌then◌else◌, ℕ, List, [], length, map, filter, Option, Some, None}
+use Rattle.std.specs.Prelude.{◌≡◌, ◌++◌, Bool, true, false, nat_lt, nat_le, if◌then◌else◌, ℕ, List, [], length, map, filter, Option, Some, None}
 use Rattle.capture_tcp.specs.declared.ending.Ending.{Ending}
 use Rattle.capture_tcp.specs.declared.ending.Ending.TheVariants as ending
-use Rattle.capture_tcp.specs.declared.streams.Due.{Due}
-use Rattle.capture_tcp.specs.declared.emitter.Emitter.{Emitter}
 use Rattle.capture_tcp.specs.declared.events.TimedEvent.{TimedEvent}
-use Rattle.capture_tcp.specs.TcpStreams.{Placed, Turn, turns, loss, loss_shown, difference, earlier, breaks_off}
+use Rattle.capture_tcp.specs.TcpStreams.{Placed, loss, loss_shown, difference}
 use Rattle.capture_tcp.specs.EventSteps.{entry_as}
-use Rattle.capture_tcp.specs.Emitted.{is_sure}
-use Rattle.capture_tcp.specs.ReaderState.{AreRising, AreStreamsOf, MayFollow, Waits, log_of}
+use Rattle.capture_tcp.specs.ReaderState.{MayFollow, log_of}
 
 -- The ending by the loss or the conflicting retransmission, if there is one: the earlier of the two.
 abbrev pub broken : Option ℕ → Option ℕ → Ending
@@ -55,16 +52,6 @@ is_known ps = ends_for_good (ended_at ps) ps
 
 -- ---- what code does
 
-abbrev pub EachAfter : Option ℕ → List Turn → Type 0
-EachAfter limit [] = Unit {0}
-EachAfter limit (t ∷ ts) = (is_sure limit t.at.packet ≡ false) × EachAfter limit ts
-
--- Holds if, whatever follows, the log stops at a packet, and what follows comes after it.
-abbrev pub BreaksAt : Bool → Option ℕ → Ending → List Placed → Type 0
-BreaksAt more limit e ps =
-    (later : List Placed) → MayFollow more ps later
-    → (breaks_off (ps ++ later) ≡ limit) × (e ≡ broken (loss [] (ps ++ later)) (difference [] (ps ++ later))) × EachAfter limit (turns ps later)
-
 -- Holds if, whatever follows, these are all emitted events, with this ending.
 abbrev pub IsEnded : Bool → List Placed → List TimedEvent → Ending → Type 0
 IsEnded more ps emitted e =
@@ -77,10 +64,3 @@ EndsSo more ps emitted = (e : Ending) × IsEnded more ps emitted e
 abbrev pub IsShownEnded : Bool → List Placed → List TimedEvent → Ending → Type 0
 IsShownEnded more ps emitted e =
     (later : List Placed) → MayFollow more ps later → (map entry_as emitted ≡ (log_of (ps ++ later)).emitted) × (e ≡ ended (ps ++ later))
-
--- Holds if, after a stop by a loss or a conflicting retransmission, everything before it is emitted. It is appended to
--- what the caller left.
-abbrev pub Finishes : Option ℕ → Option ℕ → Emitter → List Due → List TimedEvent → List TimedEvent → Ending → Type 0
-Finishes lost differs old queue emitted later e =
-    (away : List TimedEvent) (more : Bool) (ps : List Placed) → AreRising 0 ps → MayFollow more ps [] → AreStreamsOf old.streams ps
-    → BreaksAt more (earlier lost differs) (broken lost differs) ps → Waits more old queue ps (away ++ emitted) → IsEnded more ps (away ++ later) e

@@ -1,18 +1,14 @@
 -- The events of a connection, one delivery after another. The laws state that they are the entries of a log.
-use Rattle.std.specs.Prelude.{◌≡◌, ◌≤◌, ◌+◌, ◌==◌, Bool, true, false, if◌then◌else◌, ℕ, List, [], ◌∷◌, ◌++◌, length, take, drop, ◌-◌, map, flat_map, Option, Some, None}
+use Rattle.std.specs.Prelude.{◌==◌, Bool, true, false, if◌then◌else◌, ℕ, List, [], ◌∷◌, ◌++◌, length, flat_map, Option, Some, None}
 use Rattle.std.specs.Option.{option_map}
-use Rattle.capture_tcp.specs.declared.reassembly.Cell.{Cell as HeldCell}
-use Rattle.capture_tcp.specs.declared.reassembly.Piece.{Piece}
-use Rattle.capture_tcp.specs.declared.reassembly.Piece.TheVariants as piece
 use Rattle.capture_tcp.specs.declared.packet.Side.{Side}
 use Rattle.capture_tcp.specs.declared.events.Event.{Event}
 use Rattle.capture_tcp.specs.declared.events.Event.TheVariants as event
 use Rattle.capture_tcp.specs.declared.events.TimedEvent.{TimedEvent}
 use Rattle.capture_tcp.specs.declared.events.EmitterState.{EmitterState}
 use Rattle.capture_tcp.specs.declared.events.EmitterState.TheVariants as emitter_state
-use Rattle.capture_tcp.specs.TcpStreams.{End, Cell, Left, Cut, cut_off}
+use Rattle.capture_tcp.specs.TcpStreams.{End, Left, Cut, cut_off}
 use Rattle.capture_tcp.specs.Message.{message_size}
-use Rattle.capture_tcp.specs.Reassembly.{Store, in_piece, piece_from}
 use Rattle.capture_tcp.specs.ConnectionEvents.{ConnectionEvent, up, message, down, Entry, entry, entry_of, is_separate, is_left_out}
 use Rattle.capture_tcp.specs.KnownStreams.{end_at}
 use Rattle.capture_tcp.specs.Losses.{side_of}
@@ -87,38 +83,8 @@ processes_input t (e ∷ es) = and_processed (process_input t e) (λ s. processe
 
 -- ---- the entries of the cells of a message, and of several
 
-abbrev pub entries_as : End → ℕ → Piece → List Entry
-entries_as d n (piece.Message octets) = entry n (message d octets.items) ∷ []
-entries_as d n piece.Opens = []
-entries_as d n piece.Closes = entry n down ∷ []
-
--- Holds if this is what the given number of contiguous cells at the front are.
-abbrev pub PieceEmits : List (Option HeldCell) → ℕ → Piece → Type 0
-PieceEmits ss count emitted =
-    count ≤ length (in_piece ss) → (d : End) (n : ℕ) → entry_of d n [] (take count (in_piece ss)) ≡ entries_as d n emitted
-
--- Holds if this is what the given number of contiguous cells from an offset on are.
-abbrev pub Emits : Store → ℕ → ℕ → Piece → Type 0
-Emits s place count emitted = s.place ≤ place → PieceEmits (drop (place - s.place) s.cells) count emitted
-
 abbrev pub cut_entries : End → ℕ → Cut → List Entry
 cut_entries d n c = flat_map (λ m. entry_of d n [] m) c.messages
 
 abbrev pub cut_to : ℕ → Left → Cut
 cut_to upto l = cut_off (length l.cells) message_size upto l
-
--- Holds if what is left of a stream, from an offset on, starts with what is buffered there.
-abbrev pub IsLeft : Store → ℕ → Left → Type 0
-IsLeft s place l = (l.place ≡ place) × (s.place ≤ place) × ((more : List Cell) × (l.cells ≡ piece_from s place ++ more))
-
--- ---- what code does
-
--- Holds if the state is as specified, and the specified entries were emitted.
-abbrev pub ProcessesInput : Processed → List TimedEvent → EmitterState → List TimedEvent → Type 0
-ProcessesInput h before state after = (state ≡ h.state) × (map entry_as after ≡ map entry_as before ++ h.emitted)
-
--- Holds if the messages of a direction up to a buffered offset are emitted at a packet.
-abbrev pub Cuts : Store → End → ℕ → ℕ → ℕ → List TimedEvent → EmitterState → ℕ → List TimedEvent → EmitterState → Type 0
-Cuts s d n upto place emitted state later after now =
-    (l : Left) → IsLeft s place l → upto ≤ place + length (piece_from s place)
-    → ProcessesInput (processes_input state (cut_entries d n (cut_to upto l))) emitted now after × IsLeft s later (cut_to upto l).left

@@ -1,13 +1,12 @@
 -- The state of reading a connection during a capture, and what each segment adds.
-use Rattle.std.specs.Prelude.{◌≡◌, ◌+◌, ◌&&◌, ◌||◌, ◌++◌, ◌∷◌, ℕ, max, nat_le, if◌then◌else◌, List, [], length, map, Option, Some, None}
-use Rattle.std.specs.Option.{option_to_list, unwrap_or}
+use Rattle.std.specs.Prelude.{◌≡◌, ◌+◌, ◌++◌, ◌∷◌, ℕ, List, [], length, map, Option}
+use Rattle.std.specs.Option.{option_to_list}
 use Rattle.capture_tcp.specs.declared.packet.Packet.{Packet}
 use Rattle.capture_tcp.specs.declared.packet.Segment.{Segment}
 use Rattle.capture_tcp.specs.declared.packet.Side.{Side}
 use Rattle.capture_tcp.specs.declared.packet.Side.TheVariants as side
-use Rattle.capture_tcp.specs.TcpStreams.{End, active, passive, other, Seen, Placed, Turn, end_of, received, confirmed, latest, timed, places, placed_at, place_of, ack_place, acknowledged_at, asks_only, turns}
+use Rattle.capture_tcp.specs.TcpStreams.{End, active, passive, other, Seen, Placed, Turn, end_of, received, confirmed, latest, timed, places, placed_at, place_of, ack_place, turns}
 use Rattle.capture_tcp.specs.Message.{cells_of}
-use Rattle.capture_tcp.specs.OutOfOrder.{Drained, put_after, drained, acked}
 use Rattle.capture_tcp.specs.Laws.{waiting_in}
 
 abbrev pub end_at : Side → End
@@ -52,51 +51,6 @@ flow_of base before d = record { base = base d; end = end_of before d; acknowled
 
 abbrev pub known : (End → ℕ) → List Placed → Known
 known base before = record { active = flow_of base before active; passive = flow_of base before passive; latest = latest before }
-
--- ---- one more segment
-
--- A segment at an offset.
-abbrev pub placed_as : ℕ → Seen → ℕ → Option ℕ → Placed
-placed_as acknowledged s place ack = record {
-  from = s.from;
-  packet = s.packet;
-  time = s.time;
-  place = place;
-  cells = if s.reset || asks_only acknowledged place s.pushed s.cells then [] else s.cells;
-  acknowledged = ack;
-  reset = s.reset && nat_le acknowledged place;
-}
-
--- Both directions after a packet, which one of them carries; the packet by its offset; and the packets that are
--- delivered at it.
-pub record Step : Type 0 where
-  pub own : Flow
-  pub peer : Flow
-  pub placed : Option Packet
-  pub emitted : List Packet
-
-abbrev pub step_by : Flow → Flow → Packet → Step
-step_by own peer p = with_drained (drained own.end (put_after p own.waiting))
-  where
-    with_drained : Drained → Step
-    with_drained d = record {
-      own = record own { end = d.end; waiting = d.left };
-      peer = record peer { acknowledged = acked peer.acknowledged d.emitted; confirmed = max peer.confirmed (unwrap_or p.acknowledged 0) };
-      placed = Some p;
-      emitted = d.emitted;
-    }
-
-abbrev pub step_at : Flow → Flow → Seen → Option ℕ → Step
-step_at own peer s None = record { own = own; peer = peer; placed = None; emitted = [] }
-step_at own peer s (Some place) = step_by own peer (packet_of (placed_as own.confirmed s place (acknowledged_at peer.end peer.base s.acknowledged)))
-
-abbrev pub step : Flow → Flow → Seen → Step
-step own peer s = step_at own peer s (place_of own.end own.base s.number)
-
--- The latest time after a packet, if there is one.
-abbrev pub latest_after : ℕ → Option Packet → ℕ
-latest_after n None = n
-latest_after n (Some p) = p.time
 
 -- ---- after all segments so far
 

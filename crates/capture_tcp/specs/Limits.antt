@@ -5,22 +5,14 @@ use Rattle.capture_tcp.specs.declared.connection.ConnectionFault.{ConnectionFaul
 use Rattle.capture_tcp.specs.declared.connection.ConnectionFault.TheVariants as stop
 use Rattle.capture_tcp.specs.declared.reassembly.ReassemblyFault.{ReassemblyFault}
 use Rattle.capture_tcp.specs.declared.reassembly.ReassemblyFault.TheVariants as held
-use Rattle.capture_tcp.specs.declared.packet.Packet.{Packet}
-use Rattle.capture_tcp.specs.declared.packet.Segment.{Segment}
-use Rattle.capture_tcp.specs.declared.reader_state.Arrival.{Arrival}
-use Rattle.capture_tcp.specs.declared.reader_state.Reading.{Reading}
-use Rattle.capture_tcp.specs.declared.streams.Streams.{Streams}
 use Rattle.capture_tcp.specs.declared.events.TimedEvent.{TimedEvent}
 use Rattle.capture_tcp.specs.declared.delivery.DeliveryFault.{DeliveryFault}
 use Rattle.capture_tcp.specs.declared.delivery.DeliveryFault.TheVariants as turns
-use Rattle.capture_tcp.specs.TcpStreams.{End, active, passive, Cell, Placed, Seen, end_of, places}
-use Rattle.capture_tcp.specs.Reassembly.{EndsFar, Store}
-use Rattle.capture_tcp.specs.WithinWindow.{StaysNear}
-use Rattle.capture_tcp.specs.KnownStreams.{Known, placed_after, seen_of}
-use Rattle.capture_tcp.specs.DeliverySteps.{stream_at}
+use Rattle.capture_tcp.specs.TcpStreams.{End, active, passive, Placed, Seen, end_of, places}
+use Rattle.capture_tcp.specs.Reassembly.{EndsFar}
+use Rattle.capture_tcp.specs.KnownStreams.{placed_after}
 use Rattle.capture_tcp.specs.ReaderState.{first_kept}
-use Rattle.capture_tcp.specs.PacketArrival.{arrival_cells}
-use Rattle.capture_tcp.specs.ReaderInvariant.{StateInvariant, StateInvariantAs}
+use Rattle.capture_tcp.specs.ReaderInvariant.{StateInvariant}
 
 -- Holds if a stream is longer than 2^62 cells.
 abbrev pub IsFar : List Placed → Type 0
@@ -63,31 +55,3 @@ of_turns turns.Memory = stop.Memory
 abbrev pub of_held : ReassemblyFault → ConnectionFault
 of_held held.Full = stop.Full
 of_held held.Memory = stop.Memory
-
--- Holds if what a packet carries ends outside the window.
-abbrev pub IsFull : Store → Packet → List Cell → Type 0
-IsFull s packet cells = (packet.from ≡ packet.to → ⊥) × EndsFar s.place packet.from cells
-
-abbrev pub IsFullAt : Streams → Arrival → List ℕ → Type 0
-IsFullAt s a octets = IsFull (stream_at s a.from).held a.packet (arrival_cells a octets)
-
-abbrev pub FullIf : ReassemblyFault → Type 0 → Type 0
-FullIf held.Full A = A
-FullIf held.Memory A = Unit {0}
-
--- Holds if what an accepted packet carries ends inside the window.
-abbrev pub IsNear : Store → Packet → List Cell → Type 0
-IsNear s packet cells = (packet.from ≡ packet.to → ⊥) → StaysNear s.place packet.from cells
-
-abbrev pub IsNearAt : Streams → Arrival → List ℕ → Type 0
-IsNearAt s a octets = IsNear (stream_at s a.from).held a.packet (arrival_cells a octets)
-
-abbrev pub StopsAt : Known → Reading → Segment → List ℕ → List TimedEvent → ConnectionFault → Type 0
-StopsAt turns r segment octets emitted fault =
-    (base : End → ℕ) (before : List Seen) (away : List TimedEvent) → StateInvariantAs None turns r (away ++ emitted) base before
-    → StopsFor fault base (places base [] before) (seen_of segment octets)
-
-abbrev pub ContinuesAt : Known → Reading → Segment → List ℕ → List TimedEvent → Type 0
-ContinuesAt turns r segment octets emitted =
-    (base : End → ℕ) (before : List Seen) (away : List TimedEvent) → StateInvariantAs None turns r (away ++ emitted) base before
-    → (IsFar (places base [] before) → ⊥) × (EndsPast base (places base [] before) (seen_of segment octets) → ⊥)

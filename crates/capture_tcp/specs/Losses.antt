@@ -1,5 +1,5 @@
 -- Which packet is the loss, as one pass over the packets finds it.
-use Rattle.std.specs.Prelude.{◌≡◌, ◌≤◌, ◌++◌, ◌∷◌, ◌||◌, ℕ, Bool, true, nat_lt, if◌then◌else◌, List, [], length, map, Option, Some, None}
+use Rattle.std.specs.Prelude.{◌≡◌, ◌≤◌, ◌++◌, ◌∷◌, ℕ, true, nat_lt, if◌then◌else◌, List, [], length, map, Option, Some, None}
 use Rattle.std.specs.Option.{unwrap_or}
 use Rattle.capture_tcp.specs.declared.losses.BothEnds.{BothEnds}
 use Rattle.capture_tcp.specs.declared.losses.Need.{Need}
@@ -13,11 +13,6 @@ abbrev pub side_of : End → Side
 side_of active = side.Active
 side_of passive = side.Passive
 
--- The end of a side's own direction, and of the other one.
-abbrev pub own_end : BothEnds → Side → ℕ
-own_end e side.Active = e.active
-own_end e side.Passive = e.passive
-
 abbrev pub other_end : BothEnds → Side → ℕ
 other_end e side.Active = e.passive
 other_end e side.Passive = e.active
@@ -28,18 +23,6 @@ ends_of ps = record { active = end_of ps active; passive = end_of ps passive }
 -- What a packet needs. No ACK counts as an ACK of nothing.
 abbrev pub needs_of : Side → Packet → Need
 needs_of s p = record { packet = p.packet; from = s; place = p.from; acknowledged = unwrap_or p.acknowledged 0 }
-
-abbrev pub is_incomplete : BothEnds → Need → Bool
-is_incomplete e n = nat_lt (other_end e n.from) n.acknowledged || nat_lt (own_end e n.from) n.place
-
--- The needs from the first with missing data on.
-unfoldable pub unsettled : BothEnds → List Need → List Need
-unsettled e [] = []
-unsettled e (n ∷ ns) = if is_incomplete e n then n ∷ ns else unsettled e ns
-
-abbrev pub IsUnsettled : BothEnds → List Need → Type 0
-IsUnsettled e [] = Unit {0}
-IsUnsettled e (n ∷ ns) = is_incomplete e n ≡ true
 
 -- The packet of the first need.
 abbrev pub first_of : List Need → Option ℕ

@@ -4,24 +4,16 @@ use Rattle.std.specs.Prelude.{◌≡◌, ◌⊎◌, ◌++◌, ◌∷◌, true, �
 use Rattle.capture_tcp.specs.declared.connection.Connection.{Connection}
 use Rattle.capture_tcp.specs.declared.ending.Ending.{Ending}
 use Rattle.capture_tcp.specs.declared.ending.Ending.TheVariants as ending
-use Rattle.capture_tcp.specs.declared.losses.BothEnds.{BothEnds}
-use Rattle.capture_tcp.specs.declared.packet.Segment.{Segment}
-use Rattle.capture_tcp.specs.declared.packet.Side.{Side}
-use Rattle.capture_tcp.specs.declared.packet.Side.TheVariants as side
 use Rattle.capture_tcp.specs.declared.reader_state.Reading.{Reading}
 use Rattle.capture_tcp.specs.declared.events.TimedEvent.{TimedEvent}
 use Rattle.capture_tcp.specs.TcpStreams.{End, Placed, Seen, places}
-use Rattle.capture_tcp.specs.KnownStreams.{Known, known, seen_of}
+use Rattle.capture_tcp.specs.KnownStreams.{Known, known}
 use Rattle.capture_tcp.specs.Laws.{AreNumbered}
 use Rattle.capture_tcp.specs.EventSteps.{entry_as}
 use Rattle.capture_tcp.specs.ConnectionEvents.{Entry, ends_down, emits}
 use Rattle.capture_tcp.specs.ReaderState.{AreRising, log_of}
 use Rattle.capture_tcp.specs.EndOfStream.{EndsSo, IsShownEnded, ended, is_known}
 use Rattle.capture_tcp.specs.PacketArrival.{IsReading}
-
-abbrev pub of_side : BothEnds → Side → ℕ
-of_side b side.Active = b.active
-of_side b side.Passive = b.passive
 
 -- Holds after these segments if the state determines what follows, or how the connection ended, because that is known
 -- whatever follows.
@@ -32,11 +24,6 @@ StateInvariantAs (Some e) turns reading emitted base seen =
 
 abbrev pub StateInvariant : Connection → List TimedEvent → (End → ℕ) → List Seen → Type 0
 StateInvariant c emitted base seen = StateInvariantAs c.ending c.turns c.reading emitted base seen
-
-abbrev pub Followed : Known → Reading → Segment → List ℕ → List TimedEvent → Known → Reading → List TimedEvent → Option Ending → Type 0
-Followed old reading segment octets emitted new later_reading later r =
-    (base : End → ℕ) (before : List Seen) (away : List TimedEvent) → AreNumbered 0 (before ++ seen_of segment octets ∷ [])
-    → StateInvariantAs None old reading (away ++ emitted) base before → StateInvariantAs r new later_reading (away ++ later) base (before ++ seen_of segment octets ∷ [])
 
 -- Holds for one more segment, if the numbers of packets increase. The caller may have removed earlier events; then they
 -- precede what is left.

@@ -1,9 +1,9 @@
 -- What is buffered of one direction by offset, from an offset on.
-use Rattle.std.specs.Prelude.{◌≡◌, ◌<◌, ◌≤◌, ◌-◌, ◌+◌, ◌++◌, ◌∷◌, ◌^◌, ◌⊎◌, ◌&&◌, ◌||◌, ℕ, Bool, false, nat_le, nat_lt, length, drop, if◌then◌else◌, List, [], map, get_or, slice_get, slice_set, Option, Some, None}
+use Rattle.std.specs.Prelude.{◌≡◌, ◌<◌, ◌≤◌, ◌-◌, ◌+◌, ◌++◌, ◌∷◌, ◌^◌, ◌⊎◌, ℕ, Bool, nat_lt, length, drop, if◌then◌else◌, List, [], get_or, Option, Some, None}
 use Rattle.std.specs.Option.{option_map}
 use Rattle.capture_tcp.specs.declared.reassembly.Cell.{Cell as HeldCell}
 use Rattle.capture_tcp.specs.declared.reassembly.Cell.TheVariants as held
-use Rattle.capture_tcp.specs.TcpStreams.{End, Cell, syn, octet, fin, Placed, or_else, cell_at, is_other, contradicts, end_of, stream_of}
+use Rattle.capture_tcp.specs.TcpStreams.{End, Cell, syn, octet, fin, Placed, cell_at, contradicts, end_of, stream_of}
 use Rattle.capture_tcp.specs.Message.{message_size}
 
 abbrev pub wire_cell : HeldCell → Cell
@@ -38,49 +38,7 @@ EndsFar first place cells = (first + 2 ^ 26 < place + length cells) ⊎ (2 ^ 64 
 abbrev pub CellIs : Store → ℕ → Option HeldCell → Type 0
 CellIs s n c = (n < s.place → c ≡ None) × ((ps : List Placed) (d : End) → IsStoreOf s ps d → s.place ≤ n → option_map wire_cell c ≡ cell_at ps d n)
 
--- ---- cells that are stored one after another
-
-abbrev pub stored_at : ℕ → ℕ → HeldCell → List (Option HeldCell) → List (Option HeldCell)
-stored_at base place c ss =
-    if nat_lt place base then ss else (slice_set ss (place - base) (or_else (get_or ss (place - base) None) (Some c)))
-
-unfoldable pub stored_all : ℕ → ℕ → List HeldCell → List (Option HeldCell) → List (Option HeldCell)
-stored_all base place [] ss = ss
-stored_all base place (c ∷ cs) ss = stored_all base (place + 1) cs (stored_at base place c ss)
-
-abbrev pub flag_of : Bool → HeldCell → List HeldCell
-flag_of is_set c = if is_set then c ∷ [] else []
-
-abbrev pub octets_of : List ℕ → List HeldCell
-octets_of octets = map (λ n. held.Octet n) octets
-
-abbrev pub held_of : Bool → List ℕ → Bool → List HeldCell
-held_of syns octets fins = flag_of syns held.Syn ++ (octets_of octets ++ flag_of fins held.Fin)
-
--- The cell at an offset, of cells that start at another.
-abbrev pub cell_from : ℕ → List HeldCell → ℕ → Option HeldCell
-cell_from place cs n = if nat_le place n then slice_get cs (n - place) else None
-
--- Holds if cells from an offset on are stored too, if the store starts at a base. A buffered cell stays unchanged.
-abbrev pub IsStored : ℕ → ℕ → List HeldCell → List (Option HeldCell) → List (Option HeldCell) → Type 0
-IsStored base place cs ss ts = (i : ℕ) → get_or ts i None ≡ or_else (get_or ss i None) (cell_from place cs (base + i))
-
--- Holds if these are the same cells. Missing cells may be written out.
-abbrev pub SameCells : List (Option HeldCell) → List (Option HeldCell) → Type 0
-SameCells ss ts = (i : ℕ) → get_or ts i None ≡ get_or ss i None
-
 -- ---- conflicting copies
-
-abbrev pub is_another : HeldCell → Option HeldCell → Bool
-is_another c held = is_other (wire_cell c) (option_map wire_cell held)
-
-abbrev pub differs_at : ℕ → ℕ → ℕ → HeldCell → List (Option HeldCell) → Bool
-differs_at base acknowledged place c ss = nat_le acknowledged place && is_another c (get_or ss (place - base) None)
-
--- True if some of these cells, from an offset on, is not acknowledged and differs from the buffered one.
-unfoldable pub differs : ℕ → ℕ → ℕ → List HeldCell → List (Option HeldCell) → Bool
-differs base acknowledged place [] ss = false
-differs base acknowledged place (c ∷ cs) ss = differs_at base acknowledged place c ss || differs base acknowledged (place + 1) cs ss
 
 -- Holds if the result is whether a packet with these cells contradicts those before it. What is not acknowledged must
 -- still be buffered, and the packet must end before 2^64.
@@ -99,11 +57,6 @@ and_piece (Some c) cs = wire_cell c ∷ cs
 abbrev pub in_piece : List (Option HeldCell) → List Cell
 in_piece [] = []
 in_piece (s ∷ ss) = and_piece s (in_piece ss)
-
--- This number plus another.
-abbrev pub further : ℕ → Option ℕ → Option ℕ
-further i None = None
-further i (Some n) = Some (i + n)
 
 -- The size of a message from an offset on, if it ends by another offset.
 abbrev pub fitting : ℕ → ℕ → Option ℕ → Option ℕ
@@ -124,8 +77,3 @@ IsFront s place upto count =
 -- Holds if this number of cells is cut off, by what is buffered.
 abbrev pub IsPiece : Store → ℕ → ℕ → Option ℕ → Type 0
 IsPiece s place upto count = s.place ≤ place → count ≡ fitting upto place (message_size (piece_from s place))
-
-abbrev pub octet_in : HeldCell → Option ℕ
-octet_in held.Syn = None
-octet_in (held.Octet n) = Some n
-octet_in held.Fin = None

@@ -1,17 +1,14 @@
 -- The times of events: each is the latest time at which a packet of the connection up to the event's own was captured.
-use Rattle.std.specs.Prelude.{◌≡◌, ◌≤◌, ◌++◌, ◌∷◌, max, map, nat_le, if◌then◌else◌, ℕ, List, [], None}
+use Rattle.std.specs.Prelude.{◌≡◌, ◌≤◌, ◌++◌, ◌∷◌, max, map, nat_le, if◌then◌else◌, ℕ, List, []}
 use Rattle.capture_tcp.specs.declared.connection.Connection.{Connection}
-use Rattle.capture_tcp.specs.declared.packet.Packet.{Packet}
-use Rattle.capture_tcp.specs.declared.packet.Segment.{Segment}
 use Rattle.capture_tcp.specs.declared.reader_state.Reading.{Reading}
 use Rattle.capture_tcp.specs.declared.streams.Due.{Due}
 use Rattle.capture_tcp.specs.declared.events.TimedEvent.{TimedEvent}
 use Rattle.capture_tcp.specs.TcpStreams.{End, Placed, Seen, places}
-use Rattle.capture_tcp.specs.KnownStreams.{Known, seen_of}
 use Rattle.capture_tcp.specs.Laws.{AreNumbered}
 use Rattle.capture_tcp.specs.ReaderState.{AreRising}
 use Rattle.capture_tcp.specs.Emitted.{EachDue}
-use Rattle.capture_tcp.specs.ReaderInvariant.{StateInvariant, StateInvariantAs}
+use Rattle.capture_tcp.specs.ReaderInvariant.{StateInvariant}
 use Rattle.capture_tcp.specs.ConnectionEvents.{emits}
 
 -- The latest time of the packets up to a number.
@@ -37,23 +34,6 @@ TimesNeverGoBack = (ps : List Placed) → AreRising 0 ps → AreInOrder 0 (map (
 abbrev pub AreDueTimed : (ℕ → ℕ) → List Due → Type 0
 AreDueTimed time dues = EachDue (λ t. time t.at ≡ t.time) dues
 
--- Holds if new events are emitted at a packet and its time.
-abbrev pub KeepsTimes : ℕ → ℕ → List TimedEvent → List TimedEvent → Type 0
-KeepsTimes packet at emitted later = (time : ℕ → ℕ) → time packet ≡ at → AreTimed time emitted → AreTimed time later
-
--- Holds if new events are emitted at the times of the waiting deliveries, of which some still wait.
-abbrev pub EmitsInTime : List Due → List TimedEvent → List Due → List TimedEvent → Type 0
-EmitsInTime dues emitted left later = (time : ℕ → ℕ) → AreDueTimed time dues → AreTimed time emitted → AreDueTimed time left × AreTimed time later
-
--- Holds if the deliveries at a packet wait with its time.
-abbrev pub QueuesInTime : Packet → List Due → List Due → Type 0
-QueuesInTime p dues later = (time : ℕ → ℕ) → time p.packet ≡ p.time → AreDueTimed time dues → AreDueTimed time later
-
--- Holds if the emitted events and the waiting deliveries keep their times when a packet arrives.
-abbrev pub ReactsInTime : Packet → Reading → List TimedEvent → Reading → List TimedEvent → Type 0
-ReactsInTime p old emitted new later =
-    (time : ℕ → ℕ) → time p.packet ≡ p.time → AreDueTimed time old.due.items → AreTimed time emitted → AreDueTimed time new.due.items × AreTimed time later
-
 -- Holds if, whatever follows, what was emitted, and what waits to be emitted, has the time of its packet.
 abbrev pub IsInTimeOf : Reading → List TimedEvent → List Placed → Type 0
 IsInTimeOf r emitted ps =
@@ -61,11 +41,6 @@ IsInTimeOf r emitted ps =
 
 abbrev pub IsInTime : Connection → List TimedEvent → (End → ℕ) → List Seen → Type 0
 IsInTime c emitted base seen = IsInTimeOf c.reading emitted (places base [] seen)
-
-abbrev pub FollowsInTime : Known → Reading → Segment → List ℕ → List TimedEvent → Reading → List TimedEvent → Type 0
-FollowsInTime turns old segment octets emitted new later =
-    (base : End → ℕ) (before : List Seen) (away : List TimedEvent) → StateInvariantAs None turns old (away ++ emitted) base before
-    → IsInTimeOf old (away ++ emitted) (places base [] before) → IsInTimeOf new (away ++ later) (places base [] (before ++ seen_of segment octets ∷ []))
 
 -- Holds if one more segment keeps the times. The caller may have removed earlier events.
 abbrev pub TakesInTime : Connection → Seen → List TimedEvent → Connection → List TimedEvent → Type 0

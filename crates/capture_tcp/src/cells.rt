@@ -2,8 +2,9 @@
 
 ghost use Rattle.std.specs.Prelude.{◌≡◌, ◌≤◌, ◌<◌, ◌∷◌, ◌⊎◌, List, OnOk, OnErr, IfSome, drop, get_or, slice_set, vec_len, None, Option, Some, ◌+◌, ◌++◌, max, [], length, true};
 ghost use Rattle.std.specs.VecDeque.{deque_len};
-ghost use Rattle.capture_tcp.specs.Cells.{Joins, Kept, all_of};
-ghost use Rattle.capture_tcp.specs.Reassembly.{SameCells};
+ghost use Rattle.capture_tcp.specs.Cells.{Kept, all_of};
+ghost use Rattle.capture_tcp.specs.InnerCells.{Joins};
+ghost use Rattle.capture_tcp.specs.InnerReassembly.{SameCells};
 ghost use Rattle.capture_tcp.specs.TcpStreams.{or_else};
 ghost use Rattle.capture_tcp.specs.declared.reassembly.Cell.TheVariants.{Octet};
 

@@ -2,12 +2,15 @@
 
 ghost use Rattle.std.specs.Prelude.{◌≡◌, IfErr, IfOk, OnOk, []};
 ghost use Rattle.capture_tcp.specs.declared.connection.ConnectionFault.TheVariants.{Memory};
-ghost use Rattle.capture_tcp.specs.ReaderInvariant.{Followed, of_side, EndsAs, StateInvariant, TakesOn};
+ghost use Rattle.capture_tcp.specs.ReaderInvariant.{EndsAs, StateInvariant, TakesOn};
+ghost use Rattle.capture_tcp.specs.InnerReaderInvariant.{Followed, of_side};
 ghost use Rattle.std.specs.Option.{option_map};
 ghost use Rattle.capture_tcp.specs.EndOfStream.{shown_by};
 ghost use Rattle.capture_tcp.specs.Losses.{shown_of};
-ghost use Rattle.capture_tcp.specs.Limits.{ContinuesAt, StopsAt, of_turns, of_held, ContinuesBy, StopsBy};
-ghost use Rattle.capture_tcp.specs.Timestamps.{FollowsInTime, EndsInTime, IsInTime, TakesInTime};
+ghost use Rattle.capture_tcp.specs.Limits.{of_turns, of_held, ContinuesBy, StopsBy};
+ghost use Rattle.capture_tcp.specs.InnerLimits.{ContinuesAt, StopsAt};
+ghost use Rattle.capture_tcp.specs.Timestamps.{EndsInTime, IsInTime, TakesInTime};
+ghost use Rattle.capture_tcp.specs.InnerTimestamps.{FollowsInTime};
 ghost use Rattle.capture_tcp.specs.KnownStreams.{bases, seen_of};
 
 use crate::delivery::{DeliveryFault, DeliveryQueue};

@@ -1,7 +1,8 @@
 //! Packets of one connection by their offsets, and their delivery in order.
 
 ghost use Rattle.std.specs.Prelude.{◌≡◌, ◌≤◌, ◌<◌, ◌+◌, ◌^◌, ◌++◌, IfOk, OnOk, OnErr, None, length, max, [], Err, IsOk};
-ghost use Rattle.capture_tcp.specs.KnownStreams.{latest_after, packet_of, placed_as, seen_of, step, step_by, Flow, Known, ContinuesWith, bases, known};
+ghost use Rattle.capture_tcp.specs.KnownStreams.{packet_of, seen_of, Flow, Known, ContinuesWith, bases, known};
+ghost use Rattle.capture_tcp.specs.InnerKnownStreams.{latest_after, placed_as, step, step_by};
 ghost use Rattle.capture_tcp.specs.declared.delivery.DeliveryFault.TheVariants.{Memory, Far};
 
 use crate::keep_alive::only_asks;

@@ -2,10 +2,12 @@
 
 ghost use Rattle.std.specs.Prelude.{◌≡◌, ◌+◌, ◌∷◌, ◌||◌, true, false, IfSome, IfNone, IfOk, OnOk};
 ghost use Rattle.std.specs.VecDeque.{deque_len};
-ghost use Rattle.capture_tcp.specs.Emitted.{Drains, IsHeldBack, is_sure};
-ghost use Rattle.capture_tcp.specs.ReaderState.{EmitsBefore};
-ghost use Rattle.capture_tcp.specs.Timestamps.{KeepsTimes, EmitsInTime};
-ghost use Rattle.capture_tcp.specs.DeliverySteps.{TakesTurn, is_over, opens, resets};
+ghost use Rattle.capture_tcp.specs.Emitted.{IsHeldBack, is_sure};
+ghost use Rattle.capture_tcp.specs.InnerEmitted.{Drains};
+ghost use Rattle.capture_tcp.specs.InnerReaderState.{EmitsBefore};
+ghost use Rattle.capture_tcp.specs.InnerTimestamps.{KeepsTimes, EmitsInTime};
+ghost use Rattle.capture_tcp.specs.DeliverySteps.{is_over, opens, resets};
+ghost use Rattle.capture_tcp.specs.InnerDeliverySteps.{TakesTurn};
 
 use crate::events::{EmitterState, TimedEvent};
 use crate::streams::{Due, Streams, opens, resets, turn};

@@ -1,8 +1,9 @@
 //! How the events of a connection end.
 
 ghost use Rattle.std.specs.Prelude.{◌≡◌, Some, IfOk, OnOk};
-ghost use Rattle.capture_tcp.specs.EndOfStream.{Finishes, broken};
-ghost use Rattle.capture_tcp.specs.Timestamps.{EmitsInTime};
+ghost use Rattle.capture_tcp.specs.EndOfStream.{broken};
+ghost use Rattle.capture_tcp.specs.InnerEndOfStream.{Finishes};
+ghost use Rattle.capture_tcp.specs.InnerTimestamps.{EmitsInTime};
 ghost use Rattle.capture_tcp.specs.TcpStreams.{earlier};
 
 use crate::emitter::{Emitter, emit_before};

@@ -1,11 +1,12 @@
 //! The events of a connection.
 
 ghost use Rattle.std.specs.Prelude.{◌≡◌, get_or, OnOk};
-ghost use Rattle.capture_tcp.specs.EventSteps.{separated_side, ProcessesInput, comes_up, closes_down, says, says_first};
+ghost use Rattle.capture_tcp.specs.EventSteps.{separated_side, comes_up, closes_down, says, says_first};
+ghost use Rattle.capture_tcp.specs.InnerEventSteps.{ProcessesInput};
 ghost use Rattle.capture_tcp.specs.ConnectionEvents.{is_left_out, is_separate};
 ghost use Rattle.capture_tcp.specs.KnownStreams.{end_at};
 ghost use Rattle.std.specs.Option.{option_map};
-ghost use Rattle.capture_tcp.specs.Timestamps.{KeepsTimes};
+ghost use Rattle.capture_tcp.specs.InnerTimestamps.{KeepsTimes};
 
 use crate::packet::Side;
 use std::alloc::AllocError;

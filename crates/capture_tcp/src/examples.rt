@@ -1,6 +1,6 @@
 //! Small captures, and what the definitions state of them.
 
-ghost use Rattle.capture_tcp.specs.Examples.{Asked, EarlyReply, FinWithin, GapAtEnd, HalfOpen, LostMessage, LostReply, OtherCopy, OverUnreported, Refused, RefusedOnce, ResetBetween, SeparateCrossed, UpLate};
+ghost use Rattle.capture_tcp.specs.InnerExamples.{Asked, EarlyReply, FinWithin, GapAtEnd, HalfOpen, LostMessage, LostReply, OtherCopy, OverUnreported, Refused, RefusedOnce, ResetBetween, SeparateCrossed, UpLate};
 
 /// In six captures, the definitions give the loss and what shows it, the causal order, or the conflicting
 /// retransmission.

@@ -4,8 +4,9 @@ ghost use Rattle.std.specs.Prelude.{◌≤◌, IfOk, OnOk, length, max, take, []
 ghost use Rattle.capture_tcp.specs.Reassembly.{piece_from};
 ghost use Rattle.capture_tcp.specs.KnownStreams.{end_at};
 ghost use Rattle.capture_tcp.specs.ConnectionEvents.{entry_of};
-ghost use Rattle.capture_tcp.specs.EventSteps.{Cuts, ProcessesInput, processes_input, entries_as};
-ghost use Rattle.capture_tcp.specs.Timestamps.{KeepsTimes};
+ghost use Rattle.capture_tcp.specs.EventSteps.{processes_input};
+ghost use Rattle.capture_tcp.specs.InnerEventSteps.{Cuts, ProcessesInput, entries_as};
+ghost use Rattle.capture_tcp.specs.InnerTimestamps.{KeepsTimes};
 
 use crate::events::{EmitterState, TimedEvent};
 use crate::packet::Side;

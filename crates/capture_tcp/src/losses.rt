@@ -3,7 +3,8 @@
 
 ghost use Rattle.std.specs.Prelude.{◌≡◌, ◌+◌, ◌++◌, ◌∷◌, [], false, nat_lt, IfSome, IfNone, OnOk, OnErr};
 ghost use Rattle.std.specs.VecDeque.{deque_len};
-ghost use Rattle.capture_tcp.specs.Losses.{is_incomplete, needs_of, other_end, past_of, unsettled, IsUnsettled, first_of};
+ghost use Rattle.capture_tcp.specs.Losses.{needs_of, other_end, past_of, first_of};
+ghost use Rattle.capture_tcp.specs.InnerLosses.{is_incomplete, unsettled, IsUnsettled};
 
 use crate::packet::{Packet, Side};
 use std::alloc::{AllocError, Global};

@@ -3,7 +3,7 @@
 ghost use Rattle.std.specs.Prelude.{◌≡◌, ◌≤◌, ◌+◌, ◌++◌, ◌∷◌, IfSome, IfNone, IfOk, IsOk, OnOk, OnErr, vec_len, vec_capacity};
 ghost use Rattle.std.specs.List.{insert};
 ghost use Rattle.std.specs.VecDeque.{deque_len};
-ghost use Rattle.capture_tcp.specs.OutOfOrder.{put_after, IsStopped, Drained, drained, acked};
+ghost use Rattle.capture_tcp.specs.InnerOutOfOrder.{put_after, IsStopped, Drained, drained, acked};
 
 use crate::packet::Packet;
 use std::alloc::{AllocError, Global};

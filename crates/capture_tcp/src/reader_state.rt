@@ -1,11 +1,12 @@
 //! The state of a connection during a capture, and the events that are emitted when a packet arrives.
 
 ghost use Rattle.std.specs.Prelude.{◌≡◌, ◌++◌, IfErr, IfOk, OnOk, map};
-ghost use Rattle.capture_tcp.specs.PacketArrival.{Arrives, Brings, BringsTo, ContinuesWith, PassesBoth, PassesTo, Reacts, EmitsIfSettled, EmitsSettled, breaks_sure, due_as, or_differs};
+ghost use Rattle.capture_tcp.specs.PacketArrival.{breaks_sure};
+ghost use Rattle.capture_tcp.specs.InnerPacketArrival.{Arrives, Brings, BringsTo, ContinuesWith, PassesBoth, PassesTo, Reacts, EmitsIfSettled, EmitsSettled, due_as, or_differs};
 ghost use Rattle.capture_tcp.specs.declared.reassembly.ReassemblyFault.TheVariants.{Memory};
 ghost use Rattle.capture_tcp.specs.Message.{cells_of};
-ghost use Rattle.capture_tcp.specs.Limits.{FullIf, IsFull, IsFullAt, IsNear, IsNearAt};
-ghost use Rattle.capture_tcp.specs.Timestamps.{QueuesInTime, ReactsInTime, EmitsInTime};
+ghost use Rattle.capture_tcp.specs.InnerLimits.{FullIf, IsFull, IsFullAt, IsNear, IsNearAt};
+ghost use Rattle.capture_tcp.specs.InnerTimestamps.{QueuesInTime, ReactsInTime, EmitsInTime};
 
 use crate::emitter::{Emitter, emit_before};
 use crate::ending::{Ending, finish, least};

@@ -2,10 +2,12 @@
 
 ghost use Rattle.std.specs.Prelude.{◌≡◌, ◌≤◌, ◌<◌, ◌+◌, ◌^◌, true, ◌-◌, max, take, false, [], IfSome, IfOk, None, OnOk, OnErr, drop, get_or, length, List, Err};
 ghost use Rattle.capture_tcp.specs.Cells.{all_of};
-ghost use Rattle.capture_tcp.specs.Reassembly.{IsStored, differs, differs_at, flag_of, further, held_of, in_piece, is_another, stored_all, stored_at, octet_in, octets_of, Store, CellIs, EndsFar, IsFront, IsPiece, IsStoreOf, PutsIn, ReturnsConflict};
+ghost use Rattle.capture_tcp.specs.Reassembly.{in_piece, Store, CellIs, EndsFar, IsFront, IsPiece, IsStoreOf, PutsIn, ReturnsConflict};
+ghost use Rattle.capture_tcp.specs.InnerReassembly.{IsStored, differs, differs_at, flag_of, further, held_of, is_another, stored_all, stored_at, octet_in, octets_of};
 ghost use Rattle.capture_tcp.specs.Message.{cells_to, message_size, octets_after, cells_of};
-ghost use Rattle.capture_tcp.specs.DataOnly.{HeadSays, IsLonger, flags_end, AreOctetsFrom};
-ghost use Rattle.capture_tcp.specs.EventSteps.{PieceEmits, Emits};
+ghost use Rattle.capture_tcp.specs.DataOnly.{AreOctetsFrom};
+ghost use Rattle.capture_tcp.specs.InnerDataOnly.{HeadSays, IsLonger, flags_end};
+ghost use Rattle.capture_tcp.specs.InnerEventSteps.{PieceEmits, Emits};
 ghost use Rattle.capture_tcp.specs.TcpStreams.{End, Placed};
 ghost use Rattle.capture_tcp.specs.declared.reassembly.ReassemblyFault.TheVariants.{Memory, Full};
 ghost use Rattle.capture_tcp.specs.WithinWindow.{StaysNear};

@@ -1,9 +1,11 @@
 //! Both streams of a connection, from the first cell that is not emitted, and the delivery of a packet.
 
 ghost use Rattle.std.specs.Prelude.{◌≡◌, IfOk, OnOk};
-ghost use Rattle.capture_tcp.specs.EventSteps.{ProcessesInput, processes_input};
-ghost use Rattle.capture_tcp.specs.DeliverySteps.{AckMoves, Acknowledges, Delivers, Moves, TakesTurn, acked_by, answer_entries, answers, opens, other_side, reset_entry, resets};
-ghost use Rattle.capture_tcp.specs.Timestamps.{KeepsTimes};
+ghost use Rattle.capture_tcp.specs.EventSteps.{processes_input};
+ghost use Rattle.capture_tcp.specs.InnerEventSteps.{ProcessesInput};
+ghost use Rattle.capture_tcp.specs.DeliverySteps.{acked_by, answer_entries, answers, opens, other_side, reset_entry, resets};
+ghost use Rattle.capture_tcp.specs.InnerDeliverySteps.{AckMoves, Acknowledges, Delivers, Moves, TakesTurn};
+ghost use Rattle.capture_tcp.specs.InnerTimestamps.{KeepsTimes};
 
 use crate::events::{EmitterState, TimedEvent};
 use crate::framing::{Delivery, cut};

@@ -11,7 +11,8 @@ use Rattle.capture_events.specs.declared.log_item.LogItem.{LogItem}
 use Rattle.capture_verdicts.specs.declared.pair_logs.PairLogs.{PairLogs}
 use Rattle.capture_events.specs.declared.log_item.EntryKind.{EntryKind}
 use Rattle.capture_verdicts.specs.VerdictReport.{event_at, note_at, notes}
-use Rattle.capture_verdicts.specs.ReportState.{AddsItem, HaveLogged, latest, note_by}
+use Rattle.capture_verdicts.specs.ReportState.{AddsItem, HaveLogged, latest}
+use Rattle.capture_verdicts.specs.InnerReportState.{note_by}
 
 notes_more : (side : Side) (before : ℕ) (items : List LogItem) (item : LogItem) → notes side before (items ++ item ∷ []) ≡ notes side before items ++ note_at side (latest before items) item ∷ []
 unfolding notes

@@ -16,7 +16,8 @@ use Rattle.capture_verdicts.specs.declared.skipped_packets.SkippedPackets.{Skipp
 use Rattle.capture_verdicts.specs.declared.verdict_report.VerdictReport.{VerdictReport}
 use Rattle.capture_verdicts.specs.SkippedPackets.{skipped_after, none_skipped}
 use Rattle.capture_verdicts.specs.VerdictReport.{AllVerdicts, HasVerdict, PairVerdicts, VerdictsAt, and_event, counted, fails, fails_log, first_shortfall, shortfall_in, shortfall_or, skipped, log_of, same, verdict_lines}
-use Rattle.capture_verdicts.specs.ReportState.{AddsItem, AreAlike, Concludes, HasOpened, HaveLogged, SetsLog, ReportIs, LogIs, LogsOn, Takes, both_of}
+use Rattle.capture_verdicts.specs.ReportState.{AddsItem, HaveLogged, ReportIs, LogIs, Takes, both_of}
+use Rattle.capture_verdicts.specs.InnerReportState.{AreAlike, Concludes, HasOpened, SetsLog, LogsOn}
 
 -- ---- one event more
 

@@ -2,3 +2,4 @@ pub mod SkippedPackets
 pub mod VerdictLine
 pub mod VerdictReport
 pub mod ReportState
+pub mod InnerReportState

@@ -10,7 +10,8 @@ ghost use Rattle.hsms_machine.specs.declared.entry.Event.TheVariants.{Sent, Take
 ghost use Rattle.capture_tcp.specs.declared.packet.Side.TheVariants.{Active, Passive};
 ghost use Rattle.capture_events.specs.declared.log_item.LogItem.{LogItem};
 ghost use Rattle.capture_verdicts.specs.VerdictReport.{event_at, notes};
-ghost use Rattle.capture_verdicts.specs.ReportState.{AddsItem, HaveLogged, note_by};
+ghost use Rattle.capture_verdicts.specs.ReportState.{AddsItem, HaveLogged};
+ghost use Rattle.capture_verdicts.specs.InnerReportState.{note_by};
 
 use capture_events::{EntryKind, LogItem};
 use capture_log::{AuditedLog, LogComment, LogVerdict, Stop};

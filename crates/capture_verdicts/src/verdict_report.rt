@@ -3,7 +3,8 @@
 ghost use Rattle.std.specs.Prelude.{◌≡◌, [], IfOk, IfErr, OnOk, None, Some};
 ghost use Rattle.capture_log.specs.Stop.{IsNoRefusal};
 ghost use Rattle.capture_verdicts.specs.VerdictReport.{fails_log, shortfall_or};
-ghost use Rattle.capture_verdicts.specs.ReportState.{AppendsLines, AreAlike, Concludes, HasOpened, HaveVerdicts, LogsOn, ReportIs, SetsLog, Takes};
+ghost use Rattle.capture_verdicts.specs.ReportState.{ReportIs, Takes};
+ghost use Rattle.capture_verdicts.specs.InnerReportState.{AppendsLines, AreAlike, Concludes, HasOpened, HaveVerdicts, LogsOn, SetsLog};
 
 use crate::pair_logs::PairLogs;
 use crate::skipped_packets::SkippedPackets;

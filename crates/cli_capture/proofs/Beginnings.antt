@@ -5,7 +5,7 @@ use Rattle.capture_pcap.specs.declared.segment.Segment.{Segment}
 use Rattle.capture_tcp.specs.declared.packet.Side.{Side}
 use Rattle.capture_log.specs.declared.socket_pair.Pair.{Pair}
 use Rattle.cli_capture.specs.declared.connection_table.Table.{Table}
-use Rattle.cli_capture.specs.ConnectionTable.{Begins, BeginsWith, Joins}
+use Rattle.cli_capture.specs.InnerConnectionTable.{Begins, BeginsWith, Joins}
 
 pub record Decides (table : Table) (pair : Pair) (from : Side) (segment : Segment) (syn : Option ℕ) (begins : Bool) : Type 0 where
   pub there : begins ≡ true → BeginsWith table pair from segment syn

@@ -20,14 +20,20 @@ use Rattle.cli_capture.specs.declared.midstream_log.Joined.{Joined}
 use Rattle.cli_capture.specs.declared.report.OutputMode.TheVariants.{Log, Verdicts}
 use Rattle.cli_capture.specs.declared.report.Report.{Report}
 use Rattle.cli_capture.specs.declared.incomplete.Shortfall.{Shortfall}
-use Rattle.cli_capture.specs.OutputMode.{IsReport, Way, to_log, to_verdicts}
-use Rattle.cli_capture.specs.TrackedConnection.{Replaces, TellsOnce, WhenTold}
-use Rattle.cli_capture.specs.MidstreamItems.{AreItems, EndsHadItems, EndsHaveItems, HaveItems, Item, LogsItems, TakesItems, closes_down, time_behind, with_item}
-use Rattle.cli_capture.specs.MidstreamLog.{IsTelling, LogsMore, Settles, ends_if, most_by, terms_by}
+use Rattle.cli_capture.specs.OutputMode.{Way, to_log, to_verdicts}
+use Rattle.cli_capture.specs.InnerOutputMode.{IsReport}
+use Rattle.cli_capture.specs.TrackedConnection.{TellsOnce, WhenTold}
+use Rattle.cli_capture.specs.InnerTrackedConnection.{Replaces}
+use Rattle.cli_capture.specs.MidstreamItems.{AreItems, EndsHaveItems, HaveItems, Item, LogsItems, closes_down, time_behind, with_item}
+use Rattle.cli_capture.specs.InnerMidstreamItems.{EndsHadItems, TakesItems}
+use Rattle.cli_capture.specs.MidstreamLog.{IsTelling, most_by, terms_by}
+use Rattle.cli_capture.specs.InnerMidstreamLog.{LogsMore, Settles, ends_if}
 use Rattle.cli_capture.specs.ConnectionLog.{TellsIf, is_there}
-use Rattle.cli_capture.specs.LogOutput.{CountsIf, GoesDown, page_of, with_down}
+use Rattle.cli_capture.specs.LogOutput.{CountsIf, page_of, with_down}
+use Rattle.cli_capture.specs.InnerLogOutput.{GoesDown}
 use Rattle.cli_capture.specs.Report.{HasEmitted, LogOutputState}
-use Rattle.cli_capture.specs.MidstreamOutput.{EndsSession, FinishesAs, JudgedItems, ReplacedAs, ShownItems, TellsItems, and_down}
+use Rattle.cli_capture.specs.MidstreamOutput.{EndsSession, JudgedItems, ShownItems, TellsItems, and_down}
+use Rattle.cli_capture.specs.InnerMidstreamOutput.{FinishesAs, ReplacedAs}
 use Rattle.cli_capture.specs.Assumptions.{Before, Terms, before_of, after_front, if_told, items_of, session_items, supposed_items, sure_log, tells_some, whole_log}
 use Rattle.cli_capture.proofs.Paging.{same_page}
 use Rattle.cli_capture.proofs.Supposing.{items_all}

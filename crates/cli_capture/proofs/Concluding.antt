@@ -26,7 +26,8 @@ use Rattle.cli_capture.specs.declared.incomplete.Shortfall.{Shortfall}
 use Rattle.cli_capture.specs.Progress.{lack_behind}
 use Rattle.cli_capture.specs.Report.{HasEmitted, IsVerdictOn, LogOutputState}
 use Rattle.cli_capture.specs.ConnectionLog.{AreEntries, JudgedIf, Shown, TellsIf, ToldOf, bare_resets, came_up, clock_by, clock_of, course_by, entries_logged, hears_entry, is_replaced_by, is_there, lack_by, replaced_at}
-use Rattle.cli_capture.specs.TrackedConnection.{AreNotes, EndsBy, EndsHad, EndsHave, HaveHeard, HearsThem, IsNothing, TellsOnce, WhenTold, came_up_by, course_by_events, hears_event, logged_by, timed_by, times, unboxed_ends}
+use Rattle.cli_capture.specs.TrackedConnection.{TellsOnce, WhenTold, came_up_by, course_by_events, hears_event, logged_by, timed_by}
+use Rattle.cli_capture.specs.InnerTrackedConnection.{AreNotes, EndsBy, EndsHad, EndsHave, HaveHeard, HearsThem, IsNothing, times, unboxed_ends}
 use Rattle.cli_capture.proofs.Logging.{all_logged, came_up_more, came_up_same, came_up_timed, course_of_entries, course_timed, entries_are, entries_of, can_continue, logged_timed, stops_there, timed_logged, times_stay}
 
 -- ---- both logs, where they have ended

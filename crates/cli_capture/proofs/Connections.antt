@@ -37,7 +37,8 @@ use Rattle.cli_capture.specs.declared.incomplete.Shortfall.{Shortfall}
 use Rattle.cli_capture.specs.declared.incomplete.Shortfall.TheVariants as lacks
 use Rattle.cli_capture.specs.Progress.{lack_behind}
 use Rattle.cli_capture.specs.ConnectionLog.{Shown, TellsIf, TellsOf, ToldForGood, ToldOf, bare_of, bare_resets, came_up, clock_of, course_by, entries_logged, is_replaced_by, is_there}
-use Rattle.cli_capture.specs.TrackedConnection.{AllFit, BeginsWith, DownBy, MayTellMore, EndsHave, EndsOpen, Follows, FollowsAll, FollowsOn, FollowsThem, GivesUp, ContinuesWith, HearsThem, IsFollowed, IsTooMuch, Replaces, TakesSegment, WhenTold, came_up_by, course_by_events, hears_event, logged_by, seen_waiting, timed_by, unboxed_ends}
+use Rattle.cli_capture.specs.TrackedConnection.{AllFit, MayTellMore, GivesUp, IsTooMuch, WhenTold, came_up_by, course_by_events, hears_event, logged_by, timed_by}
+use Rattle.cli_capture.specs.InnerTrackedConnection.{BeginsWith, DownBy, EndsHave, EndsOpen, Follows, FollowsAll, FollowsOn, FollowsThem, ContinuesWith, HearsThem, IsFollowed, Replaces, TakesSegment, seen_waiting, unboxed_ends}
 use Rattle.cli_capture.proofs.Lasting.{closed_never_up, lack_lasts, never_closes, times_last}
 use Rattle.cli_capture.proofs.Logging.{all_logged, course_of_entries, times_stay}
 use Rattle.cli_capture.proofs.Concluding.{ClosedBy, HeardAfter, all_heard, closed_by_next, ended_told, have_closed, heard_after, nothing_there, over_told, tells_if, there_same}

@@ -24,21 +24,26 @@ use Rattle.cli_capture.specs.declared.incomplete.Shortfall.{Shortfall}
 use Rattle.cli_capture.specs.declared.connection_table.Capture.{Capture}
 use Rattle.cli_capture.specs.declared.connection_table.Table.{Table}
 use Rattle.cli_capture.specs.Connections.{Connection, Connections, Deals, DealsBy, DealsOf, DealsPacket, EndsAll, EndsAs, EndsWith, Proceeds, GoesAs, GoesOfSyn, GoesToLog, GoesToVerdicts, ContinuesBy, ContinuesWith, Has, IsGone, HasOne as KnowsOne, IsOpen, IsOpenStill, IsReplaced, NothingIsLeft, Packets, Starts, StartsAny, StartsOne, connection_of, buffered, of_session, of_syn, starting, without}
-use Rattle.cli_capture.specs.TrackedConnection.{seen_waiting}
-use Rattle.cli_capture.specs.MidstreamSync.{EndsJoined, TakesJoined, brought}
-use Rattle.cli_capture.specs.TableInvariant.{AreSame, captured_of, IsFollowedAs, IsOne, IsTable, StageStands, TakesAsDealt, UpTo}
-use Rattle.cli_capture.specs.OutputMode.{IsReport, TellsTo, Way, to_log, to_verdicts}
-use Rattle.cli_capture.specs.LogOutput.{EndsStageOnPage, LogsTo, Page, StageOnPage, TakesOnPage, TellsWith}
-use Rattle.cli_capture.specs.Report.{Emits}
+use Rattle.cli_capture.specs.InnerTrackedConnection.{seen_waiting}
+use Rattle.cli_capture.specs.MidstreamSync.{brought}
+use Rattle.cli_capture.specs.InnerMidstreamSync.{EndsJoined, TakesJoined}
+use Rattle.cli_capture.specs.InnerTableInvariant.{AreSame, captured_of, IsFollowedAs, IsOne, IsTable, StageStands, TakesAsDealt, UpTo}
+use Rattle.cli_capture.specs.OutputMode.{Way, to_log, to_verdicts}
+use Rattle.cli_capture.specs.InnerOutputMode.{IsReport, TellsTo}
+use Rattle.cli_capture.specs.LogOutput.{LogsTo, Page, TellsWith}
+use Rattle.cli_capture.specs.InnerLogOutput.{EndsStageOnPage, StageOnPage, TakesOnPage}
+use Rattle.cli_capture.specs.InnerReport.{Emits}
 use Rattle.cli_capture.specs.MidstreamConnection.{Brought, seen_brought}
-use Rattle.cli_capture.specs.ConnectionState.{EndsBy, EndsStage, IsBegun, IsForgotten, IsIdle, StageAs, StageGoes, TakesStage, answered_by, first_shown}
+use Rattle.cli_capture.specs.ConnectionState.{EndsBy, answered_by, first_shown}
+use Rattle.cli_capture.specs.InnerConnectionState.{EndsStage, IsBegun, IsForgotten, IsIdle, StageAs, StageGoes, TakesStage}
 use Rattle.cli_capture.specs.Segments.{IsAmong, IsPairAt}
 use Rattle.cli_capture.proofs.Connections.{tells_more}
 use Rattle.cli_capture.proofs.Paging.{page_more}
 use Rattle.cli_capture.proofs.SessionDealt.{kept_ends, kept_takes, rise_later, running_ends, running_takes}
 use Rattle.cli_capture.proofs.Staging.{to_nothing}
 use Rattle.cli_capture.proofs.Stages.{answered_kept}
-use Rattle.cli_capture.specs.ConnectionTable.{Begins, BeginsFlow, BeginsWith, EndsBefore, EndsFlows, FollowsBy, FollowsFlow, HasFlow, HasOne, IsFollowed, KeepsIf, KeepsOf, LeavesOut, LooksAt, ReplacesFlow, TakesBy, TakesIt, TakesOf, TakesPacket, flow_of, is_live, brought_by}
+use Rattle.cli_capture.specs.ConnectionTable.{KeepsIf, KeepsOf, LeavesOut}
+use Rattle.cli_capture.specs.InnerConnectionTable.{Begins, BeginsFlow, BeginsWith, EndsBefore, EndsFlows, FollowsBy, FollowsFlow, HasFlow, HasOne, IsFollowed, LooksAt, ReplacesFlow, TakesBy, TakesIt, TakesOf, TakesPacket, flow_of, is_live, brought_by}
 
 -- ---- numbers of packets
 

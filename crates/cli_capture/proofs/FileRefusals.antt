@@ -22,15 +22,20 @@ use Rattle.cli_capture.specs.declared.report.Report.{Report}
 use Rattle.cli_capture.specs.declared.incomplete.Shortfall.{Shortfall}
 use Rattle.cli_capture.specs.declared.connection_table.Capture.{Capture}
 use Rattle.cli_capture.specs.declared.connection_table.Table.{Table}
-use Rattle.cli_capture.specs.Command.{IsMissingBy}
+use Rattle.cli_capture.specs.InnerCommand.{IsMissingBy}
 use Rattle.cli_capture.specs.Connections.{Captured}
 use Rattle.cli_capture.specs.FileDispatch.{IsBlank, none_yet}
-use Rattle.cli_capture.specs.OutputMode.{TellsTo, Way, to_log, to_verdicts}
-use Rattle.cli_capture.specs.TableInvariant.{ConcludesAsDealt, FinishesAsDealt, IsReportOf, ReadsAsDealt, captured_of, wanted_of, way_of}
-use Rattle.cli_capture.specs.LogRejectionFile.{ConcludesAsRefused, DealsPacketRefused, EndsAllRefused, EndsAsRefused, FinishesAsRefused, PutsAsRefused, ReadsAsRefused, RefusesBy, RefusesFile, ShownRefused, ShowsAsRefused, TakesAsRefused}
-use Rattle.cli_capture.specs.Report.{FailsUnrefused, missing_after}
+use Rattle.cli_capture.specs.OutputMode.{Way, to_log, to_verdicts}
+use Rattle.cli_capture.specs.InnerOutputMode.{TellsTo}
+use Rattle.cli_capture.specs.TableInvariant.{wanted_of, way_of}
+use Rattle.cli_capture.specs.InnerTableInvariant.{ConcludesAsDealt, FinishesAsDealt, IsReportOf, ReadsAsDealt, captured_of}
+use Rattle.cli_capture.specs.LogRejectionFile.{DealsPacketRefused, EndsAllRefused, RefusesBy, RefusesFile, ShownRefused}
+use Rattle.cli_capture.specs.InnerLogRejectionFile.{ConcludesAsRefused, EndsAsRefused, FinishesAsRefused, PutsAsRefused, ReadsAsRefused, ShowsAsRefused, TakesAsRefused}
+use Rattle.cli_capture.specs.Report.{missing_after}
+use Rattle.cli_capture.specs.InnerReport.{FailsUnrefused}
 use Rattle.cli_capture.specs.Segments.{body_in}
-use Rattle.cli_capture.specs.StopError.{IsRefusal, IsRefused, TellsStop}
+use Rattle.cli_capture.specs.StopError.{IsRefusal, TellsStop}
+use Rattle.cli_capture.specs.InnerStopError.{IsRefused}
 use Rattle.cli_capture.proofs.Refusals.{not_empty}
 use Rattle.cli_capture.proofs.Refusing.{finishes_refused, told_refused, write_refuses}
 use Rattle.cli_capture.proofs.Whole.{IsSoFar, captures_none, captures_opened, first_table, of_blank, tells_on}

@@ -20,7 +20,8 @@ use Rattle.cli_capture.specs.declared.report.Report.{Report}
 use Rattle.cli_capture.specs.declared.incomplete.Shortfall.{Shortfall}
 use Rattle.cli_capture.specs.Progress.{course_behind}
 use Rattle.cli_capture.specs.ConnectionLog.{and_course, and_goes, and_logged}
-use Rattle.cli_capture.specs.TrackedConnection.{AreNotes, Begins, EndsHad, EndsHave, HaveHeard, HearsAll, HearsBy, HearsOn, IsNothing, came_up_by, course_by_events, is_up_event, logged_by, timed_by, times}
+use Rattle.cli_capture.specs.TrackedConnection.{came_up_by, course_by_events, is_up_event, logged_by, timed_by}
+use Rattle.cli_capture.specs.InnerTrackedConnection.{AreNotes, Begins, EndsHad, EndsHave, HaveHeard, HearsAll, HearsBy, HearsOn, IsNothing, times}
 use Rattle.cli_capture.proofs.Logging.{or_assoc}
 
 -- ---- one entry more

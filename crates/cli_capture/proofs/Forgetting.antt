@@ -3,7 +3,7 @@ use Rattle.std.proofs.Common.{◌≡◌, ◌%◌, ◌==◌, ◌∷◌, ℕ, Bool
 use Rattle.std.specs.Map.Calls.{RetainsPairs}
 use Rattle.capture_log.specs.declared.socket_pair.Pair.{Pair}
 use Rattle.cli_capture.specs.declared.tracked_connection.Flow.{Flow}
-use Rattle.cli_capture.specs.ConnectionState.{IsForgotten}
+use Rattle.cli_capture.specs.InnerConnectionState.{IsForgotten}
 use Rattle.cli_capture.specs.ConnectionTable.{KeepsIf, KeepsOf, LeavesOut}
 
 -- what `retain` leaves, where its closure keeps those that aren't forgotten as they were

@@ -22,8 +22,10 @@ use Rattle.capture_midstream.specs.SyntheticHandshake.{number_before, opening_by
 use Rattle.capture_midstream.specs.declared.sync_packet.Start.{Start}
 use Rattle.cli_capture.specs.declared.midstream_log.Joined.{Joined}
 use Rattle.cli_capture.specs.OutputMode.{Way}
-use Rattle.cli_capture.specs.MidstreamLog.{IsNew, JoinedStands, most_by}
-use Rattle.cli_capture.specs.MidstreamConnection.{BeginsWithin, Opens, counting, opening_seen, session_base}
+use Rattle.cli_capture.specs.MidstreamLog.{JoinedStands, most_by}
+use Rattle.cli_capture.specs.InnerMidstreamLog.{IsNew}
+use Rattle.cli_capture.specs.MidstreamConnection.{counting, opening_seen, session_base}
+use Rattle.cli_capture.specs.InnerMidstreamConnection.{BeginsWithin, Opens}
 
 -- ---- numbers around that of a SYN
 

@@ -35,20 +35,27 @@ use Rattle.cli_capture.specs.declared.progress.Followed.{Followed}
 use Rattle.cli_capture.specs.declared.progress.Followed.TheVariants as followed
 use Rattle.cli_capture.specs.declared.midstream_connection.Within.{Within}
 use Rattle.cli_capture.specs.Progress.{lack_behind}
-use Rattle.cli_capture.specs.OutputMode.{IsReport, Way, to_log, to_verdicts}
+use Rattle.cli_capture.specs.OutputMode.{Way, to_log, to_verdicts}
+use Rattle.cli_capture.specs.InnerOutputMode.{IsReport}
 use Rattle.cli_capture.specs.TrackedConnection.{course_by_events}
 use Rattle.cli_capture.specs.MidstreamItems.{Item, ItemsOn, LogsItems}
-use Rattle.cli_capture.specs.MidstreamLog.{HearsEach, JoinedStands, most_by, terms_by}
-use Rattle.cli_capture.specs.MidstreamSync.{BeginsWith, IsLast, TakesThrough, brought}
+use Rattle.cli_capture.specs.MidstreamLog.{JoinedStands, most_by, terms_by}
+use Rattle.cli_capture.specs.InnerMidstreamLog.{HearsEach}
+use Rattle.cli_capture.specs.MidstreamSync.{IsLast, brought}
+use Rattle.cli_capture.specs.InnerMidstreamSync.{BeginsWith, TakesThrough}
 use Rattle.cli_capture.specs.ConnectionLog.{bare_if, is_there, lack_by}
-use Rattle.cli_capture.specs.LogRejection.{InLog, RefusesFor}
-use Rattle.cli_capture.specs.LogRejectionMidstream.{BeginRefused, EachRefused, EndGatheredRefused, FinishRefused, FromRefused, GatherRefused, IsRefusedWith, LogRefused, PacketRefused, PacketsRefused, ReplaceRefused, SessionRefused, ThroughRefused, ToldRefused, WithinEndRefused}
+use Rattle.cli_capture.specs.LogRejection.{RefusesFor}
+use Rattle.cli_capture.specs.InnerLogRejection.{InLog}
+use Rattle.cli_capture.specs.LogRejectionMidstream.{IsRefusedWith, LogRefused, SessionRefused, ThroughRefused, ToldRefused}
+use Rattle.cli_capture.specs.InnerLogRejectionMidstream.{BeginRefused, EachRefused, EndGatheredRefused, FinishRefused, FromRefused, GatherRefused, PacketRefused, PacketsRefused, ReplaceRefused, WithinEndRefused}
 use Rattle.cli_capture.specs.LogOutput.{Page, page_of}
-use Rattle.cli_capture.specs.Report.{Emits, session_of}
+use Rattle.cli_capture.specs.Report.{session_of}
+use Rattle.cli_capture.specs.InnerReport.{Emits}
 use Rattle.cli_capture.specs.PendingRequests.{nothing_spoken}
 use Rattle.cli_capture.specs.MidstreamOutput.{in_capture}
-use Rattle.cli_capture.specs.StopError.{IsRefused}
-use Rattle.cli_capture.specs.MidstreamConnection.{BeginsWithin, Brought, LogsFurther, TakesCut, counting, cut, ending_in, lack_within, logged_so_far, over_as, resets_of, session_base, session_seen}
+use Rattle.cli_capture.specs.InnerStopError.{IsRefused}
+use Rattle.cli_capture.specs.MidstreamConnection.{Brought, LogsFurther, counting, cut, ending_in, lack_within, logged_so_far, resets_of, session_base, session_seen}
+use Rattle.cli_capture.specs.InnerMidstreamConnection.{BeginsWithin, TakesCut, over_as}
 use Rattle.cli_capture.specs.Assumptions.{since, sure_log, whole_log}
 use Rattle.cli_capture.proofs.Closing.{takes_logs}
 use Rattle.cli_capture.proofs.Paging.{same_log}

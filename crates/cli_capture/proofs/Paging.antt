@@ -41,8 +41,10 @@ use Rattle.cli_capture.specs.declared.incomplete.Shortfall.{Shortfall}
 use Rattle.cli_capture.specs.declared.incomplete.Shortfall.TheVariants as lacks
 use Rattle.cli_capture.specs.Progress.{course_behind, lack_behind}
 use Rattle.cli_capture.specs.ConnectionLog.{and_goes, and_logged, bare_resets, came_up, clock_by, clock_of, course_by, entries_logged, lack_by}
-use Rattle.cli_capture.specs.TrackedConnection.{MayTellMore, TakesSegment, came_up_by, course_by_events, hears_event, is_up_event, logged_by, timed_by, times}
-use Rattle.cli_capture.specs.LogOutput.{CountsIf, DownsIf, EndsOnPage, EntriesOn, FollowsOnPage, GoesDown, GoesOnPage, HappensOn, IsOpenIn, IsOver, LeavesOpen, LogsAll, LogsOn, LogsThem, MayBeTold, OnPage, Page, begun_behind, down_if, front_behind, page_of, with_entry, with_note}
+use Rattle.cli_capture.specs.TrackedConnection.{MayTellMore, came_up_by, course_by_events, hears_event, is_up_event, logged_by, timed_by}
+use Rattle.cli_capture.specs.InnerTrackedConnection.{TakesSegment, times}
+use Rattle.cli_capture.specs.LogOutput.{CountsIf, EntriesOn, IsOpenIn, IsOver, LeavesOpen, MayBeTold, OnPage, Page, begun_behind, down_if, front_behind, page_of, with_entry}
+use Rattle.cli_capture.specs.InnerLogOutput.{DownsIf, EndsOnPage, FollowsOnPage, GoesDown, GoesOnPage, HappensOn, LogsAll, LogsOn, LogsThem, with_note}
 use Rattle.cli_capture.proofs.Concluding.{over_front}
 use Rattle.cli_capture.proofs.Connections.{bares, fits_next, in_time_next, not_much, stands_next, timed_now, with_bare}
 use Rattle.cli_capture.proofs.Following.{NextOf}

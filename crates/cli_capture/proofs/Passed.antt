@@ -2,12 +2,13 @@
 use Rattle.std.proofs.Common.{◌≡◌, ◌≤◌, ◌+◌, ◌-◌, ◌^◌, ◌++◌, ◌∙◌, ℕ, List, length, Option, Result, Ok, Err, sym, ap, arith, codes, get_or, length-append}
 use Rattle.std.specs.Prelude.{IfErr}
 use Rattle.hsms_frame.specs.Io.{IfRecorded}
-use Rattle.cli_output.specs.IoErrors.{HasWord}
+use Rattle.cli_output.specs.InnerIoErrors.{HasWord}
 use Rattle.cli_options.specs.declared.fault.ToolFault.{ToolFault}
 use Rattle.cli_options.specs.declared.fault.ToolFault.TheVariants as tool
 use Rattle.capture_pcap.specs.declared.fault.FileFault.{FileFault}
 use Rattle.capture_pcap.specs.BlockReader.{Reading, TakesFront, TakesHeader}
-use Rattle.cli_capture.specs.Command.{HasMany, HasPassed, IsEndless, IsMissingBy}
+use Rattle.cli_capture.specs.Command.{HasMany, IsEndless}
+use Rattle.cli_capture.specs.InnerCommand.{HasPassed, IsMissingBy}
 
 pub none_passed : (ahead : List ℕ) (from : Option (List ℕ)) → HasPassed 0 ahead from ahead from
 none_passed ahead from input emitted = (input, emitted, omega arith)

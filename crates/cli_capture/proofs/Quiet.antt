@@ -2,7 +2,7 @@
 use Rattle.std.proofs.Common.{◌≡◌, ◌⊎◌, Bool, true, refl, sym, ◌∙◌, inl, inr}
 use Rattle.std.specs.Prelude.{Result, Ok, Err, OnOk}
 use Rattle.cli_capture.specs.declared.report.Report.{Report}
-use Rattle.cli_capture.specs.MidstreamLog.{IsQuiet}
+use Rattle.cli_capture.specs.InnerMidstreamLog.{IsQuiet}
 use Rattle.cli_capture.proofs.Tellings.{ok_then, tells_nothing, tells_then}
 use Rattle.cli_capture.proofs.Unrefused.{err_memory, err_then, is_memory_stops, memory_stops, stops_then}
 

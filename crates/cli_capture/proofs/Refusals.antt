@@ -29,12 +29,16 @@ use Rattle.cli_capture.specs.declared.report.OutputMode.TheVariants.{Log, Verdic
 use Rattle.cli_capture.specs.declared.report.Report.{Report}
 use Rattle.cli_capture.specs.declared.incomplete.Shortfall.{Shortfall}
 use Rattle.cli_capture.specs.declared.incomplete.Shortfall.TheVariants as lacks
-use Rattle.cli_capture.specs.TrackedConnection.{IsTooMuch, TakesSegment, course_by_events, hears_event, logged_by, timed_by, times}
+use Rattle.cli_capture.specs.TrackedConnection.{IsTooMuch, course_by_events, hears_event, logged_by, timed_by}
+use Rattle.cli_capture.specs.InnerTrackedConnection.{TakesSegment, times}
 use Rattle.cli_capture.specs.ConnectionLog.{and_logged, bare_resets, clock_by, clock_of, entries_logged}
-use Rattle.cli_capture.specs.LogOutput.{EntriesOn, HappensOn, IsOpenIn, IsOver, LogsAll, OnPage, Page, page_of}
-use Rattle.cli_capture.specs.LogRejection.{FollowsRefused, HearsRefused, HearsThemRefused, InLog, LacksRefused, RefusesAmong, RefusesFor, RefusesMore, RefusesSegment, RefusesTold, lack_left}
+use Rattle.cli_capture.specs.LogOutput.{EntriesOn, IsOpenIn, IsOver, OnPage, Page, page_of}
+use Rattle.cli_capture.specs.InnerLogOutput.{HappensOn, LogsAll}
+use Rattle.cli_capture.specs.LogRejection.{RefusesFor, RefusesMore, RefusesSegment, RefusesTold}
+use Rattle.cli_capture.specs.InnerLogRejection.{FollowsRefused, HearsRefused, HearsThemRefused, InLog, LacksRefused, RefusesAmong, lack_left}
 use Rattle.cli_capture.specs.Report.{first_of}
-use Rattle.cli_capture.specs.StopError.{IsRefusalOf, IsRefused}
+use Rattle.cli_capture.specs.StopError.{IsRefusalOf}
+use Rattle.cli_capture.specs.InnerStopError.{IsRefused}
 use Rattle.cli_capture.proofs.Connections.{bares, in_time_next, timed_now, with_bare}
 use Rattle.cli_capture.proofs.Logging.{all_logged, course_timed, entries_of, can_continue}
 use Rattle.cli_capture.proofs.Unrefused.{verdicts_in_log}

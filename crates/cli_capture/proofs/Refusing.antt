@@ -14,14 +14,17 @@ use Rattle.cli_capture.specs.declared.report.OutputMode.TheVariants.{Verdicts}
 use Rattle.cli_capture.specs.declared.report.Report.{Report}
 use Rattle.cli_capture.specs.declared.incomplete.Shortfall.{Shortfall}
 use Rattle.cli_capture.specs.declared.connection_table.Table.{Table}
-use Rattle.cli_capture.specs.Command.{IsMissingBy}
+use Rattle.cli_capture.specs.InnerCommand.{IsMissingBy}
 use Rattle.cli_capture.specs.Connections.{EndsAll}
 use Rattle.cli_capture.specs.FileDispatch.{CapturesFile}
-use Rattle.cli_capture.specs.TableInvariant.{ConcludesAsDealt, EndsAsDealt, FinishesAsDealt, IsReportOf, wanted_of}
-use Rattle.cli_capture.specs.OutputMode.{TellsTo}
+use Rattle.cli_capture.specs.TableInvariant.{wanted_of}
+use Rattle.cli_capture.specs.InnerTableInvariant.{ConcludesAsDealt, EndsAsDealt, FinishesAsDealt, IsReportOf}
+use Rattle.cli_capture.specs.InnerOutputMode.{TellsTo}
 use Rattle.cli_capture.specs.SkippedPackets.{line_of}
-use Rattle.cli_capture.specs.Report.{Answers, Concludes, EndsWith, FailsUnrefused, Finishes, Found, StopsUnrefused, Writes, found_of, missing_after}
-use Rattle.cli_capture.specs.StopError.{IsRefusal, IsRefused, TellsStop}
+use Rattle.cli_capture.specs.Report.{Answers, Found, found_of, missing_after}
+use Rattle.cli_capture.specs.InnerReport.{Concludes, EndsWith, FailsUnrefused, Finishes, StopsUnrefused, Writes}
+use Rattle.cli_capture.specs.StopError.{IsRefusal, TellsStop}
+use Rattle.cli_capture.specs.InnerStopError.{IsRefused}
 use Rattle.cli_capture.proofs.Tellings.{ends_with}
 
 -- ---- what is no refusal

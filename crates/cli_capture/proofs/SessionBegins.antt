@@ -20,12 +20,15 @@ use Rattle.cli_capture.specs.declared.midstream_sync.Joining.TheVariants as join
 use Rattle.cli_capture.specs.declared.report.Report.{Report}
 use Rattle.cli_capture.specs.declared.incomplete.Shortfall.{Shortfall}
 use Rattle.cli_capture.specs.declared.midstream_connection.Within.{Within}
-use Rattle.cli_capture.specs.OutputMode.{IsReport, Way, to_log, to_verdicts}
+use Rattle.cli_capture.specs.OutputMode.{Way, to_log, to_verdicts}
+use Rattle.cli_capture.specs.InnerOutputMode.{IsReport}
 use Rattle.cli_capture.specs.MidstreamItems.{Item}
 use Rattle.cli_capture.specs.MidstreamLog.{terms_by}
-use Rattle.cli_capture.specs.MidstreamSync.{BeginsSo, BeginsWith, EndsGathered, GathersOn, GoesThrough, IsLast, TakesFrom, TakesThrough, brought}
+use Rattle.cli_capture.specs.MidstreamSync.{GoesThrough, IsLast, brought}
+use Rattle.cli_capture.specs.InnerMidstreamSync.{BeginsSo, BeginsWith, EndsGathered, GathersOn, TakesFrom, TakesThrough}
 use Rattle.cli_capture.specs.Report.{session_of}
-use Rattle.cli_capture.specs.MidstreamConnection.{BeginsWithin, Brought, EndsWithin, GoesWithin, IsOverWith, LogsFurther, TakesWithin, cut, logged_so_far, session_seen}
+use Rattle.cli_capture.specs.MidstreamConnection.{Brought, IsOverWith, LogsFurther, cut, logged_so_far, session_seen}
+use Rattle.cli_capture.specs.InnerMidstreamConnection.{BeginsWithin, EndsWithin, GoesWithin, TakesWithin}
 use Rattle.cli_capture.specs.Assumptions.{Terms, decided_by, sure_log}
 use Rattle.cli_capture.proofs.Taking.{logs_then, takes_nothing}
 use Rattle.cli_capture.proofs.Closing.{takes_logs}

@@ -21,11 +21,14 @@ use Rattle.cli_capture.specs.declared.incomplete.Shortfall.{Shortfall}
 use Rattle.cli_capture.specs.declared.midstream_connection.Within.{Within}
 use Rattle.cli_capture.specs.Connections.{EndsKept, EndsRunning, Proceeds, GoesKept, GoesRunning, Packets, Session, buffered, of_session, way_as}
 use Rattle.cli_capture.specs.MidstreamLog.{most_by}
-use Rattle.cli_capture.specs.MidstreamSync.{EndsFrom, EndsGathered, EndsLeft, GathersOn, GoesThrough, IsOverFrom, KeepsStage, TakesFrom, TakesStageWithin, brought, stage_with, stage_within}
-use Rattle.cli_capture.specs.TableInvariant.{RiseUpTo, StageStands}
+use Rattle.cli_capture.specs.MidstreamSync.{EndsFrom, GoesThrough, IsOverFrom, brought}
+use Rattle.cli_capture.specs.InnerMidstreamSync.{EndsGathered, EndsLeft, GathersOn, KeepsStage, TakesFrom, TakesStageWithin, stage_with, stage_within}
+use Rattle.cli_capture.specs.InnerTableInvariant.{RiseUpTo, StageStands}
 use Rattle.cli_capture.specs.Report.{session_of}
-use Rattle.cli_capture.specs.MidstreamConnection.{Brought, EndsWithin, GoesWithin, Happens, IsOverWith, IsWithin, MayRunMore, TakesWithin, TellsWithin, cut, logged_so_far, session_seen}
-use Rattle.cli_capture.specs.OutputMode.{IsReport, TellsTo, Way, to_log, to_verdicts}
+use Rattle.cli_capture.specs.MidstreamConnection.{Brought, Happens, IsOverWith, IsWithin, MayRunMore, TellsWithin, cut, logged_so_far, session_seen}
+use Rattle.cli_capture.specs.InnerMidstreamConnection.{EndsWithin, GoesWithin, TakesWithin}
+use Rattle.cli_capture.specs.OutputMode.{Way, to_log, to_verdicts}
+use Rattle.cli_capture.specs.InnerOutputMode.{IsReport, TellsTo}
 use Rattle.cli_capture.proofs.SessionBegins.{further_report}
 use Rattle.cli_capture.proofs.SessionPackets.{ends_then, within_more}
 

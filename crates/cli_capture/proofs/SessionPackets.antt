@@ -35,15 +35,19 @@ use Rattle.cli_capture.specs.declared.progress.Followed.{Followed}
 use Rattle.cli_capture.specs.declared.progress.Followed.TheVariants as followed
 use Rattle.cli_capture.specs.declared.midstream_connection.Within.{Within}
 use Rattle.cli_capture.specs.Progress.{lack_behind}
-use Rattle.cli_capture.specs.OutputMode.{IsReport, Way, to_log, to_verdicts}
+use Rattle.cli_capture.specs.OutputMode.{Way, to_log, to_verdicts}
+use Rattle.cli_capture.specs.InnerOutputMode.{IsReport}
 use Rattle.cli_capture.specs.TrackedConnection.{AllFit, course_by_events}
 use Rattle.cli_capture.specs.MidstreamItems.{Item, ItemsOn, LogsItems}
-use Rattle.cli_capture.specs.MidstreamLog.{HearsEach, JoinedStands, LogsMore, StandsBy, most_by, terms_by}
+use Rattle.cli_capture.specs.MidstreamLog.{JoinedStands, most_by, terms_by}
+use Rattle.cli_capture.specs.InnerMidstreamLog.{HearsEach, LogsMore, StandsBy}
 use Rattle.cli_capture.specs.ConnectionLog.{and_course, bare_if, is_replaced_by, lack_by}
 use Rattle.cli_capture.specs.LogOutput.{OnPage, Page, page_of}
-use Rattle.cli_capture.specs.MidstreamOutput.{EndsSession, FinishesAs, ReplacedAs, TellsItems, and_down, in_capture}
+use Rattle.cli_capture.specs.MidstreamOutput.{EndsSession, TellsItems, and_down, in_capture}
+use Rattle.cli_capture.specs.InnerMidstreamOutput.{FinishesAs, ReplacedAs}
 use Rattle.cli_capture.specs.PendingRequests.{nothing_spoken}
-use Rattle.cli_capture.specs.MidstreamConnection.{Brought, EndsWithin, GoesWithin, Happens, IsWithin, LogsFurther, MayRunMore, TakesCut, TakesWithin, TellsForGood, and_down_if, counting, course_within, cut, ending_in, over_as, resets_of, session_base, session_seen, opening_seen}
+use Rattle.cli_capture.specs.MidstreamConnection.{Brought, Happens, IsWithin, LogsFurther, MayRunMore, TellsForGood, and_down_if, counting, course_within, cut, ending_in, resets_of, session_base, session_seen, opening_seen}
+use Rattle.cli_capture.specs.InnerMidstreamConnection.{EndsWithin, GoesWithin, TakesCut, TakesWithin, over_as}
 use Rattle.cli_capture.specs.Assumptions.{Terms, asked, before_of, after_front, counts_by, session_items, since, supposed_items, sure_log, whole_log}
 use Rattle.cli_capture.proofs.Closing.{takes_logs, takes_same}
 use Rattle.cli_capture.proofs.Lasting.{lack_lasts}

@@ -27,16 +27,21 @@ use Rattle.cli_capture.specs.declared.report.Report.{Report}
 use Rattle.cli_capture.specs.declared.pending_requests.Said.{Said}
 use Rattle.cli_capture.specs.declared.incomplete.Shortfall.{Shortfall}
 use Rattle.cli_capture.specs.TrackedConnection.{came_up_by, course_by_events, hears_event, is_up_event, logged_by}
-use Rattle.cli_capture.specs.MidstreamItems.{Item, most_of, emits}
-use Rattle.cli_capture.specs.MidstreamLog.{Decides, HearsEach, IsPartOf, IsQuiet, IsTelling, IsWaiting, JoinedStands, LogsMore, Settles, TellsThem, latest_after, most_by, part_with, spoken_behind, terms_by}
+use Rattle.cli_capture.specs.MidstreamItems.{Item, emits}
+use Rattle.cli_capture.specs.InnerMidstreamItems.{most_of}
+use Rattle.cli_capture.specs.MidstreamLog.{IsTelling, IsWaiting, JoinedStands, latest_after, most_by, spoken_behind, terms_by}
+use Rattle.cli_capture.specs.InnerMidstreamLog.{Decides, HearsEach, IsPartOf, IsQuiet, LogsMore, Settles, TellsThem, part_with}
 use Rattle.cli_capture.specs.ConnectionLog.{is_there}
-use Rattle.cli_capture.specs.LogRejection.{HearsRefused, InLog, LacksRefused, RefusesFor}
-use Rattle.cli_capture.specs.LogRejectionMidstream.{CantComeUp, ComesUpRefused, DecidesRefused, EachRefused, SettlesAndTellsRefused, FinishRefused, LogRefused, HearsNextRefused, PartRefused, ReplaceRefused, SettlesRefused, StaysDown, TellsRefused, UndecidedRefused}
-use Rattle.cli_capture.specs.Report.{Emits}
+use Rattle.cli_capture.specs.LogRejection.{RefusesFor}
+use Rattle.cli_capture.specs.InnerLogRejection.{HearsRefused, InLog, LacksRefused}
+use Rattle.cli_capture.specs.LogRejectionMidstream.{LogRefused, StaysDown}
+use Rattle.cli_capture.specs.InnerLogRejectionMidstream.{CantComeUp, ComesUpRefused, DecidesRefused, EachRefused, SettlesAndTellsRefused, FinishRefused, HearsNextRefused, PartRefused, ReplaceRefused, SettlesRefused, TellsRefused, UndecidedRefused}
+use Rattle.cli_capture.specs.InnerReport.{Emits}
 use Rattle.cli_capture.specs.PendingRequests.{KnowsBoth, Spoken, nothing_spoken, spoken_to}
-use Rattle.cli_capture.specs.StopError.{IsRefused}
+use Rattle.cli_capture.specs.InnerStopError.{IsRefused}
 use Rattle.cli_capture.specs.Assumptions.{Before, Terms, asked, asked_by, before_of, before_or, before_with, after_front, counts_by, decided_by, decided_with, is_decided, item_with, items_by, items_of, log_if, looked_at, other_side, said_by, session_items, since, supposed_items, sure_log, tells_some, was_selected, whole_log}
-use Rattle.cli_capture.specs.OutputMode.{IsReport, Way}
+use Rattle.cli_capture.specs.OutputMode.{Way}
+use Rattle.cli_capture.specs.InnerOutputMode.{IsReport}
 use Rattle.cli_capture.proofs.Closing.{front_there, takes_logs}
 use Rattle.cli_capture.proofs.Logging.{came_up_more, can_continue}
 use Rattle.cli_capture.proofs.Paging.{same_log}

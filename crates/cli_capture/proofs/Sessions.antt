@@ -38,10 +38,13 @@ use Rattle.cli_capture.specs.declared.incomplete.Shortfall.{Shortfall}
 use Rattle.cli_capture.specs.declared.incomplete.Shortfall.TheVariants as lacks
 use Rattle.cli_capture.specs.ConnectionLog.{and_course, and_logged}
 use Rattle.cli_capture.specs.LogOutput.{OnPage, Page, page_of}
-use Rattle.cli_capture.specs.OutputMode.{IsReport, Way, to_log, to_verdicts}
+use Rattle.cli_capture.specs.OutputMode.{Way, to_log, to_verdicts}
+use Rattle.cli_capture.specs.InnerOutputMode.{IsReport}
 use Rattle.cli_capture.specs.TrackedConnection.{came_up_by, course_by_events, hears_event, is_up_event, logged_by}
-use Rattle.cli_capture.specs.MidstreamItems.{comes_up, EndsHadItems, EndsHaveItems, EndsItemsBy, Item, leaves_out, LogsItems, most_in, most_of, supposes, TakesItems, emits}
-use Rattle.cli_capture.specs.MidstreamLog.{come_items, come_items_if, Decides, end_course, HearsEach, HearsItem, HearsNext, HearsOn, IsNew, IsOverAs, IsPartOf, IsTelling, IsReported, IsWaiting, JoinedStands, latest_after, left_if, left_items, left_packets, LogsMore, most_by, packet_left, part_with, SaidAs, Settles, SettlesAndTells, spoken_behind, StandsBy, TellingBy, TellsPart, TellsThem, terms_by, ToldBy, Waits}
+use Rattle.cli_capture.specs.MidstreamItems.{comes_up, EndsHaveItems, Item, leaves_out, LogsItems, supposes, emits}
+use Rattle.cli_capture.specs.InnerMidstreamItems.{EndsHadItems, EndsItemsBy, most_in, most_of, TakesItems}
+use Rattle.cli_capture.specs.MidstreamLog.{IsTelling, IsReported, IsWaiting, JoinedStands, latest_after, left_if, most_by, packet_left, SaidAs, spoken_behind, terms_by}
+use Rattle.cli_capture.specs.InnerMidstreamLog.{come_items, come_items_if, Decides, end_course, HearsEach, HearsItem, HearsNext, HearsOn, IsNew, IsOverAs, IsPartOf, left_items, left_packets, LogsMore, part_with, Settles, SettlesAndTells, StandsBy, TellingBy, TellsPart, TellsThem, ToldBy, Waits}
 use Rattle.cli_capture.specs.PendingRequests.{KnowsBoth, nothing_spoken, Spoken, spoken_to, with_message}
 use Rattle.cli_capture.specs.Assumptions.{asked, asked_by, Before, before_by, before_of, before_or, before_with, after_front, counts_by, decided_by, decided_with, if_told, is_decided, is_message_told, is_said, item_by, item_with, items_by, items_of, log_if, looked_at, other_side, said_by, session_items, since, spoken_with, supposed_items, supposed_messages, sure_log, tells_some, Terms, was_selected, whole_log}
 use Rattle.cli_capture.proofs.Logging.{came_up_more, can_continue, stops_there}

@@ -25,11 +25,14 @@ use Rattle.cli_capture.specs.declared.report.Report.{Report}
 use Rattle.cli_capture.specs.declared.incomplete.Shortfall.{Shortfall}
 use Rattle.cli_capture.specs.declared.midstream_connection.Within.{Within}
 use Rattle.cli_capture.specs.Progress.{lack_behind}
-use Rattle.cli_capture.specs.TrackedConnection.{seen_waiting}
-use Rattle.cli_capture.specs.LogOutput.{DownsIf, FollowsAllOnPage, HappensOn, IsOpenIn, LogsAll, OnPage, StageIn, ThemOn, page_of}
-use Rattle.cli_capture.specs.LogRejection.{BeginsRefused, EndsOpenRefused, EndsRefused, FollowsAllRefused, FollowsRefused, HearsThemRefused, InLog, LacksRefused, RefusedWith, RefusesFor, TakesRefused, WaitsRefused, lack_at_end}
+use Rattle.cli_capture.specs.InnerTrackedConnection.{seen_waiting}
+use Rattle.cli_capture.specs.LogOutput.{IsOpenIn, OnPage, ThemOn, page_of}
+use Rattle.cli_capture.specs.InnerLogOutput.{DownsIf, FollowsAllOnPage, HappensOn, LogsAll, StageIn}
+use Rattle.cli_capture.specs.LogRejection.{RefusedWith, RefusesFor, lack_at_end}
+use Rattle.cli_capture.specs.InnerLogRejection.{BeginsRefused, EndsOpenRefused, EndsRefused, FollowsAllRefused, FollowsRefused, HearsThemRefused, InLog, LacksRefused, TakesRefused, WaitsRefused}
 use Rattle.cli_capture.specs.Report.{first_of}
-use Rattle.cli_capture.specs.ConnectionState.{answered_by, if_answered, lost_by}
+use Rattle.cli_capture.specs.ConnectionState.{answered_by, lost_by}
+use Rattle.cli_capture.specs.InnerConnectionState.{if_answered}
 use Rattle.cli_capture.specs.StopError.{IsRefusalOf}
 use Rattle.cli_capture.proofs.Connections.{numbered_next}
 use Rattle.cli_capture.proofs.Paging.{downs_of, none_left}

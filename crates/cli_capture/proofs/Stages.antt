@@ -19,13 +19,14 @@ use Rattle.cli_capture.specs.declared.tracked_connection.Waiting.{Waiting}
 use Rattle.cli_capture.specs.declared.report.OutputMode.TheVariants.{Verdicts}
 use Rattle.cli_capture.specs.declared.report.Report.{Report}
 use Rattle.cli_capture.specs.declared.incomplete.Shortfall.{Shortfall}
-use Rattle.cli_capture.specs.TrackedConnection.{BeginsWith, Follows, FollowsThem, seen_waiting}
+use Rattle.cli_capture.specs.InnerTrackedConnection.{BeginsWith, Follows, FollowsThem, seen_waiting}
 use Rattle.cli_capture.specs.ConnectionLog.{ToldForGood, ToldOf}
-use Rattle.cli_capture.specs.Report.{Emits}
-use Rattle.cli_capture.specs.MidstreamSync.{EndsJoined}
-use Rattle.cli_capture.specs.LogOutput.{EndsStageOnPage}
-use Rattle.cli_capture.specs.ConnectionTable.{EndsFlows}
-use Rattle.cli_capture.specs.ConnectionState.{EndsStage, OverBy, StageGoes, TakesStage, WaitsOn, answered_by, answers, begins_with_syn, if_answered, is_answer, is_number, is_passive, stage_by}
+use Rattle.cli_capture.specs.InnerReport.{Emits}
+use Rattle.cli_capture.specs.InnerMidstreamSync.{EndsJoined}
+use Rattle.cli_capture.specs.InnerLogOutput.{EndsStageOnPage}
+use Rattle.cli_capture.specs.InnerConnectionTable.{EndsFlows}
+use Rattle.cli_capture.specs.ConnectionState.{OverBy, answered_by, begins_with_syn, is_answer, is_number}
+use Rattle.cli_capture.specs.InnerConnectionState.{EndsStage, StageGoes, TakesStage, WaitsOn, answers, if_answered, is_passive, stage_by}
 
 -- ---- the SYN of the passive end
 

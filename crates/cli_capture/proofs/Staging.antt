@@ -21,9 +21,11 @@ use Rattle.cli_capture.specs.declared.tracked_connection.ConnectionState.TheVari
 use Rattle.cli_capture.specs.declared.tracked_connection.Waiting.{Waiting}
 use Rattle.cli_capture.specs.declared.report.OutputMode.TheVariants.{Log}
 use Rattle.cli_capture.specs.declared.report.Report.{Report}
-use Rattle.cli_capture.specs.TrackedConnection.{seen_waiting}
-use Rattle.cli_capture.specs.LogOutput.{BeginsOnPage, FollowsAllOnPage, FollowsOnPage, IsOpenIn, LeavesOpen, LogsOn, LogsTo, OverOnPage, Page, SegmentsOn, StageOnPage, TakesOnPage, TellsWith, ThemOn, WaitsOnPage, page_of}
-use Rattle.cli_capture.specs.ConnectionState.{answered_by, if_answered, stage_by}
+use Rattle.cli_capture.specs.InnerTrackedConnection.{seen_waiting}
+use Rattle.cli_capture.specs.LogOutput.{IsOpenIn, LeavesOpen, LogsTo, OverOnPage, Page, SegmentsOn, TellsWith, ThemOn, page_of}
+use Rattle.cli_capture.specs.InnerLogOutput.{BeginsOnPage, FollowsAllOnPage, FollowsOnPage, LogsOn, StageOnPage, TakesOnPage, WaitsOnPage}
+use Rattle.cli_capture.specs.ConnectionState.{answered_by}
+use Rattle.cli_capture.specs.InnerConnectionState.{if_answered, stage_by}
 use Rattle.cli_capture.proofs.Connections.{numbered_next}
 use Rattle.cli_capture.proofs.Stages.{answered_kept, answered_now, is_answered, isnt_answered}
 

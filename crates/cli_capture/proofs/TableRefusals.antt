@@ -22,22 +22,27 @@ use Rattle.cli_capture.specs.declared.connection_table.Capture.{Capture}
 use Rattle.cli_capture.specs.declared.connection_table.Table.{Table}
 use Rattle.cli_capture.specs.declared.midstream_connection.Within.{Within}
 use Rattle.cli_capture.specs.Connections.{Connection, Connections, Packets, Session, connection_of, buffered, of_session, of_syn, without}
-use Rattle.cli_capture.specs.OutputMode.{IsReport, Way, to_log, to_verdicts}
-use Rattle.cli_capture.specs.TableInvariant.{AreSame, IsFollowedAs, IsOne, IsTable, RiseUpTo, StageStands}
-use Rattle.cli_capture.specs.LogOutput.{StageIn}
-use Rattle.cli_capture.specs.LogRejection.{EndsRefused, InLog, TakesRefused}
-use Rattle.cli_capture.specs.LogRejectionFile.{DealsRefused, EndRefused, EndsAsRefused, KeptEndRefused, KeptRefused, LastRefused, MoreRefused, NextRefused, RunningEndRefused, StartRefused, TakesAsRefused}
-use Rattle.cli_capture.specs.LogRejectionMidstream.{EndGatheredRefused, EndsJoinedRefused, GatherRefused, IsRefusedWith, PacketRefused, SessionRefused, TakesJoinedRefused, WithinEndRefused}
+use Rattle.cli_capture.specs.OutputMode.{Way, to_log, to_verdicts}
+use Rattle.cli_capture.specs.InnerOutputMode.{IsReport}
+use Rattle.cli_capture.specs.InnerTableInvariant.{AreSame, IsFollowedAs, IsOne, IsTable, RiseUpTo, StageStands}
+use Rattle.cli_capture.specs.InnerLogOutput.{StageIn}
+use Rattle.cli_capture.specs.InnerLogRejection.{EndsRefused, InLog, TakesRefused}
+use Rattle.cli_capture.specs.LogRejectionFile.{DealsRefused, EndRefused, KeptEndRefused, KeptRefused, LastRefused, MoreRefused, NextRefused, RunningEndRefused, StartRefused}
+use Rattle.cli_capture.specs.InnerLogRejectionFile.{EndsAsRefused, TakesAsRefused}
+use Rattle.cli_capture.specs.LogRejectionMidstream.{IsRefusedWith, SessionRefused}
+use Rattle.cli_capture.specs.InnerLogRejectionMidstream.{EndGatheredRefused, EndsJoinedRefused, GatherRefused, PacketRefused, TakesJoinedRefused, WithinEndRefused}
 use Rattle.cli_capture.specs.MidstreamLog.{most_by, terms_by}
 use Rattle.cli_capture.specs.MidstreamSync.{brought}
 use Rattle.cli_capture.specs.Assumptions.{whole_log}
-use Rattle.cli_capture.specs.LogRejectionTable.{EndsFlowsRefused, FollowsFlowRefused, ReplacesRefused, StartsRefused, TakesItRefused, TakesOfRefused}
-use Rattle.cli_capture.specs.Report.{StopsUnrefused, session_of}
-use Rattle.cli_capture.specs.StopError.{IsRefused}
+use Rattle.cli_capture.specs.InnerLogRejectionTable.{EndsFlowsRefused, FollowsFlowRefused, ReplacesRefused, StartsRefused, TakesItRefused, TakesOfRefused}
+use Rattle.cli_capture.specs.Report.{session_of}
+use Rattle.cli_capture.specs.InnerReport.{StopsUnrefused}
+use Rattle.cli_capture.specs.InnerStopError.{IsRefused}
 use Rattle.cli_capture.specs.Segments.{taken_segment}
 use Rattle.cli_capture.specs.MidstreamConnection.{Brought, IsWithin, counting, lack_within, logged_so_far, resets_of, seen_brought, session_seen}
-use Rattle.cli_capture.specs.ConnectionState.{StageAs}
-use Rattle.cli_capture.specs.ConnectionTable.{Begins, BeginsFlow, BeginsWith, EndsFlows, HasTime, IsFollowed, LooksAt, ReplacesFlow, flow_of, brought_by}
+use Rattle.cli_capture.specs.InnerConnectionState.{StageAs}
+use Rattle.cli_capture.specs.ConnectionTable.{HasTime}
+use Rattle.cli_capture.specs.InnerConnectionTable.{Begins, BeginsFlow, BeginsWith, EndsFlows, IsFollowed, LooksAt, ReplacesFlow, flow_of, brought_by}
 use Rattle.cli_capture.proofs.Dealing.{AreBoth, begins, both_of, ends_all, is_open, none_starts, pair_same, replaces, report_then, starts, up_more, up_numbered}
 use Rattle.cli_capture.proofs.PacketRefusals.{session_behind}
 use Rattle.cli_capture.proofs.Refusing.{none_refused}

@@ -21,10 +21,13 @@ use Rattle.cli_capture.specs.declared.report.OutputMode.TheVariants.{Log, Verdic
 use Rattle.cli_capture.specs.declared.report.Report.{Report}
 use Rattle.cli_capture.specs.Progress.{course_behind}
 use Rattle.cli_capture.specs.ConnectionLog.{and_logged}
-use Rattle.cli_capture.specs.TrackedConnection.{Begins, HaveHeard, course_by_events, logged_by}
-use Rattle.cli_capture.specs.MidstreamItems.{AreItems, EndsHadItems, EndsHaveItems, EndsItemsBy, HaveItems, HaveMore, IsNote, Item, ItemsOn, LogsItems, MayBeLogged, TakesItems, begun_at, front_at, emits, time_behind, with_item}
-use Rattle.cli_capture.specs.MidstreamLog.{HearsItem}
-use Rattle.cli_capture.specs.LogOutput.{HappensOn, LogsThem, Page, page_of, with_note}
+use Rattle.cli_capture.specs.TrackedConnection.{course_by_events, logged_by}
+use Rattle.cli_capture.specs.InnerTrackedConnection.{Begins, HaveHeard}
+use Rattle.cli_capture.specs.MidstreamItems.{AreItems, EndsHaveItems, HaveItems, IsNote, Item, ItemsOn, LogsItems, MayBeLogged, begun_at, front_at, emits, time_behind, with_item}
+use Rattle.cli_capture.specs.InnerMidstreamItems.{EndsHadItems, EndsItemsBy, HaveMore, TakesItems}
+use Rattle.cli_capture.specs.InnerMidstreamLog.{HearsItem}
+use Rattle.cli_capture.specs.LogOutput.{Page, page_of}
+use Rattle.cli_capture.specs.InnerLogOutput.{HappensOn, LogsThem, with_note}
 use Rattle.cli_capture.proofs.Following.{never_none}
 use Rattle.cli_capture.proofs.Paging.{goes_goes, on_page_then, same_log, same_page}
 

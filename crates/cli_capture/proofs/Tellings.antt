@@ -17,8 +17,10 @@ use Rattle.cli_capture.specs.declared.incomplete.Shortfall.{Shortfall}
 use Rattle.capture_log.specs.declared.stop.Stop.{Stop}
 use Rattle.cli_capture.specs.Command.{CapturesTo}
 use Rattle.cli_capture.specs.SkippedPackets.{line_of}
-use Rattle.cli_capture.specs.StopError.{IsRefusal, IsRefused}
-use Rattle.cli_capture.specs.Report.{Answers, Concludes, EndsWith, Finishes, Found, HasEmitted, IsReported, LogOutputState, Emits, TellsBehind, TellsBy, TellsVerdicts, Writes, failed_after, found_after, found_behind, found_of, found_with, lines_of, missing_after, nothing_found, telling_lines}
+use Rattle.cli_capture.specs.StopError.{IsRefusal}
+use Rattle.cli_capture.specs.InnerStopError.{IsRefused}
+use Rattle.cli_capture.specs.Report.{Answers, Found, HasEmitted, LogOutputState, failed_after, found_after, found_behind, found_of, found_with, lines_of, missing_after, nothing_found, telling_lines}
+use Rattle.cli_capture.specs.InnerReport.{Concludes, EndsWith, Finishes, IsReported, Emits, TellsBehind, TellsBy, TellsVerdicts, Writes}
 
 -- ---- what is told
 

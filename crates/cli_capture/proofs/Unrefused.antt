@@ -7,9 +7,9 @@ use Rattle.capture_log.specs.declared.stop.Stop.TheVariants as stop
 use Rattle.capture_log.specs.Stop.{IsNoRefusal}
 use Rattle.cli_capture.specs.declared.report.OutputMode.TheVariants.{Log, Verdicts}
 use Rattle.cli_capture.specs.declared.report.Report.{Report}
-use Rattle.cli_capture.specs.LogRejection.{InLog}
-use Rattle.cli_capture.specs.Report.{StopsUnrefused, Emits}
-use Rattle.cli_capture.specs.StopError.{IsRefused}
+use Rattle.cli_capture.specs.InnerLogRejection.{InLog}
+use Rattle.cli_capture.specs.InnerReport.{StopsUnrefused, Emits}
+use Rattle.cli_capture.specs.InnerStopError.{IsRefused}
 use Rattle.cli_capture.proofs.Tellings.{log_tells, ok_then, tells_nothing, tells_then}
 
 -- ---- what stops isn't a refusal

@@ -25,13 +25,16 @@ use Rattle.cli_capture.specs.declared.report.Report.{Report}
 use Rattle.cli_capture.specs.declared.incomplete.Shortfall.{Shortfall}
 use Rattle.cli_capture.specs.declared.connection_table.Capture.{Capture}
 use Rattle.cli_capture.specs.declared.connection_table.Table.{Table}
-use Rattle.cli_capture.specs.Command.{IsMissingBy}
+use Rattle.cli_capture.specs.InnerCommand.{IsMissingBy}
 use Rattle.cli_capture.specs.Connections.{Captured, Connections, DealsPacket, EndsAll}
 use Rattle.cli_capture.specs.FileDispatch.{BeginsAs, CapturesFile, DealsEach, DealsOne, DealsShown, IsBlank, LacksBy, PutsOut, Wanted, none_yet}
-use Rattle.cli_capture.specs.OutputMode.{TellsTo, Way, to_log, to_verdicts}
-use Rattle.cli_capture.specs.TableInvariant.{AreSame, ConcludesAsDealt, EndsAsDealt, FinishesAsDealt, IsReportOf, IsTableOf, PutsAsDealt, ReadsAsDealt, ShowsAsDealt, TakesAsDealt, captured_of, wanted_of, way_of}
+use Rattle.cli_capture.specs.OutputMode.{Way, to_log, to_verdicts}
+use Rattle.cli_capture.specs.InnerOutputMode.{TellsTo}
+use Rattle.cli_capture.specs.TableInvariant.{wanted_of, way_of}
+use Rattle.cli_capture.specs.InnerTableInvariant.{AreSame, ConcludesAsDealt, EndsAsDealt, FinishesAsDealt, IsReportOf, IsTableOf, PutsAsDealt, ReadsAsDealt, ShowsAsDealt, TakesAsDealt, captured_of}
 use Rattle.cli_capture.specs.SkippedPackets.{left_out_after, line_of, none_left_out}
-use Rattle.cli_capture.specs.Report.{Finishes, TellsBehind, found_of, missing_after, nothing_found}
+use Rattle.cli_capture.specs.Report.{found_of, missing_after, nothing_found}
+use Rattle.cli_capture.specs.InnerReport.{Finishes, TellsBehind}
 use Rattle.cli_capture.specs.Segments.{body_in}
 use Rattle.cli_capture.proofs.Dealing.{later, report_then}
 

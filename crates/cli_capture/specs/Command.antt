@@ -1,16 +1,13 @@
 -- What a call of `hsms capture` answers of its devices.
-use Rattle.std.specs.Prelude.{◌≡◌, ◌≤◌, ◌+◌, ◌-◌, ◌^◌, ◌++◌, length, min, List, ℕ, Bool, Option, Some, codes, Result, Ok, Err}
+use Rattle.std.specs.Prelude.{◌≡◌, ◌≤◌, ◌-◌, ◌^◌, ◌++◌, length, List, ℕ, Bool, Option, Some, codes, Result}
 use Rattle.hsms_frame.specs.Io.{Grows, IfRecorded}
 use Rattle.cli_options.specs.declared.fault.ToolFault.{ToolFault}
 use Rattle.cli_options.specs.declared.fault.ToolFault.TheVariants as tool
-use Rattle.capture_pcap.specs.declared.fault.FileFault.{FileFault}
-use Rattle.capture_pcap.specs.declared.fault.FileFault.TheVariants as file
 use Rattle.hsms_machine.specs.declared.settings.Role.{Role}
 use Rattle.cli_capture.specs.SkippedPackets.{line_of}
 use Rattle.cli_capture.specs.Report.{Answers, LogOutputState, found_behind, found_with, lines_of, nothing_found}
 use Rattle.cli_capture.specs.declared.skipped_packets.LeftOut.{LeftOut}
 use Rattle.cli_capture.specs.declared.incomplete.Shortfall.{Shortfall}
-use Rattle.cli_capture.specs.declared.incomplete.Shortfall.TheVariants.{File}
 
 -- holds if some bytes were appended to the output
 unfoldable pub GrowsBySome : Option (List ℕ) → Option (List ℕ) → Type 0
@@ -33,16 +30,3 @@ IsEndless tool.Memory = ⊥
 -- holds if the input has 2 ^ 64 - 4 bytes or more: reading takes at most that many steps, each of one byte or more
 abbrev pub HasMany : List ℕ → Type 0
 HasMany input = 2 ^ 64 - 4 ≤ length input
-
--- holds if at least `n` bytes were consumed between these two states of the input
-abbrev pub HasPassed : ℕ → List ℕ → Option (List ℕ) → List ℕ → Option (List ℕ) → Type 0
-HasPassed n ahead from now left =
-    IfRecorded from (λ input. (rest : List ℕ) × (left ≡ Some rest) × (n + (length now + length rest) ≤ length ahead + length input))
-
--- how reading a file ends after `packets` packets: a read error, a failed allocation, or data missing from the next packet on
-abbrev pub IsMissingBy : FileFault → ℕ → Result Shortfall ToolFault → Type 0
-IsMissingBy fault packets (Ok shortfall) =
-    (fault ≡ file.Read → ⊥) × (fault ≡ file.Memory → ⊥) × (shortfall ≡ File fault (min (packets + 1) (2 ^ 64 - 1)))
-IsMissingBy fault packets (Err (tool.Device word)) = (fault ≡ file.Read) × (word.now ≡ codes "Read")
-IsMissingBy fault packets (Err (tool.Refused words)) = ⊥
-IsMissingBy fault packets (Err tool.Memory) = fault ≡ file.Memory

@@ -1,14 +1,12 @@
 -- Where the log of one end is told: with which packet of a capture it is refused, or which connection refuses it at the end.
-use Rattle.std.specs.Prelude.{◌≡◌, ◌⊎◌, ◌<◌, ◌+◌, ◌^◌, ◌++◌, ◌∷◌, ℕ, List, [], map, Option, Some, None, Err}
+use Rattle.std.specs.Prelude.{◌≡◌, ◌⊎◌, ◌++◌, ◌∷◌, ℕ, List, [], map, Option, Some, None, Err}
 use Rattle.std.specs.declared.net.ip_addr.IpAddr.{IpAddr}
-use Rattle.hsms_frame.specs.Io.{Grows, IfRecorded}
+use Rattle.hsms_frame.specs.Io.{Grows}
 use Rattle.hsms_machine.specs.Settings.{Parameters}
 use Rattle.cli_options.specs.declared.fault.ToolFault.{ToolFault}
-use Rattle.capture_pcap.specs.declared.next_block.Record.{Record}
 use Rattle.capture_pcap.specs.declared.segment.Segment.{Segment}
 use Rattle.capture_pcap.specs.declared.segment.Shown.{Shown}
 use Rattle.capture_pcap.specs.declared.segment.Shown.TheVariants as shown
-use Rattle.capture_pcap.specs.BlockReader.{Reading, ReadsOn}
 use Rattle.capture_pcap.specs.File.{Packet, Ending, ReadsFile}
 use Rattle.capture_pcap.specs.Segment.{segment_at}
 use Rattle.capture_tcp.specs.declared.packet.Side.{Side}
@@ -25,12 +23,9 @@ use Rattle.capture_log.specs.declared.stop.Stop.{Stop}
 use Rattle.cli_capture.specs.declared.report.OutputMode.TheVariants.{Log}
 use Rattle.cli_capture.specs.declared.report.Report.{Report}
 use Rattle.cli_capture.specs.declared.incomplete.Shortfall.{Shortfall}
-use Rattle.cli_capture.specs.declared.connection_table.Capture.{Capture}
-use Rattle.cli_capture.specs.declared.connection_table.Table.{Table}
 use Rattle.cli_capture.specs.Connections.{BeginsBoth, Captured, Connection, Connections, EndsAll, HasOne, IsOpen, IsReplaced, Starts, StartsAny, StartsOne, Packets, Session, brought_at, connection_of, buffered, of_session, of_syn, without}
 use Rattle.cli_capture.specs.FileDispatch.{CapturesFile, DealsEach, DealsUpTo, IsBlank, Wanted, none_yet}
-use Rattle.cli_capture.specs.OutputMode.{IsReport, Way, to_log, to_verdicts}
-use Rattle.cli_capture.specs.TableInvariant.{ConcludesAsDealt, FinishesAsDealt, IsReportOf, IsTable, IsTableOf, captured_of}
+use Rattle.cli_capture.specs.OutputMode.{Way, to_log, to_verdicts}
 use Rattle.cli_capture.specs.LogRejection.{RefusedWith, RefusesFor, lack_at_end}
 use Rattle.cli_capture.specs.Report.{missing_after, session_of}
 use Rattle.cli_capture.specs.MidstreamLog.{most_by, terms_by}
@@ -40,7 +35,7 @@ use Rattle.cli_capture.specs.MidstreamConnection.{Brought, Happens, counting, la
 use Rattle.cli_capture.specs.Assumptions.{whole_log}
 use Rattle.cli_capture.specs.Segments.{IsPairAt, body_in}
 use Rattle.cli_capture.specs.ConnectionState.{answered_by}
-use Rattle.cli_capture.specs.StopError.{IsRefusal, IsRefused, TellsStop}
+use Rattle.cli_capture.specs.StopError.{TellsStop}
 use Rattle.cli_capture.specs.ConnectionTable.{HasTime}
 
 -- ---- a connection by its packets
@@ -200,45 +195,3 @@ RefusesBy (to_log settings side) w input out now fault =
 -- holds if the capture is rejected: by the file, or with a log by a packet or a connection left at the end
 abbrev pub RefusesFile : Wanted → List ℕ → Option (List ℕ) → Option (List ℕ) → ToolFault → Type 0
 RefusesFile w input out now fault = RefusesBy w.way w input out now fault
-
--- ---- the connections that are kept
-
-abbrev pub TakesAsRefused : Segment → Capture → Table → Stop → Report → Report → Type 0
-TakesAsRefused segment capture table st before after =
-    IsRefused st → (port : ℕ) (peer : Option IpAddr) (how : Way) (a p : Parameters) (last : ℕ) (all : Connections) → IsReport how a p before
-    → last < capture.packet → capture.packet + 3 < 2 ^ 64 → IsTable port peer how a p last table all
-    → DealsPacketRefused port peer a p segment (captured_of capture) all st before after
-
-abbrev pub EndsAsRefused : Option Shortfall → Table → Stop → Report → Report → Type 0
-EndsAsRefused missing table st old new =
-    IsRefused st → (port : ℕ) (peer : Option IpAddr) (how : Way) (a p : Parameters) (last : ℕ) (all : Connections) → IsReport how a p old
-    → IsTable port peer how a p last table all → EndsAllRefused a p missing all.known st old new
-
-abbrev pub ShowsAsRefused : ℕ → Record → List ℕ → Table → Stop → Report → Report → Type 0
-ShowsAsRefused packet r octets table st before after =
-    IsRefused st → (w : Wanted) (last : ℕ) (all : Connections) → IsReportOf w before → last < packet → packet + 3 < 2 ^ 64 → IsTableOf w last table all
-    → ShownRefused (segment_at r.link octets) w packet r.time octets all st before after
-
--- and it is written what was on the page
-abbrev pub PutsAsRefused : ℕ → Record → List ℕ → Table → Report → Option (List ℕ) → Option (List ℕ) → ToolFault → Type 0
-PutsAsRefused packet r octets table before out now fault =
-    IsRefusal fault → (w : Wanted) (last : ℕ) (all : Connections) → IsReportOf w before → last < packet → packet + 3 < 2 ^ 64 → IsTableOf w last table all
-    → (st : Stop) × (emitted : Report) × ShownRefused (segment_at r.link octets) w packet r.time octets all st before emitted × IsWritten st emitted out now fault
-
-unfoldable pub ReadsAsRefused : Reading → Option (List ℕ) → Table → Report → Option (List ℕ) → Option (List ℕ) → ToolFault → Type 0
-ReadsAsRefused reading left table before out now fault =
-    IsRefusal fault → (w : Wanted) (all : Connections) → reading.state.packets ≡ 0 → IsReportOf w before → IsTableOf w 0 table all
-    → IfRecorded left (λ input. (packets : List Packet) × (ending : Ending) × ReadsOn reading input packets ending × StopsAt w packets all before out now fault)
-
--- at the end: by what was found, or by one that is left
-abbrev pub ConcludesAsRefused : Option Shortfall → Table → Report → Report → Stop → Type 0
-ConcludesAsRefused missing table before after st =
-    IsRefused st → ConcludesAsDealt missing table before after (Err st)
-    ⊎ ((w : Wanted) (last : ℕ) (all : Connections) → IsReportOf w before → IsTableOf w last table all
-    → EndsAllRefused w.active w.passive missing all.known st (record before { shortfall = missing_after before.shortfall missing }) after)
-
-abbrev pub FinishesAsRefused : Option Shortfall → Table → Report → Option (List ℕ) → Option (List ℕ) → ToolFault → Type 0
-FinishesAsRefused missing table before out now fault =
-    IsRefusal fault → FinishesAsDealt missing table before out now (Err fault)
-    ⊎ ((w : Wanted) (last : ℕ) (all : Connections) → IsReportOf w before → IsTableOf w last table all → (st : Stop) × (emitted : Report)
-    × EndsAllRefused w.active w.passive missing all.known st (record before { shortfall = missing_after before.shortfall missing }) emitted × IsWritten st emitted out now fault)

@@ -1,7 +1,6 @@
 -- A session that was running before its capture: what happens on it is what the wire shows of a connection that came up just
 -- before the places at which its directions begin, by three packets that weren't captured.
 use Rattle.std.specs.Prelude.{◌≡◌, ◌⊎◌, ◌+◌, ◌-◌, ◌^◌, ◌&&◌, ◌++◌, ◌∷◌, min, ℕ, Bool, true, false, List, [], flat_map, length, map, drop, Option, Some, None, is_none}
-use Rattle.capture_tcp.specs.declared.connection.Connection.{Connection}
 use Rattle.capture_tcp.specs.declared.ending.Ending.{Ending}
 use Rattle.capture_tcp.specs.declared.ending.Ending.TheVariants as ending
 use Rattle.hsms_machine.specs.Settings.{Parameters}
@@ -13,10 +12,9 @@ use Rattle.capture_tcp.specs.TcpStreams.{End, Seen, places}
 use Rattle.capture_tcp.specs.EndOfStream.{ended, is_known}
 use Rattle.capture_tcp.specs.KnownStreams.{bases, seen_of}
 use Rattle.capture_tcp.specs.Laws.{AreNumbered}
-use Rattle.capture_tcp.specs.ReaderInvariant.{StateInvariant, TakesOn}
-use Rattle.capture_tcp.specs.Limits.{ContinuesBy}
+use Rattle.capture_tcp.specs.ReaderInvariant.{StateInvariant}
 use Rattle.capture_tcp.specs.EventSteps.{entry_as}
-use Rattle.capture_tcp.specs.Timestamps.{AreTimed, IsInTime, TakesInTime, time_at}
+use Rattle.capture_tcp.specs.Timestamps.{AreTimed, IsInTime, time_at}
 use Rattle.capture_tcp.specs.ConnectionEvents.{emits}
 use Rattle.capture_log.specs.declared.written_log.WrittenLog.{WrittenLog}
 use Rattle.capture_log.specs.declared.socket_pair.Pair.{Pair}
@@ -29,11 +27,8 @@ use Rattle.cli_capture.specs.declared.incomplete.Shortfall.{Shortfall}
 use Rattle.cli_capture.specs.declared.incomplete.Shortfall.TheVariants as lacks
 use Rattle.cli_capture.specs.declared.report.OutputMode.TheVariants.{Log}
 use Rattle.cli_capture.specs.declared.report.Report.{Report}
-use Rattle.cli_capture.specs.declared.progress.Followed.{Followed}
-use Rattle.cli_capture.specs.declared.progress.Followed.TheVariants as followed
 use Rattle.cli_capture.specs.declared.midstream_connection.Within.{Within}
-use Rattle.cli_capture.specs.Progress.{lack_behind}
-use Rattle.cli_capture.specs.OutputMode.{IsReport, Way, to_log, to_verdicts}
+use Rattle.cli_capture.specs.OutputMode.{Way, to_log, to_verdicts}
 use Rattle.cli_capture.specs.TrackedConnection.{AllFit, IsTooMuch, course_by_events}
 use Rattle.cli_capture.specs.MidstreamItems.{Item, LogsItems}
 use Rattle.cli_capture.specs.MidstreamLog.{JoinedStands, most_by, terms_by}
@@ -94,21 +89,6 @@ ending_in ending.Complete = ending.Complete
 ending_in (ending.Lost packet) = ending.Lost (packet - uncaptured)
 ending_in (ending.Differs packet) = ending.Differs (packet - uncaptured)
 
--- The connection takes that part of a packet: more may follow, or it is known how it ends, and what it lacks then, or too
--- much would wait with it.
-abbrev pub TakesCut : Connection → Seen → ℕ → List TimedEvent → List TimedEvent → Followed → Type 0
-TakesCut c s packet emitted later (followed.Proceeds next) = (next.ending ≡ None) × TakesOn c s emitted next later × TakesInTime c s emitted next later × ContinuesBy c emitted s
-TakesCut c s packet emitted later (followed.BothLogs lack) =
-    ((next : Connection) × (e : Ending) × (next.ending ≡ Some e) × (lack ≡ lack_behind (ending_in e) None)
-    × TakesOn c s emitted next later × TakesInTime c s emitted next later)
-    ⊎ ((lack ≡ Some (lacks.Full packet)) × (later ≡ emitted)
-    × ((base : End → ℕ) (before : List Seen) (away : List TimedEvent) → StateInvariant c (away ++ emitted) base before → IsTooMuch base before s))
-
--- it is over by what was heard, or as the connection is
-abbrev pub over_as : Progress → Followed → Followed
-over_as progress.Proceeds f = f
-over_as (progress.Over lack) f = followed.BothLogs lack
-
 -- ---- what happens on it
 
 -- what the wire shows of these packets, each at the time of its packet
@@ -156,18 +136,6 @@ pub record IsWithin (how : Way) (a p : Parameters) (start : Start) (gs : List Br
   pub reception : JoinedStands how a p start (counting start (resets_of gs) hs) w.joined
   pub fit : AllFit (session_base w.active w.passive) (opening_seen w.active w.passive) (map (cut w.active w.passive) gs)
 
--- nothing has happened that counts
-pub record BeginsWithin (active passive : ℕ) (start : Start) (w : Within) : Type 0 where
-  pub active_is : w.active ≡ active
-  pub passive_is : w.passive ≡ passive
-  pub happened : List TimedEvent
-  pub none : counting start [] happened ≡ []
-  pub is : (how : Way) (a p : Parameters) → IsWithin how a p start [] happened w
-
--- the connection takes one of the packets by which it came up
-abbrev pub Opens : Connection → Segment → Connection → Type 0
-Opens c segment next = (emitted : List TimedEvent) × TakesOn c (seen_of segment []) [] next emitted × TakesInTime c (seen_of segment []) [] next emitted
-
 -- its log has more: on the page, where the log of an end is told
 abbrev pub LogsFurther : Way → Pair → List Item → List Item → Report → Report → Type 0
 LogsFurther to_verdicts pair had has old new = new ≡ old
@@ -201,25 +169,3 @@ IsOverWith how a p pair start active passive gs hs g had old new =
     ((emitted : List TimedEvent) × Happens active passive (gs ++ g ∷ []) (hs ++ emitted)
     × TellsForGood how a p pair start active passive (gs ++ g ∷ []) (hs ++ emitted) had old new)
     ⊎ GivesUpWithin how a p pair start active passive gs hs g had old new
-
--- with one packet more it is over, or this has happened too
-abbrev pub GoesWithin : Way → Parameters → Parameters → Pair → Start → List Brought → List TimedEvent → Brought → Within → Option Within → Report → Report → Type 0
-GoesWithin how a p pair start gs hs g w None old new =
-    IsOverWith how a p pair start w.active w.passive gs hs g (logged_so_far how a start gs hs) old new
-GoesWithin how a p pair start gs hs g w (Some next) old new =
-    (next.active ≡ w.active) × (next.passive ≡ w.passive)
-    × (emitted : List TimedEvent) × Happens w.active w.passive (gs ++ g ∷ []) (hs ++ emitted) × IsWithin how a p start (gs ++ g ∷ []) (hs ++ emitted) next
-    × LogsFurther how pair (logged_so_far how a start gs hs) (logged_so_far how a start (gs ++ g ∷ []) (hs ++ emitted)) old new
-
-unfoldable pub TakesWithin : Pair → Brought → Within → Option Within → Report → Report → Type 0
-TakesWithin pair g w left old new =
-    (how : Way) (a p : Parameters) (start : Start) (gs : List Brought) (hs : List TimedEvent) → IsReport how a p old
-    → AreNumbered 0 (session_seen w.active w.passive (gs ++ g ∷ [])) → IsWithin how a p start gs hs w → GoesWithin how a p pair start gs hs g w left old new
-
--- no packet follows
-unfoldable pub EndsWithin : Pair → Bool → Option Shortfall → Within → Report → Report → Type 0
-EndsWithin pair replaced missing w old new =
-    (how : Way) (a p : Parameters) (start : Start) (gs : List Brought) (hs : List TimedEvent) → IsReport how a p old
-    → AreNumbered 0 (session_seen w.active w.passive gs) → IsWithin how a p start gs hs w
-    → Happens w.active w.passive gs hs
-    × TellsWithin how a p pair start w.active w.passive gs hs (logged_so_far how a start gs hs) replaced missing old new

@@ -8,20 +8,16 @@ use Rattle.capture_log.specs.AuditedLog.{Note, SaysOf}
 use Rattle.capture_log.specs.declared.audited_log.LogVerdict.{LogVerdict as Checked}
 use Rattle.capture_log.specs.declared.written_log.WrittenLog.{WrittenLog}
 use Rattle.capture_log.specs.declared.socket_pair.Pair.{Pair}
-use Rattle.capture_midstream.specs.declared.sync_packet.Start.{Start}
 use Rattle.cli_capture.specs.declared.progress.Progress.TheVariants as progress
-use Rattle.cli_capture.specs.declared.midstream_log.Joined.{Joined}
 use Rattle.cli_capture.specs.declared.report.OutputMode.TheVariants.{Log}
 use Rattle.cli_capture.specs.declared.report.Report.{Report}
 use Rattle.cli_capture.specs.declared.incomplete.Shortfall.{Shortfall}
-use Rattle.cli_capture.specs.OutputMode.{IsReport, Way, to_log, to_verdicts}
+use Rattle.cli_capture.specs.OutputMode.{Way, to_log, to_verdicts}
 use Rattle.cli_capture.specs.TrackedConnection.{timed_by}
 use Rattle.cli_capture.specs.MidstreamItems.{AreItems, Item, LogsItems, closes_down}
-use Rattle.cli_capture.specs.MidstreamLog.{IsOverAs, JoinedStands, most_by, terms_by}
 use Rattle.cli_capture.specs.ConnectionLog.{TellsIf, is_there}
 use Rattle.cli_capture.specs.LogOutput.{CountsIf}
 use Rattle.cli_capture.specs.Report.{LogOutputState}
-use Rattle.cli_capture.specs.Assumptions.{before_of, sure_log, whole_log}
 
 -- ---- where packets stand in the capture
 
@@ -70,20 +66,7 @@ abbrev pub EndsSession : Way → Parameters → Parameters → Pair → List Ite
 EndsSession to_verdicts a p pair xs had lack old new = TellsItems a p pair xs lack old new
 EndsSession (to_log settings side) a p pair xs had lack old new = (j : WrittenLog) → old.manner ≡ Log j → EndsLog pair xs had lack j old new
 
--- nothing more happens: what waits is told before; or nothing waits, since it is over by what happened
-pub record FinishesAs (pair : Pair) (j : Joined) (lack : Option Shortfall) (old new : Report) : Type 0 where
-  pub ends : (how : Way) (a p : Parameters) (start : Start) (hs : List TimedEvent) → IsReport how a p old → JoinedStands how a p start hs j
-      → EndsSession how a p pair (whole_log (terms_by how a start) hs) (sure_log (terms_by how a start) hs) lack old new
-  pub over : (how : Way) (a p : Parameters) (start : Start) (hs : List TimedEvent) (by : Option Shortfall) → IsReport how a p old
-      → IsOverAs how a p start (before_of (most_by how a) hs) by hs j
-      → EndsSession how a p pair (whole_log (terms_by how a start) hs) (whole_log (terms_by how a start) hs) lack old new
-
 -- where it came up, it goes down since another connection replaces it
 abbrev pub and_down : List Item → List Item
 and_down [] = []
 and_down (x ∷ xs) = (x ∷ xs) ++ closes_down ∷ []
-
-unfoldable pub ReplacedAs : Pair → Joined → Report → Report → Type 0
-ReplacedAs pair j old new =
-    (how : Way) (a p : Parameters) (start : Start) (hs : List TimedEvent) → IsReport how a p old → JoinedStands how a p start hs j
-    → EndsSession how a p pair (and_down (whole_log (terms_by how a start) hs)) (sure_log (terms_by how a start) hs) None old new

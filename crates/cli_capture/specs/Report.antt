@@ -1,31 +1,21 @@
 -- What was found of the connections of a capture.
 use Rattle.std.specs.Prelude.{◌≡◌, ◌⊎◌, ◌++◌, ℕ, [], ◌∷◌, flat_map, Bool, true, false, Option, None, Some, List, Result, Ok, Err, codes, string_bytes}
-use Rattle.hsms_frame.specs.Io.{Grows}
 use Rattle.hsms_machine.specs.Settings.{Parameters}
 use Rattle.hsms_machine.specs.declared.settings.Role.{Role}
 use Rattle.hsms_log.specs.declared.verdict.Verdict.{Verdict}
 use Rattle.hsms_log.specs.declared.verdict.Verdict.TheVariants.{Pass, Fail}
-use Rattle.capture_tcp.specs.declared.packet.Side.{Side}
 use Rattle.capture_tcp.specs.declared.packet.Side.TheVariants.{Active, Passive}
-use Rattle.cli_capture.specs.SkippedPackets.{line_of}
 use Rattle.cli_capture.specs.VerdictLine.{end_line_of}
-use Rattle.cli_capture.specs.StopError.{IsRefusal, TellsShortfall}
-use Rattle.capture_log.specs.Stop.{IsNoRefusal}
+use Rattle.cli_capture.specs.StopError.{TellsShortfall}
 use Rattle.cli_options.specs.declared.fault.ToolFault.{ToolFault}
 use Rattle.cli_options.specs.declared.fault.ToolFault.TheVariants as tool
 use Rattle.capture_log.specs.AuditedLog.{HasLogged, Note, SaysOf, CurrentState}
 use Rattle.capture_log.specs.declared.audited_log.LogVerdict.{LogVerdict}
-use Rattle.capture_log.specs.declared.both_logs.BothLogs.{BothLogs}
-use Rattle.capture_log.specs.declared.written_log.WrittenLog.{WrittenLog}
 use Rattle.capture_log.specs.declared.socket_pair.Pair.{Pair}
 use Rattle.capture_midstream.specs.declared.session_filter.Session.{Session}
-use Rattle.cli_capture.specs.declared.skipped_packets.LeftOut.{LeftOut}
-use Rattle.cli_capture.specs.declared.report.OutputMode.{OutputMode}
-use Rattle.cli_capture.specs.declared.report.OutputMode.TheVariants.{Verdicts, Log}
+use Rattle.cli_capture.specs.declared.report.OutputMode.TheVariants.{Verdicts}
 use Rattle.cli_capture.specs.declared.report.Report.{Report}
 use Rattle.cli_capture.specs.declared.incomplete.Shortfall.{Shortfall}
-use Rattle.capture_log.specs.declared.stop.Stop.{Stop}
-use Rattle.capture_log.specs.declared.stop.Stop.TheVariants as stop
 
 -- by what the messages of a session are known
 abbrev pub session_of : Parameters → Session
@@ -68,29 +58,6 @@ telling_lines active passive output_state =
     end_line_of output_state.pair active Active output_state.shortfall output_state.active
     ++ end_line_of output_state.pair passive Passive output_state.shortfall output_state.passive
 
--- the role of an end
-abbrev pub role_at : Report → Side → Role
-role_at report Active = report.active.role
-role_at report Passive = report.passive.role
-
--- these lines are on the page, and whether one of the verdicts fails counts
-pub record IsReported (output_state : LogOutputState) (old new : Report) : Type 0 where
-  pub page : new.page.octets ≡ old.page.octets ++ telling_lines old.active.role old.passive.role output_state
-  pub failed : new.has_failed ≡ failed_after (failed_after old.has_failed output_state.active) output_state.passive
-
--- of a connection that came up the verdicts on the logs of both ends are told, and of another one that it has none
-abbrev pub TellsVerdicts : Pair → Option Shortfall → Option BothLogs → Report → Report → Type 0
-TellsVerdicts pair shortfall None old new =
-    IsReported (record { pair = pair; shortfall = shortfall; active = None; passive = None }) old new
-TellsVerdicts pair shortfall (Some ends) old new =
-    (active passive : LogVerdict) × IsVerdictOn ends.active active × IsVerdictOn ends.passive passive
-    × IsReported (record { pair = pair; shortfall = shortfall; active = Some active; passive = Some passive }) old new
-
--- where the log of an end is told, nothing is told when a connection is over
-abbrev pub TellsBy : OutputMode → Pair → Option Shortfall → Option BothLogs → Report → Report → Type 0
-TellsBy Verdicts pair shortfall ends old new = TellsVerdicts pair shortfall ends old new
-TellsBy (Log journal) pair shortfall ends old new = (new.has_failed ≡ old.has_failed) × (new.page ≡ old.page)
-
 -- what was found: whether some log fails, what was missing first, and whether a connection was told
 pub record Found : Type 0 where
   pub failed : Bool
@@ -130,26 +97,12 @@ RefusesWith found words =
     ((shortfall : Shortfall) × (found.shortfall ≡ Some shortfall) × TellsShortfall shortfall words)
     ⊎ ((found.shortfall ≡ None) × (found.emitted ≡ false) × (words ≡ codes "NoConnection"))
 
--- what is answered at the end: whether all is well, a refusal where no log fails, or want of memory
-abbrev pub Finishes : Found → Result Bool Stop → Type 0
-Finishes found (Ok well) = AnswersWell found well
-Finishes found (Err (stop.Refused words)) = (found.failed ≡ false) × RefusesWith found (string_bytes words)
-Finishes found (Err stop.Memory) = Unit {0}
-
 -- the same, as the command answers it
 abbrev pub Answers : Found → Result Bool ToolFault → Type 0
 Answers found (Ok well) = AnswersWell found well
 Answers found (Err (tool.Refused words)) = (found.failed ≡ false) × RefusesWith found (string_bytes words)
 Answers found (Err (tool.Device word)) = ⊥
 Answers found (Err tool.Memory) = ⊥
-
--- where verdicts are told, nothing is refused before the end
-unfoldable pub StopsUnrefused : Report → Stop → Type 0
-StopsUnrefused report stop = report.manner ≡ Verdicts → IsNoRefusal stop
-
--- as the command tells it
-unfoldable pub FailsUnrefused : Report → ToolFault → Type 0
-FailsUnrefused report fault = report.manner ≡ Verdicts → IsRefusal fault → ⊥
 
 -- the lines of connections, one after another
 abbrev pub lines_of : Role → Role → List LogOutputState → List ℕ
@@ -163,43 +116,3 @@ pub record HasEmitted (tellings : List LogOutputState) (old new : Report) : Type
   pub passive : new.passive ≡ old.passive
   pub manner : new.manner ≡ Verdicts
   pub left_out : new.left_out ≡ old.left_out
-
--- the log of an end that is told goes on, by the same settings
-abbrev pub KeepsLog : Report → Report → Type 0
-KeepsLog old new =
-    (j : WrittenLog) → old.manner ≡ Log j
-    → (next : WrittenLog) × (new.manner ≡ Log next) × (next.settings ≡ j.settings) × (next.side ≡ j.side) × (new.active ≡ old.active) × (new.passive ≡ old.passive)
-
-unfoldable pub Emits : Report → Report → Type 0
-Emits old new = (old.manner ≡ Verdicts → (tellings : List LogOutputState) × HasEmitted tellings old new) × KeepsLog old new
-
--- the same behind a packet that may have been left out
-abbrev pub TellsBehind : Report → Report → Type 0
-TellsBehind old new = (counts : LeftOut) × Emits (record old { left_out = counts }) new
-
--- their lines were written, and none is left on the page
-pub record HasWritten (tellings : List LogOutputState) (old : Report) (before : Option (List ℕ)) (new : Report) (after : Option (List ℕ)) : Type 0 where
-  pub lines : Grows before after (lines_of old.active.role old.passive.role tellings)
-  pub found : found_of new ≡ found_behind (found_of old) tellings
-  pub active : new.active ≡ old.active
-  pub passive : new.passive ≡ old.passive
-  pub manner : new.manner ≡ Verdicts
-  pub page : new.page.octets ≡ []
-
-unfoldable pub Writes : Report → Option (List ℕ) → Report → Option (List ℕ) → Type 0
-Writes old before new after =
-    old.manner ≡ Verdicts → old.page.octets ≡ [] → (tellings : List LogOutputState) × HasWritten tellings old before new after
-
--- the connections that were left are told, then what was left out, and this is answered
-abbrev pub Concludes : Option Shortfall → Report → Report → Result Bool Stop → Type 0
-Concludes missing old new result =
-    old.manner ≡ Verdicts → (tellings : List LogOutputState) × (left_out : LeftOut)
-    × (new.page.octets ≡ old.page.octets ++ (lines_of old.active.role old.passive.role tellings ++ line_of left_out))
-    × Finishes (found_behind (found_with (found_of old) missing) tellings) result
-
--- their lines were written
-abbrev pub EndsWith : Option Shortfall → Report → Option (List ℕ) → Option (List ℕ) → Result Bool ToolFault → Type 0
-EndsWith missing old before after result =
-    old.manner ≡ Verdicts → old.page.octets ≡ [] → (tellings : List LogOutputState) × (left_out : LeftOut)
-    × Grows before after (lines_of old.active.role old.passive.role tellings ++ line_of left_out)
-    × Answers (found_behind (found_with (found_of old) missing) tellings) result

@@ -22,11 +22,6 @@ abbrev pub IsRefusalOf : Shortfall → Stop → Type 0
 IsRefusalOf shortfall (stop.Refused words) = TellsShortfall shortfall (string_bytes words)
 IsRefusalOf shortfall stop.Memory = Unit {0}
 
--- what comes is refused
-abbrev pub IsRefused : Stop → Type 0
-IsRefused (stop.Refused words) = Unit {0}
-IsRefused stop.Memory = ⊥
-
 -- holds if the command rejects the capture
 abbrev pub IsRefusal : ToolFault → Type 0
 IsRefusal (tool.Refused words) = Unit {0}

@@ -2,15 +2,20 @@
 
 ghost use Rattle.std.specs.Prelude.{◌≡◌, ◌++◌, [], IfErr, IfOk, OnOk, Ok, Err, None, codes};
 ghost use Rattle.hsms_frame.specs.Io.{IfRecorded};
-ghost use Rattle.cli_output.specs.IoErrors.{CountsFailure, HasWord, IsReadWriteOrEndless};
-ghost use Rattle.cli_capture.specs.Command.{CapturesTo, GrowsBySome, HasMany, IsEndless, IsMissingBy};
+ghost use Rattle.cli_output.specs.IoErrors.{CountsFailure, IsReadWriteOrEndless};
+ghost use Rattle.cli_output.specs.InnerIoErrors.{HasWord};
+ghost use Rattle.cli_capture.specs.Command.{CapturesTo, GrowsBySome, HasMany, IsEndless};
+ghost use Rattle.cli_capture.specs.InnerCommand.{IsMissingBy};
 ghost use Rattle.cli_capture.specs.FileDispatch.{CapturesFile};
-ghost use Rattle.cli_capture.specs.TableInvariant.{ConcludesAsDealt, FinishesAsDealt, PutsAsDealt, ReadsAsDealt, ShowsAsDealt, wanted_of};
-ghost use Rattle.cli_capture.specs.LogRejectionFile.{ConcludesAsRefused, FinishesAsRefused, PutsAsRefused, ReadsAsRefused, RefusesFile, ShowsAsRefused};
-ghost use Rattle.cli_capture.specs.Report.{Concludes, EndsWith, FailsUnrefused, StopsUnrefused, TellsBehind, Writes};
+ghost use Rattle.cli_capture.specs.TableInvariant.{wanted_of};
+ghost use Rattle.cli_capture.specs.InnerTableInvariant.{ConcludesAsDealt, FinishesAsDealt, PutsAsDealt, ReadsAsDealt, ShowsAsDealt};
+ghost use Rattle.cli_capture.specs.LogRejectionFile.{RefusesFile};
+ghost use Rattle.cli_capture.specs.InnerLogRejectionFile.{ConcludesAsRefused, FinishesAsRefused, PutsAsRefused, ReadsAsRefused, ShowsAsRefused};
+ghost use Rattle.cli_capture.specs.InnerReport.{Concludes, EndsWith, FailsUnrefused, StopsUnrefused, TellsBehind, Writes};
 ghost use Rattle.cli_capture.specs.declared.report.OutputMode.TheVariants.{Verdicts};
 ghost use Rattle.cli_capture.specs.Segments.{body_in};
-ghost use Rattle.cli_capture.specs.StopError.{IsRefusal, IsRefused};
+ghost use Rattle.cli_capture.specs.StopError.{IsRefusal};
+ghost use Rattle.cli_capture.specs.InnerStopError.{IsRefused};
 
 use crate::connection_table::{Capture, Table};
 use crate::incomplete::Shortfall;

@@ -2,13 +2,14 @@
 
 ghost use Rattle.std.specs.Prelude.{◌≡◌, ◌↔◌, ◌<◌, ℕ, IfNone, IfSome, IsTrue, [], true, false, IfErr, IfOk, OnOk, Some};
 ghost use Rattle.cli_capture.specs.Segments.{has_flag, taken_segment, syn_by, IsPairAt};
-ghost use Rattle.cli_capture.specs.ConnectionState.{IsForgotten};
-ghost use Rattle.cli_capture.specs.ConnectionTable.{HasTime, BeginsFlow, BeginsWith, EndsFlows, FollowsFlow, HasFlow, HasOne, IsRunning, Joins, LooksAt, KeepsOf, ReplacesFlow, TakesOf, TakesPacket, is_live};
-ghost use Rattle.cli_capture.specs.TableInvariant.{EndsAsDealt, TakesAsDealt};
-ghost use Rattle.cli_capture.specs.LogRejectionFile.{EndsAsRefused, TakesAsRefused};
-ghost use Rattle.cli_capture.specs.LogRejectionTable.{FollowsFlowRefused, ReplacesRefused, StartsRefused, TakesOfRefused};
-ghost use Rattle.cli_capture.specs.StopError.{IsRefused};
-ghost use Rattle.cli_capture.specs.Report.{StopsUnrefused, Emits};
+ghost use Rattle.cli_capture.specs.InnerConnectionState.{IsForgotten};
+ghost use Rattle.cli_capture.specs.ConnectionTable.{HasTime, KeepsOf};
+ghost use Rattle.cli_capture.specs.InnerConnectionTable.{BeginsFlow, BeginsWith, EndsFlows, FollowsFlow, HasFlow, HasOne, IsRunning, Joins, LooksAt, ReplacesFlow, TakesOf, TakesPacket, is_live};
+ghost use Rattle.cli_capture.specs.InnerTableInvariant.{EndsAsDealt, TakesAsDealt};
+ghost use Rattle.cli_capture.specs.InnerLogRejectionFile.{EndsAsRefused, TakesAsRefused};
+ghost use Rattle.cli_capture.specs.InnerLogRejectionTable.{FollowsFlowRefused, ReplacesRefused, StartsRefused, TakesOfRefused};
+ghost use Rattle.cli_capture.specs.InnerStopError.{IsRefused};
+ghost use Rattle.cli_capture.specs.InnerReport.{StopsUnrefused, Emits};
 
 use crate::incomplete::Shortfall;
 use crate::report::Report;

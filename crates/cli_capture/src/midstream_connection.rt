@@ -2,12 +2,15 @@
 
 ghost use Rattle.std.specs.Prelude.{◌≡◌, ◌-◌, IfErr, IfOk, OnOk, map};
 ghost use Rattle.capture_log.specs.declared.stop.Stop.TheVariants.{Memory};
-ghost use Rattle.cli_capture.specs.MidstreamLog.{HearsEach, IsQuiet};
-ghost use Rattle.cli_capture.specs.MidstreamSync.{TakesThrough, brought};
-ghost use Rattle.cli_capture.specs.LogRejectionMidstream.{EachRefused, FinishRefused, PacketRefused, PacketsRefused, ReplaceRefused, WithinEndRefused};
-ghost use Rattle.cli_capture.specs.Report.{StopsUnrefused, Emits};
-ghost use Rattle.cli_capture.specs.MidstreamConnection.{BeginsWithin, EndsWithin, Opens, TakesCut, TakesWithin, begin_at, cut_by, ending_in, over_as};
-ghost use Rattle.cli_capture.specs.MidstreamOutput.{FinishesAs, ReplacedAs, in_capture, uncaptured};
+ghost use Rattle.cli_capture.specs.InnerMidstreamLog.{HearsEach, IsQuiet};
+ghost use Rattle.cli_capture.specs.MidstreamSync.{brought};
+ghost use Rattle.cli_capture.specs.InnerMidstreamSync.{TakesThrough};
+ghost use Rattle.cli_capture.specs.InnerLogRejectionMidstream.{EachRefused, FinishRefused, PacketRefused, PacketsRefused, ReplaceRefused, WithinEndRefused};
+ghost use Rattle.cli_capture.specs.InnerReport.{StopsUnrefused, Emits};
+ghost use Rattle.cli_capture.specs.MidstreamConnection.{begin_at, cut_by, ending_in};
+ghost use Rattle.cli_capture.specs.InnerMidstreamConnection.{BeginsWithin, EndsWithin, Opens, TakesCut, TakesWithin, over_as};
+ghost use Rattle.cli_capture.specs.MidstreamOutput.{in_capture, uncaptured};
+ghost use Rattle.cli_capture.specs.InnerMidstreamOutput.{FinishesAs, ReplacedAs};
 
 use crate::bare_resets::{note_reset, time_of};
 use crate::incomplete::Shortfall;

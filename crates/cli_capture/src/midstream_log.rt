@@ -1,9 +1,9 @@
 //! What is told of a session that was running before the capture.
 
 ghost use Rattle.std.specs.Prelude.{◌≡◌, IfErr, OnOk};
-ghost use Rattle.cli_capture.specs.MidstreamLog.{IsQuiet};
+ghost use Rattle.cli_capture.specs.InnerMidstreamLog.{IsQuiet};
 ghost use Rattle.cli_capture.specs.Assumptions.{counts_by, other_side, said_by};
-ghost use Rattle.cli_capture.specs.Report.{StopsUnrefused, Emits};
+ghost use Rattle.cli_capture.specs.InnerReport.{StopsUnrefused, Emits};
 
 use crate::incomplete::Shortfall;
 use crate::pending_requests::Said;
@@ -89,14 +89,17 @@ impl Joined {
     ghost use Rattle.cli_capture.specs.declared.report.OutputMode.TheVariants.{Log, Verdicts};
     ghost use Rattle.cli_capture.specs.declared.pending_requests.Said.{Said};
     ghost use Rattle.cli_capture.specs.OutputMode.{Way};
-    ghost use Rattle.cli_capture.specs.TrackedConnection.{Replaces, WhenTold, unboxed_ends};
-    ghost use Rattle.cli_capture.specs.MidstreamItems.{TakesItems, leaves_out};
-    ghost use Rattle.cli_capture.specs.MidstreamLog.{Decides, HearsItem, HearsNext, HearsOn, IsNew, IsPartOf, IsQuiet, Settles, TellsPart, TellsThem, Waits, SettlesAndTells, come_items_if, end_course, ends_if, left_items, left_packets};
-    ghost use Rattle.cli_capture.specs.LogOutput.{CountsIf, GoesDown};
+    ghost use Rattle.cli_capture.specs.TrackedConnection.{WhenTold};
+    ghost use Rattle.cli_capture.specs.InnerTrackedConnection.{Replaces, unboxed_ends};
+    ghost use Rattle.cli_capture.specs.MidstreamItems.{leaves_out};
+    ghost use Rattle.cli_capture.specs.InnerMidstreamItems.{TakesItems};
+    ghost use Rattle.cli_capture.specs.InnerMidstreamLog.{Decides, HearsItem, HearsNext, HearsOn, IsNew, IsPartOf, IsQuiet, Settles, TellsPart, TellsThem, Waits, SettlesAndTells, come_items_if, end_course, ends_if, left_items, left_packets};
+    ghost use Rattle.cli_capture.specs.LogOutput.{CountsIf};
+    ghost use Rattle.cli_capture.specs.InnerLogOutput.{GoesDown};
     ghost use Rattle.capture_log.specs.Stop.{IsNoRefusal};
-    ghost use Rattle.cli_capture.specs.LogRejection.{HearsRefused, LacksRefused};
-    ghost use Rattle.cli_capture.specs.LogRejectionMidstream.{ComesUpRefused, DecidesRefused, EachRefused, SettlesAndTellsRefused, HearsNextRefused, PartRefused, SettlesRefused, TellsRefused, UndecidedRefused};
-    ghost use Rattle.cli_capture.specs.Report.{StopsUnrefused, Emits, TellsBy};
+    ghost use Rattle.cli_capture.specs.InnerLogRejection.{HearsRefused, LacksRefused};
+    ghost use Rattle.cli_capture.specs.InnerLogRejectionMidstream.{ComesUpRefused, DecidesRefused, EachRefused, SettlesAndTellsRefused, HearsNextRefused, PartRefused, SettlesRefused, TellsRefused, UndecidedRefused};
+    ghost use Rattle.cli_capture.specs.InnerReport.{StopsUnrefused, Emits, TellsBy};
     ghost use Rattle.cli_capture.specs.PendingRequests.{KnowsBoth, Spoken, spoken_to, with_message};
     ghost use Rattle.cli_capture.specs.Assumptions.{asked_by, supposed_messages};
 

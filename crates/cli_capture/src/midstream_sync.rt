@@ -2,10 +2,11 @@
 
 ghost use Rattle.std.specs.Prelude.{IfErr, IfOk, IsTrue, OnOk, ◌↔◌};
 ghost use Rattle.capture_midstream.specs.PacketBuffer.{AreSure};
-ghost use Rattle.cli_capture.specs.MidstreamSync.{BeginsWith, GathersOn, TakesFrom};
-ghost use Rattle.cli_capture.specs.LogRejection.{InLog};
-ghost use Rattle.cli_capture.specs.LogRejectionMidstream.{BeginRefused, FromRefused, GatherRefused};
-ghost use Rattle.cli_capture.specs.Report.{StopsUnrefused, Emits, session_of};
+ghost use Rattle.cli_capture.specs.InnerMidstreamSync.{BeginsWith, GathersOn, TakesFrom};
+ghost use Rattle.cli_capture.specs.InnerLogRejection.{InLog};
+ghost use Rattle.cli_capture.specs.InnerLogRejectionMidstream.{BeginRefused, FromRefused, GatherRefused};
+ghost use Rattle.cli_capture.specs.Report.{session_of};
+ghost use Rattle.cli_capture.specs.InnerReport.{StopsUnrefused, Emits};
 
 use crate::midstream_connection::{Within, take_all};
 use crate::report::Report;

@@ -48,18 +48,21 @@ impl Report {
     ghost use Rattle.cli_capture.specs.declared.report.OutputMode.TheVariants.{Log};
     ghost use Rattle.cli_capture.specs.Progress.{course_behind};
     ghost use Rattle.cli_capture.specs.declared.progress.Progress.TheVariants.{Proceeds};
-    ghost use Rattle.cli_capture.specs.TrackedConnection.{Begins, HearsOn, Replaces, TellsOnce};
-    ghost use Rattle.cli_capture.specs.MidstreamItems.{TakesItems, comes_up, leaves_out, most_of, supposes};
-    ghost use Rattle.cli_capture.specs.MidstreamLog.{HearsItem};
-    ghost use Rattle.cli_capture.specs.LogOutput.{GoesDown, LogsThem};
-    ghost use Rattle.cli_capture.specs.LogRejection.{HearsRefused, LacksRefused};
-    ghost use Rattle.cli_capture.specs.LogRejectionMidstream.{CantComeUp};
+    ghost use Rattle.cli_capture.specs.TrackedConnection.{TellsOnce};
+    ghost use Rattle.cli_capture.specs.InnerTrackedConnection.{Begins, HearsOn, Replaces};
+    ghost use Rattle.cli_capture.specs.MidstreamItems.{comes_up, leaves_out, supposes};
+    ghost use Rattle.cli_capture.specs.InnerMidstreamItems.{TakesItems, most_of};
+    ghost use Rattle.cli_capture.specs.InnerMidstreamLog.{HearsItem};
+    ghost use Rattle.cli_capture.specs.InnerLogOutput.{GoesDown, LogsThem};
+    ghost use Rattle.cli_capture.specs.InnerLogRejection.{HearsRefused, LacksRefused};
+    ghost use Rattle.cli_capture.specs.InnerLogRejectionMidstream.{CantComeUp};
     ghost use Rattle.cli_capture.specs.FileDispatch.{BeginsAs};
     ghost use Rattle.cli_capture.specs.TableInvariant.{way_of};
     ghost use Rattle.cli_capture.specs.SkippedPackets.{line_of, none_left_out};
     ghost use Rattle.cli_capture.specs.VerdictLine.{end_line_of};
-    ghost use Rattle.cli_capture.specs.StopError.{IsRefused};
-    ghost use Rattle.cli_capture.specs.Report.{Finishes, IsReported, StopsUnrefused, Emits, TellsBy, TellsVerdicts, failed_after, first_of, found_of, missing_after, nothing_found, role_at, session_of};
+    ghost use Rattle.cli_capture.specs.InnerStopError.{IsRefused};
+    ghost use Rattle.cli_capture.specs.Report.{failed_after, first_of, found_of, missing_after, nothing_found, session_of};
+    ghost use Rattle.cli_capture.specs.InnerReport.{Finishes, IsReported, StopsUnrefused, Emits, TellsBy, TellsVerdicts, role_at};
 
     /// Nothing is told yet.
     pub fn new(alloc: Global, options: &Capturing) -> Report

@@ -11,8 +11,9 @@ use Rattle.explain_lines.specs.declared.explained_line.Carried.{Carried}
 use Rattle.explain_lines.specs.declared.explained_line.Carried.TheVariants as carried
 use Rattle.explain_lines.specs.Counted.{counted}
 use Rattle.explain_session.specs.RepairedSession.{CurrentState, HasProgress}
-use Rattle.explain_session.specs.RepairedLines.{ContinuesWith, RepairsLine, LinePuts, LinesPut}
-use Rattle.cli_explain.specs.LinesProcessed.{IsShown}
+use Rattle.explain_session.specs.RepairedLines.{LinePuts, LinesPut}
+use Rattle.explain_session.specs.InnerRepairedLines.{ContinuesWith, RepairsLine}
+use Rattle.cli_explain.specs.InnerLinesProcessed.{IsShown}
 use Rattle.explain_lines.specs.CarriedLine.{IsCarried}
 use Rattle.explain_session.specs.RepairSteps.{put_of}
 use Rattle.hsms_log.specs.Step.{entry_by}

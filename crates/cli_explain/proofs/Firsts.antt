@@ -26,14 +26,16 @@ use Rattle.explain_statistics.specs.declared.failure_counts.Tally.{Tally}
 use Rattle.explain_lines.specs.declared.explained_line.ExplainedLine.{ExplainedLine}
 use Rattle.cli_explain.specs.declared.line_filter.Window.{Window}
 use Rattle.explain_statistics.specs.FailureGroups.{Fault, HasGroups}
-use Rattle.explain_statistics.specs.FirstFailure.{FailsFirst, failed_at, unjudged_by, verdict_by}
-use Rattle.cli_explain.specs.FirstFailureOutput.{IsBeingWritten, IsFirstWritten, IsOfFirst, IsWritten, KeepsShown, ShowsWith, WritesFailure, WritesFirstFailure}
+use Rattle.explain_statistics.specs.FirstFailure.{failed_at, unjudged_by, verdict_by}
+use Rattle.explain_statistics.specs.InnerFirstFailure.{FailsFirst}
+use Rattle.cli_explain.specs.FirstFailureOutput.{WritesFailure, WritesFirstFailure}
+use Rattle.cli_explain.specs.InnerFirstFailureOutput.{IsBeingWritten, IsFirstWritten, IsOfFirst, IsWritten, KeepsShown, ShowsWith}
 use Rattle.explain_statistics.specs.EntryCounts.{counts_of}
-use Rattle.cli_explain.specs.LinesProcessed.{UnjudgedAfter}
+use Rattle.cli_explain.specs.InnerLinesProcessed.{UnjudgedAfter}
 use Rattle.explain_statistics.specs.GroupedAnnotations.{faults_with}
 use Rattle.explain_lines.specs.AnnotatedFailure.{first_whole, is_whole, either, first_why}
 use Rattle.explain_forms.specs.OutputBuffer.{AddsSome, HasEmitted}
-use Rattle.cli_explain.specs.LineFilter.{NoneBefore, TakesLine, WritesFirst, is_written_at_once}
+use Rattle.cli_explain.specs.InnerLineFilter.{NoneBefore, TakesLine, WritesFirst, is_written_at_once}
 use Rattle.explain_forms.proofs.OutputBuffers.{adds_none}
 
 -- ---- annotations

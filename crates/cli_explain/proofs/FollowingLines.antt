@@ -20,12 +20,14 @@ use Rattle.explain_statistics.specs.declared.failure_counts.Tally.{Tally}
 use Rattle.explain_lines.specs.declared.explained_line.Carried.{Carried}
 use Rattle.explain_lines.specs.declared.explained_line.Carried.TheVariants as carried
 use Rattle.explain_lines.specs.Counted.{counted}
-use Rattle.explain_statistics.specs.EntryCounts.{counts_of, one_more, with_entry, with_carried}
+use Rattle.explain_statistics.specs.EntryCounts.{counts_of, one_more, with_entry}
+use Rattle.explain_statistics.specs.InnerEntryCounts.{with_carried}
 use Rattle.explain_session.specs.RepairedSession.{CurrentState, HasProgress}
-use Rattle.explain_statistics.specs.FirstFailure.{FailsFirst, failed_at}
-use Rattle.cli_explain.specs.LinesProcessed.{IsShown, Tracks, TracksOrFails, BeginsOrFails}
+use Rattle.explain_statistics.specs.FirstFailure.{failed_at}
+use Rattle.explain_statistics.specs.InnerFirstFailure.{FailsFirst}
+use Rattle.cli_explain.specs.InnerLinesProcessed.{IsShown, Tracks, TracksOrFails, BeginsOrFails}
 use Rattle.explain_lines.specs.AnnotatedFailure.{either}
-use Rattle.explain_session.specs.EntryFailure.{LineFailsBy}
+use Rattle.explain_session.specs.InnerEntryFailure.{LineFailsBy}
 use Rattle.explain_lines.specs.CarriedLine.{IsCarried}
 use Rattle.hsms_log.specs.Step.{entry_by}
 

@@ -10,8 +10,9 @@ use Rattle.cli_options.specs.declared.fault.ToolFault.TheVariants.{Refused, Devi
 use Rattle.cli_output.specs.IoErrors.{CountsFailure, LeavesPart, IsReadWriteOrEndless, IsWrite}
 use Rattle.cli_explain.specs.declared.explainer.Explainer.{Explainer}
 use Rattle.cli_explain.specs.VerdictOutput.{ending_of}
-use Rattle.cli_explain.specs.Explain.{GrowsBySome, EndsWithVerdict, Concludes, ExplainsTo, IsOfExplaining}
-use Rattle.cli_explain.specs.LinesProcessed.{HasProcessed}
+use Rattle.cli_explain.specs.Explain.{GrowsBySome, EndsWithVerdict, Concludes, ExplainsTo}
+use Rattle.cli_explain.specs.InnerExplain.{IsOfExplaining}
+use Rattle.cli_explain.specs.InnerLinesProcessed.{HasProcessed}
 
 -- ---- what was written
 

@@ -5,7 +5,7 @@ use Rattle.explain_lines.specs.declared.annotation.Note.{Note}
 use Rattle.explain_forms.specs.declared.output_buffer.Page.{Page}
 use Rattle.explain_lines.specs.declared.explained_line.ExplainedLine.{ExplainedLine}
 use Rattle.explain_forms.specs.OutputBuffer.{Adds, AddsSome}
-use Rattle.cli_explain.specs.LineFilter.{EndsWith, TakesLine, WritesNext, left_out}
+use Rattle.cli_explain.specs.InnerLineFilter.{EndsWith, TakesLine, WritesNext, left_out}
 use Rattle.explain_forms.specs.TextOutput.{LineWritten, gap_text}
 use Rattle.explain_forms.proofs.OutputBuffers.{adds_is, adds_none, adds_then}
 

@@ -14,8 +14,8 @@ use Rattle.cli_explain.specs.declared.audit_state.Stage.{Stage}
 use Rattle.explain_statistics.specs.declared.failure_counts.Failed.{Failed}
 use Rattle.explain_statistics.specs.declared.failure_counts.Tally.{Tally}
 use Rattle.explain_statistics.specs.EntryCounts.{counts_of}
-use Rattle.explain_statistics.specs.FirstFailure.{FailsFirst}
-use Rattle.cli_explain.specs.LinesProcessed.{HasProcessed, IsShown, ProcessedAfter, UnjudgedAfter, limit_at}
+use Rattle.explain_statistics.specs.InnerFirstFailure.{FailsFirst}
+use Rattle.cli_explain.specs.InnerLinesProcessed.{HasProcessed, IsShown, ProcessedAfter, UnjudgedAfter, limit_at}
 
 none_of : HasNone 10 []
 none_of = All-nil (λ x. eqb x 10 ≡ false)

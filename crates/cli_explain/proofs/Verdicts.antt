@@ -14,8 +14,9 @@ use Rattle.explain_session.specs.declared.context.Known.{Known}
 use Rattle.explain_statistics.specs.declared.failure_counts.Failed.{Failed}
 use Rattle.explain_lines.specs.Counted.{counted}
 use Rattle.explain_statistics.specs.EntryCounts.{counts_of}
-use Rattle.explain_statistics.specs.FirstFailure.{FailsFirst, unjudged_by, verdict_by}
-use Rattle.cli_explain.specs.LinesProcessed.{Tracks}
+use Rattle.explain_statistics.specs.FirstFailure.{unjudged_by, verdict_by}
+use Rattle.explain_statistics.specs.InnerFirstFailure.{FailsFirst}
+use Rattle.cli_explain.specs.InnerLinesProcessed.{Tracks}
 
 -- ---- counts that are exact
 

@@ -1,5 +1,5 @@
 -- The result of `hsms explain` for an input, and the minimum output.
-use Rattle.std.specs.Prelude.{◌≡◌, ◌++◌, ℕ, List, [], codes, Bool, Option, Some, Result, Ok, Err}
+use Rattle.std.specs.Prelude.{◌≡◌, ◌++◌, ℕ, List, [], Bool, Option, Some, Result, Ok, Err}
 use Rattle.hsms_frame.specs.Io.{IfRecorded}
 use Rattle.hsms_log.specs.Verdict.{HasAuditVerdict}
 use Rattle.hsms_log.specs.declared.verdict.Verdict.{Verdict}
@@ -33,9 +33,3 @@ ExplainsTo form input (Ok passes) left ended old new = Concludes form input pass
 ExplainsTo form input (Err (Refused words)) left ended old new = ⊥
 ExplainsTo form input (Err (Device word)) left ended old new = LeavesPart input left × GrowsBySome old new
 ExplainsTo form input (Err Memory) left ended old new = LeavesPart input left × GrowsBySome old new
-
--- An error of the output: a write or an allocation failed.
-abbrev pub IsOfExplaining : ToolFault → Type 0
-IsOfExplaining (Device word) = word.now ≡ codes "Write"
-IsOfExplaining (Refused words) = ⊥
-IsOfExplaining Memory = Unit {0}

@@ -1,5 +1,7 @@
 pub mod Explain
+pub mod InnerExplain
 pub mod FirstFailureOutput
-pub mod LineFilter
-pub mod LinesProcessed
+pub mod InnerFirstFailureOutput
+pub mod InnerLineFilter
+pub mod InnerLinesProcessed
 pub mod VerdictOutput

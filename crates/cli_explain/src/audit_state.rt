@@ -1,7 +1,7 @@
 //! State of the audit of a log.
 
 ghost use Rattle.std.specs.Prelude.{◌≡◌, ◌≤◌};
-ghost use Rattle.cli_explain.specs.LinesProcessed.{limit_at};
+ghost use Rattle.cli_explain.specs.InnerLinesProcessed.{limit_at};
 
 use explain_lines::{SETTINGS_LIMIT, limit_of};
 use explain_session::Known;

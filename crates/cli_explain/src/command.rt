@@ -5,9 +5,11 @@ ghost use Rattle.hsms_frame.specs.Io.{IfRecorded};
 ghost use Rattle.hsms_log.specs.Auditing.{HasEnded};
 ghost use Rattle.cli_output.specs.Verdict.{is_pass};
 ghost use Rattle.cli_output.specs.IoErrors.{CountsFailure, IsReadWriteOrEndless};
-ghost use Rattle.cli_explain.specs.Explain.{Concludes, ExplainsTo, GrowsBySome, IsOfExplaining};
-ghost use Rattle.cli_explain.specs.FirstFailureOutput.{IsBeingWritten, IsWritten, WritesFirstFailure};
-ghost use Rattle.cli_explain.specs.LinesProcessed.{HasProcessed};
+ghost use Rattle.cli_explain.specs.Explain.{Concludes, ExplainsTo, GrowsBySome};
+ghost use Rattle.cli_explain.specs.InnerExplain.{IsOfExplaining};
+ghost use Rattle.cli_explain.specs.FirstFailureOutput.{WritesFirstFailure};
+ghost use Rattle.cli_explain.specs.InnerFirstFailureOutput.{IsBeingWritten, IsWritten};
+ghost use Rattle.cli_explain.specs.InnerLinesProcessed.{HasProcessed};
 ghost use Rattle.cli_options.specs.declared.explain_options.Excerpt.{Excerpt as Asked};
 
 use crate::explainer::Explainer;

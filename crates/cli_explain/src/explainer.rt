@@ -38,8 +38,8 @@ impl Explainer {
     ghost use Rattle.hsms_log.specs.Lines.{HasNone, lines_of};
     ghost use Rattle.hsms_log.specs.Verdict.{HasAuditVerdict, LinesAudited};
     ghost use Rattle.cli_options.specs.declared.explain_options.OutputFormat.TheVariants.{Text};
-    ghost use Rattle.cli_explain.specs.FirstFailureOutput.{IsOfFirst, KeepsShown, ShowsWith};
-    ghost use Rattle.cli_explain.specs.LinesProcessed.{HasProcessed, ProcessedAfter};
+    ghost use Rattle.cli_explain.specs.InnerFirstFailureOutput.{IsOfFirst, KeepsShown, ShowsWith};
+    ghost use Rattle.cli_explain.specs.InnerLinesProcessed.{HasProcessed, ProcessedAfter};
 
     /// Creates an explainer that has read nothing.
     pub fn new(alloc: Global, excerpt: Excerpt) -> Result<Explainer, AllocError>

@@ -72,7 +72,7 @@ impl Window {
     ghost use Rattle.cli_options.specs.declared.explain_options.OutputFormat.TheVariants.{Text};
     ghost use Rattle.explain_lines.specs.AnnotatedFailure.{is_whole};
     ghost use Rattle.explain_forms.specs.OutputBuffer.{Adds, AddsSome};
-    ghost use Rattle.cli_explain.specs.LineFilter.{TakesLine, WritesNext, further_lines_after, is_written_at_once, left_out};
+    ghost use Rattle.cli_explain.specs.InnerLineFilter.{TakesLine, WritesNext, further_lines_after, is_written_at_once, left_out};
 
     /// Creates a filter that has written no line.
     pub fn new(alloc: Global, excerpt: Excerpt) -> Window

@@ -2,8 +2,8 @@
 
 ghost use Rattle.std.specs.Prelude.{◌<◌, ◌++◌, ◌∷◌, [], ℕ, List, OnOk, IfOk};
 ghost use Rattle.hsms_log.specs.LineFormat.{line_limit, settings_limit};
-ghost use Rattle.cli_explain.specs.FirstFailureOutput.{KeepsShown};
-ghost use Rattle.cli_explain.specs.LinesProcessed.{IsShown, KnownAfter, ProcessedAfter, UnjudgedAfter, limit_at};
+ghost use Rattle.cli_explain.specs.InnerFirstFailureOutput.{KeepsShown};
+ghost use Rattle.cli_explain.specs.InnerLinesProcessed.{IsShown, KnownAfter, ProcessedAfter, UnjudgedAfter, limit_at};
 
 use crate::audit_state::Stage;
 use crate::report::Report;

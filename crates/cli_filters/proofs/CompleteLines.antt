@@ -4,7 +4,7 @@ use Rattle.std.specs.Prelude.{Option}
 use Rattle.std.proofs.lemmas.List.{append-nil, append_assoc, length-append, take-append-drop, take_at}
 use Rattle.std.proofs.lemmas.Bool.Decides.{nat_tests}
 use Rattle.hsms_frame.specs.Io.{IfRecorded, Takes, IsAtEnd, ends_after}
-use Rattle.cli_filters.specs.Encode.{IsReadPast}
+use Rattle.cli_filters.specs.InnerEncode.{IsReadPast}
 
 -- Holds if these bytes were read, and the others are left.
 abbrev pub ReadSoFar : Option (List ℕ) → Option (List ℕ) → List ℕ → Type 0

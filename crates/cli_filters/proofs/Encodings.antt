@@ -11,7 +11,8 @@ use Rattle.cli_filters.specs.declared.encode_error.EncodeError.TheVariants as en
 use Rattle.secs_text.specs.Fault.{NotesFault}
 use Rattle.secs_text.specs.declared.fault.TextFault.TheVariants as text
 use Rattle.cli_filters.specs.declared.encode_error.Refusal.{Refusal}
-use Rattle.cli_filters.specs.Encode.{AreFrames, EncodesAll, IsPartOfInput, IsWholeInput, ParsesMessages, input_limit, Encodes, FrameOf, FirstWithoutFrame, Frames, IsNotEncoded, WritesOut, next_system, output_of, outputs_of, system_after}
+use Rattle.cli_filters.specs.Encode.{EncodesAll, IsPartOfInput, IsWholeInput, ParsesMessages, input_limit, Encodes, FrameOf, FirstWithoutFrame, next_system, output_of}
+use Rattle.cli_filters.specs.InnerEncode.{AreFrames, Frames, IsNotEncoded, WritesOut, outputs_of, system_after}
 
 next_system-suc : (system n : ℕ) → next_system (system_after system n) ≡ system_after system (suc n)
 next_system-suc system zero = refl

@@ -10,7 +10,8 @@ use Rattle.hsms_frame.specs.Frame.{Frame, frame_octets}
 use Rattle.hsms_frame.specs.declared.header.Header.{Header}
 use Rattle.cli_filters.specs.declared.encode_error.Refusal.{Refusal}
 use Rattle.cli_filters.specs.declared.encode_error.Refusal.TheVariants.{TooLarge, TooLong}
-use Rattle.cli_filters.specs.Encode.{Encodes, FrameOf, Frames, TextOf, next_system, system_after}
+use Rattle.cli_filters.specs.Encode.{Encodes, FrameOf, TextOf, next_system}
+use Rattle.cli_filters.specs.InnerEncode.{Frames, system_after}
 use Rattle.cli_filters.proofs.Encodings.{Encodes-push, next_system-system_after}
 
 -- The text that is given for a message is its text.

@@ -12,7 +12,7 @@ use Rattle.cli_output.specs.LineBuffer.{GrowsHolding}
 use Rattle.cli_output.specs.Line.{hex_line}
 use Rattle.hsms_log.proofs.Parts.{front_of_first, halves}
 use Rattle.cli_show.proofs.Runs.{holding_front, holding_out, holding_then}
-use Rattle.cli_filters.specs.Encode.{AreFrames, outputs_of}
+use Rattle.cli_filters.specs.InnerEncode.{AreFrames, outputs_of}
 
 -- ---- the start of frames
 

@@ -1,5 +1,5 @@
 -- What `hsms encode` writes for an input.
-use Rattle.std.specs.Prelude.{◌≡◌, ◌<◌, ◌≤◌, ◌+◌, ◌%◌, ◌^◌, ◌⊎◌, ◌++◌, ℕ, zero, suc, Bool, false, List, [], ◌∷◌, length, if◌then◌else◌, Option, Some, None, Result, Ok, Err}
+use Rattle.std.specs.Prelude.{◌≡◌, ◌<◌, ◌≤◌, ◌+◌, ◌%◌, ◌^◌, ◌⊎◌, ◌++◌, ℕ, Bool, List, [], ◌∷◌, length, if◌then◌else◌, Option, Some, None, Result, Ok, Err}
 use Rattle.hex.specs.Hex.{encode_lower}
 use Rattle.secs_item.specs.Item.{Value}
 use Rattle.secs_item.specs.ShortestEncoding.{short}
@@ -49,10 +49,6 @@ HasNoFrame max m (TooLong n) =
 abbrev pub next_system : ℕ → ℕ
 next_system system = (system + 1) % 2 ^ 32
 
-abbrev pub system_after : ℕ → ℕ → ℕ
-system_after system zero = system
-system_after system (suc n) = system_after (next_system system) n
-
 -- What is written of messages, with system bytes counted up from the first.
 abbrev pub Encodes : ℕ → ℕ → Bool → ℕ → List Content → List ℕ → Type 0
 Encodes device max hex system [] output = output ≡ []
@@ -69,32 +65,6 @@ pub record FirstWithoutFrame (device max : ℕ) (hex : Bool) (system : ℕ) (ms 
   pub output : List ℕ
   pub encoded : Encodes device max hex system before output
   pub refused : HasNoFrame max message why
-
--- ---- consecutive frames
-
--- Holds if these are the bytes of consecutive frames. The first four of each count the others.
-abbrev pub AreFrames : List Frame → List ℕ → Type 0
-AreFrames [] octets = octets ≡ []
-AreFrames (f ∷ fs) octets =
-    (rest : List ℕ) × (10 + length f.text < 2 ^ 32) × AreFrames fs rest × (octets ≡ frame_octets f ++ rest)
-
--- What is written of frames.
-abbrev pub outputs_of : Bool → List Frame → List ℕ
-outputs_of hex [] = []
-outputs_of hex (f ∷ fs) = output_of hex f ++ outputs_of hex fs
-
--- Holds if a text is written, or a part of it if the write fails, or nothing if an allocation fails.
-abbrev pub WritesOut : List ℕ → Result (Unit {0}) EncodeError → Option (List ℕ) → Option (List ℕ) → Type 0
-WritesOut output (Ok _) old new = Grows old new output
-WritesOut output (Err encode.Write) old new = GrowsByFront old new output
-WritesOut output (Err error) old new = (error ≡ encode.Text text.Memory) × Stays old new
-
--- ---- frames that are buffered
-
--- The bytes that were made of messages, and the next system bytes; or why the first message without a frame has none.
-abbrev pub Frames : ℕ → ℕ → ℕ → ℕ → Option Refusal → List ℕ → List Content → Type 0
-Frames device max system next None octets ms = Encodes device max false system ms octets × (next ≡ system_after system (length ms))
-Frames device max system next (Some refusal) octets ms = FirstWithoutFrame device max false system ms refusal
 
 -- ---- the results
 
@@ -135,20 +105,9 @@ EncodesAll device max depth hex system input (Err error) left old new =
 abbrev pub IsWholeInput : ℕ → List ℕ → List ℕ → Type 0
 IsWholeInput limit octets input = (octets ≡ input) × (length input ≤ limit)
 
--- Holds if these bytes are the input, or a prefix of it if they are past the limit.
-abbrev pub IsReadPast : ℕ → List ℕ → List ℕ → Type 0
-IsReadPast limit octets input = (length octets ≤ limit → octets ≡ input) × (limit < length octets → limit < length input)
-
 -- Why an input was not read completely: it is longer than the limit; a read failed, and the limit was not passed
 -- before; or an allocation failed.
 abbrev pub IsPartOfInput : ℕ → List ℕ → EncodeError → Option (List ℕ) → Type 0
 IsPartOfInput limit input encode.Input left = limit < length input
 IsPartOfInput limit input encode.Read left = TakesAtMost limit input left
 IsPartOfInput limit input error left = error ≡ encode.Text text.Memory
-
--- Why a text was not encoded: it is not messages, or one of them has no frame; or an allocation failed.
-abbrev pub IsNotEncoded : ℕ → ℕ → ℕ → ℕ → List ℕ → EncodeError → Type 0
-IsNotEncoded device max depth system input (encode.Text fault) = (fault ≡ text.Memory) ⊎ NotesFault input depth fault
-IsNotEncoded device max depth system input (encode.Frame why) =
-    (ms : List Content) × Notations ms input × AllWithin depth ms × FirstWithoutFrame device max false system ms why
-IsNotEncoded device max depth system input error = ⊥

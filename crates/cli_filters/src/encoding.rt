@@ -5,7 +5,8 @@ ghost use Rattle.secs_text.specs.Content.{Content, AllWithin};
 ghost use Rattle.secs_text.specs.Notation.{Notations};
 ghost use Rattle.hsms_frame.specs.CallCounts.{next_count};
 ghost use Rattle.hsms_frame.specs.Io.{IfRecorded};
-ghost use Rattle.cli_filters.specs.Encode.{EncodesAll, Encodes, IsNotEncoded};
+ghost use Rattle.cli_filters.specs.Encode.{EncodesAll, Encodes};
+ghost use Rattle.cli_filters.specs.InnerEncode.{IsNotEncoded};
 ghost use Rattle.cli_filters.specs.EncodeErrors.{reads_after, writes_after};
 
 use crate::encode_error::EncodeError;

@@ -4,7 +4,7 @@ ghost use Rattle.std.specs.Prelude.{◌≡◌, ◌≤◌, ◌-◌, ◌++◌, ℕ
 ghost use Rattle.hsms_frame.specs.CallCounts.{count_failure};
 ghost use Rattle.hsms_frame.specs.Io.{Grows, GrowsByFront};
 ghost use Rattle.hsms_frame.specs.Frame.{Frame, length_field};
-ghost use Rattle.cli_filters.specs.Encode.{AreFrames, WritesOut, outputs_of};
+ghost use Rattle.cli_filters.specs.InnerEncode.{AreFrames, WritesOut, outputs_of};
 ghost use Rattle.cli_filters.specs.EncodeErrors.{reads_after, writes_after};
 
 use crate::encode_error::EncodeError;

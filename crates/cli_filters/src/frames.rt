@@ -33,7 +33,7 @@ pub struct Frames {
 }
 
 impl Receiver for Frames {
-    ghost use Rattle.cli_filters.specs.Encode.{Frames as BuffersPackets};
+    ghost use Rattle.cli_filters.specs.InnerEncode.{Frames as BuffersPackets};
 
     type Kept = Encoding;
 
@@ -68,7 +68,7 @@ impl Receiver for Frames {
 }
 
 impl Frames {
-    ghost use Rattle.cli_filters.specs.Encode.{Frames as BuffersPackets};
+    ghost use Rattle.cli_filters.specs.InnerEncode.{Frames as BuffersPackets};
 
     /// Creates a value without frames.
     pub fn new(alloc: Global, encoding: Encoding) -> Frames

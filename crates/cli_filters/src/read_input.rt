@@ -3,7 +3,8 @@
 ghost use Rattle.std.specs.Prelude.{◌≡◌, ◌≤◌, ℕ, vec_len, IfOk, OnOk, IfErr};
 ghost use Rattle.hsms_frame.specs.CallCounts.{next_count};
 ghost use Rattle.hsms_frame.specs.Io.{IfRecorded};
-ghost use Rattle.cli_filters.specs.Encode.{IsWholeInput, IsReadPast, IsPartOfInput};
+ghost use Rattle.cli_filters.specs.Encode.{IsWholeInput, IsPartOfInput};
+ghost use Rattle.cli_filters.specs.InnerEncode.{IsReadPast};
 ghost use Rattle.cli_filters.specs.EncodeErrors.{reads_after, writes_after};
 
 use crate::encode_error::EncodeError;

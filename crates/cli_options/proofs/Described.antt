@@ -3,7 +3,7 @@ use Rattle.std.proofs.Common.{◌≡◌, ◌<◌, ◌+◌, ℕ, suc, Bool, true,
 use Rattle.std.specs.Prelude.{◌&&◌, not}
 use Rattle.std.proofs.lemmas.List.{append_assoc, map-append}
 use Rattle.clap.specs.Words.{App, Rule, Shape, with_rule, with_subcommand}
-use Rattle.cli_options.specs.ClapCommand.{with_rules, with_subcommands}
+use Rattle.cli_options.specs.InnerClapCommand.{with_rules, with_subcommands}
 
 -- The third of the tests for a plain command requires that it has none.
 pub third_fails : (a b c d : Bool) → (a && (b && (not c && d))) ≡ true → c ≡ false

@@ -19,7 +19,8 @@ use Rattle.cli_options.specs.declared.request.Request.{Request}
 use Rattle.cli_options.specs.declared.request.Request.TheVariants as request
 use Rattle.cli_options.specs.declared.request.Task.TheVariants as asked
 use Rattle.cli_options.specs.OptionValues.{Number, number_between, number_in}
-use Rattle.cli_options.specs.Request.{AsksBy, CallsForText, IsHelp, EncodesTo, ParsesNothing, ParsesWork, command_line}
+use Rattle.cli_options.specs.Request.{AsksBy, EncodesTo, ParsesNothing, ParsesWork, command_line}
+use Rattle.cli_options.specs.InnerRequest.{CallsForText, IsHelp}
 use Rattle.cli_options.specs.Status.{IsRefusedFor}
 
 -- ---- numbers and flags

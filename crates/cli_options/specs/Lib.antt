@@ -1,8 +1,11 @@
 pub mod OptionValues
+pub mod InnerOptionValues
 pub mod ExplainOptions
 pub mod CaptureOptions
-pub mod ClapCommand
+pub mod InnerClapCommand
 pub mod Request
+pub mod InnerRequest
 pub mod RuleTexts
 pub mod ServeOptions
+pub mod InnerServeOptions
 pub mod Status

@@ -1,5 +1,5 @@
 -- Options with numbers, and flags, as `clap` reads them.
-use Rattle.std.specs.Prelude.{◌≡◌, ◌≤◌, ℕ, Bool, false, true, not, is_some, pos, List, codes, Option, Some, None, if◌then◌else◌}
+use Rattle.std.specs.Prelude.{◌≡◌, ℕ, Bool, false, true, not, is_some, pos, List, codes, Option, Some, None, if◌then◌else◌}
 use Rattle.std.specs.Option.{option_map_or}
 use Rattle.std.specs.Str.{bytes_eq}
 use Rattle.std.specs.Str.Parse.{digits_value, without_leading_plus}
@@ -7,7 +7,6 @@ use Rattle.clap.specs.ValueTests.{is_unsigned_in}
 use Rattle.clap.specs.Words.{Row, Rule, Text, first_of, new_rule, one_of}
 use Rattle.clap.specs.declared.builder.action.ArgAction.TheVariants.{SetTrue}
 use Rattle.clap.specs.declared.builder.value_parser.ValueParser.TheVariants.{Signed}
-use Rattle.cli_options.specs.declared.option_tables.Numbered.{Numbered}
 
 -- An option with a number: its name, its minimum, its maximum, and its default, if it has one.
 pub record Number : Type 0 where
@@ -15,14 +14,6 @@ pub record Number : Type 0 where
   pub least : ℕ
   pub greatest : ℕ
   pub left_out : Option ℕ
-
--- The number of a described option.
-abbrev pub described_number : Numbered → Number
-described_number n = record { name = n.0.now; least = n.1; greatest = n.2; left_out = n.3 }
-
--- Holds for a number that an option may have.
-abbrev pub IsOf : Number → ℕ → Type 0
-IsOf n number = (n.least ≤ number) × (number ≤ n.greatest)
 
 -- Bytes of header and text.
 abbrev pub max_number : Number
@@ -52,10 +43,6 @@ option_of n = record (new_rule n.name) {
 -- An option with a text, `--NAME TEXT`.
 abbrev pub text_option : Text → Rule
 text_option name = record (new_rule name) { long = Some name; value_names = 1 }
-
--- An option with a number from a minimum to a maximum.
-abbrev pub ranged_option : Text → ℕ → ℕ → Rule
-ranged_option name least greatest = record (text_option name) { parser = Some (Signed (pos least) (pos greatest)) }
 
 -- A required option with a text.
 abbrev pub needed_option : Text → Rule

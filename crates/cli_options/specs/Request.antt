@@ -1,7 +1,6 @@
 -- What the words of a command line request, as `clap` reads them.
 use Rattle.std.specs.Prelude.{◌≡◌, ◌≢◌, ◌≤◌, ◌⊎◌, true, false, List, [], ◌∷◌, codes, Bool, Option, Some, None}
 use Rattle.clap.specs.Words.{App, IsAmong, Row, Shape, Text, fault_of, new_app, subcommand_of}
-use Rattle.clap.specs.declared.error.kind.ErrorKind.{ErrorKind}
 use Rattle.clap.specs.declared.error.kind.ErrorKind.TheVariants.{DisplayHelp, DisplayVersion}
 use Rattle.cli_options.specs.declared.request.Form.{Form}
 use Rattle.cli_options.specs.declared.request.Form.TheVariants as form
@@ -93,10 +92,6 @@ AsksBy entered request = (name : Text) × (rows : List Row) × (entered ≡ Some
 abbrev pub ParsesWork : List Text → Request → Type 0
 ParsesWork words request = (fault_of command_line words ≡ []) × AsksBy (subcommand_of command_line words) request
 
--- Holds for the kinds of error that call for a text: help, or the version.
-abbrev pub CallsForText : ErrorKind → Type 0
-CallsForText kind = (kind ≡ DisplayHelp) ⊎ (kind ≡ DisplayVersion)
-
 -- Holds if the words request this task, or may call for help or for the version.
 abbrev pub ParsesTask : List Text → Task → Type 0
 ParsesTask words (asked.Help text) = IsAmong DisplayHelp (fault_of command_line words) ⊎ IsAmong DisplayVersion (fault_of command_line words)
@@ -131,16 +126,3 @@ IsWithinLimits (request.Task task) = IsTaskWithinLimits task
 IsWithinLimits (request.Explain excerpt) = IsExcerptWithinLimits excerpt
 IsWithinLimits (request.Capture capturing) = IsCapturingWithinLimits capturing
 IsWithinLimits (request.Serve service) = (1 ≤ service.port) × (service.port ≤ 65535)
-
--- Holds if a text is printed.
-abbrev pub IsHelpText : Task → Type 0
-IsHelpText (asked.Help text) = Unit {0}
-IsHelpText asked.Audit = ⊥
-IsHelpText (asked.Show s) = ⊥
-IsHelpText (asked.Encode e) = ⊥
-
-abbrev pub IsHelp : Request → Type 0
-IsHelp (request.Task task) = IsHelpText task
-IsHelp (request.Explain excerpt) = ⊥
-IsHelp (request.Capture capturing) = ⊥
-IsHelp (request.Serve service) = ⊥

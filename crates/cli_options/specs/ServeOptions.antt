@@ -121,13 +121,6 @@ HasRepeat rows repeat =
     × (number_in connections_number rows ≡ Some repeat.connections) × (number_in t5_number rows ≡ Some repeat.t5)
     × (limits_repeat rows ≡ true → repeat.again ≡ true)
 
--- Holds if the matches have these numbers of a service: its port, its first system bytes, its turns, and its link test
--- time.
-abbrev pub HasOwnNumbers : List Row → ℕ → ℕ → ℕ → ℕ → Type 0
-HasOwnNumbers rows port first_system turns linktest =
-    (number_in port_number rows ≡ Some port) × (number_in first_system_number rows ≡ Some first_system)
-    × (number_in turns_number rows ≡ Some turns) × (number_in linktest_number rows ≡ Some linktest)
-
 -- Holds if the matches request this service.
 abbrev pub AsksToServe : List Row → Service → Type 0
 AsksToServe rows service =

@@ -2,8 +2,9 @@
 
 ghost use Rattle.std.specs.Prelude.{◌≡◌, IfOk, [], false, map};
 ghost use Rattle.clap.specs.Words.{app_of, rule_of};
-ghost use Rattle.cli_options.specs.ClapCommand.{rule_described, shape_described};
-ghost use Rattle.cli_options.specs.OptionValues.{ranged_option, text_option};
+ghost use Rattle.cli_options.specs.InnerClapCommand.{rule_described, shape_described};
+ghost use Rattle.cli_options.specs.OptionValues.{text_option};
+ghost use Rattle.cli_options.specs.InnerOptionValues.{ranged_option};
 ghost use Rattle.cli_options.specs.Request.{command_line};
 
 use crate::option_tables::{

@@ -3,7 +3,7 @@
 
 ghost use Rattle.std.specs.Prelude.{◌≡◌, map};
 ghost use Rattle.cli_options.specs.CaptureOptions.{capture_rules};
-ghost use Rattle.cli_options.specs.ClapCommand.{rule_described};
+ghost use Rattle.cli_options.specs.InnerClapCommand.{rule_described};
 ghost use Rattle.cli_options.specs.ExplainOptions.{explain_rules};
 ghost use Rattle.cli_options.specs.Request.{encode_command, show_command};
 ghost use Rattle.cli_options.specs.ServeOptions.{serve_rules};

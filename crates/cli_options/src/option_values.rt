@@ -2,7 +2,8 @@
 
 ghost use Rattle.std.specs.Prelude.{◌≡◌, ◌≤◌, ◌&&◌, IfSome, Some, None, if◌then◌else◌, nat_le, option_map, unwrap_or};
 ghost use Rattle.clap.specs.Words.{first_of, found_of, rows_of};
-ghost use Rattle.cli_options.specs.OptionValues.{IsFlag, IsOf, depth_number, number_in, described_number};
+ghost use Rattle.cli_options.specs.OptionValues.{IsFlag, depth_number, number_in};
+ghost use Rattle.cli_options.specs.InnerOptionValues.{IsOf, described_number};
 
 use crate::option_tables::{DEPTH, Numbered};
 use clap::ArgMatches;

@@ -3,7 +3,8 @@
 ghost use Rattle.std.specs.Prelude.{◌≡◌, ◌≢◌, IfOk, IfErr, IfSome, None, codes, map, string_bytes};
 ghost use Rattle.clap.specs.Words.{found_of, kind_of, rows_of, subcommand_rows_of};
 ghost use Rattle.clap.specs.declared.error.kind.ErrorKind.TheVariants.{OutOfMemory};
-ghost use Rattle.cli_options.specs.Request.{AsksBy, AsksFor, AsksForTask, CallsForText, IsHelp, IsTaskWithinLimits, IsWithinLimits, EncodesTo, ParsesNothing, form_in};
+ghost use Rattle.cli_options.specs.Request.{AsksBy, AsksFor, AsksForTask, IsTaskWithinLimits, IsWithinLimits, EncodesTo, ParsesNothing, form_in};
+ghost use Rattle.cli_options.specs.InnerRequest.{CallsForText, IsHelp};
 ghost use Rattle.cli_options.specs.Status.{IsRefusedFor};
 ghost use Rattle.cli_options.specs.declared.request.Encoding.{Encoding};
 ghost use Rattle.cli_options.specs.declared.request.Request.{Request};

@@ -5,7 +5,8 @@ ghost use Rattle.clap.specs.Words.{first_of, found_of, rows_of};
 ghost use Rattle.hsms_machine.specs.Settings.{Parameters};
 ghost use Rattle.hsms_machine.specs.declared.settings.Role.{Role};
 ghost use Rattle.hsms_machine.specs.declared.settings.Side.{Side};
-ghost use Rattle.cli_options.specs.ServeOptions.{AsksToServe, HasNumbers, HasOwnNumbers, HasRepeat, HasSettings, limits_repeat as has_limits, role_word, side_word};
+ghost use Rattle.cli_options.specs.ServeOptions.{AsksToServe, HasNumbers, HasRepeat, HasSettings, limits_repeat as has_limits, role_word, side_word};
+ghost use Rattle.cli_options.specs.InnerServeOptions.{HasOwnNumbers};
 ghost use Rattle.cli_options.specs.declared.serve_options.Repeat.{Repeat};
 ghost use Rattle.cli_options.specs.declared.serve_options.Service.{Service};
 

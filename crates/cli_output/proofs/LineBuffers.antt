@@ -5,7 +5,8 @@ use Rattle.std.proofs.lemmas.List.{append_assoc, length-append, drop-append-le, 
 use Rattle.hsms_frame.specs.CallCounts.{next_count, count_failure}
 use Rattle.hsms_frame.specs.Io.{SinkState, Grows, GrowsByFront}
 use Rattle.secs_text.specs.BlockOutput.{AppendsBytes}
-use Rattle.cli_output.specs.LineBuffer.{GrowsHolding, Sent, SentOctets}
+use Rattle.cli_output.specs.LineBuffer.{GrowsHolding}
+use Rattle.cli_output.specs.InnerLineBuffer.{Sent, SentOctets}
 
 -- A prefix of a text, and more of it.
 pub take_after : (xs ys : List ℕ) (n : ℕ) → take (length xs + n) (xs ++ ys) ≡ xs ++ take n ys

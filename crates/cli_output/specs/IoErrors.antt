@@ -16,12 +16,6 @@ CountsFailure word (Err Memory) old new = new ≡ old
 CountsFailure word (Err (Device given)) old new =
     ((given.now ≡ word) × (new ≡ next_count old)) ⊎ ((given.now ≢ word) × (new ≡ old))
 
--- Holds if an I/O error has this name.
-abbrev pub HasWord : List ℕ → ToolFault → Type 0
-HasWord word (Device given) = given.now ≡ word
-HasWord word (Refused _) = Unit {0}
-HasWord word Memory = Unit {0}
-
 -- Holds if a write failed.
 abbrev pub IsWrite : ToolFault → Type 0
 IsWrite (Device word) = word.now ≡ codes "Write"

@@ -21,7 +21,7 @@ struct ToSink<'a, W> {
 }
 
 impl<W: Sink> Output for ToSink<'_, W> {
-    ghost use Rattle.cli_output.specs.LineBuffer.{Sent};
+    ghost use Rattle.cli_output.specs.InnerLineBuffer.{Sent};
 
     ghost Given = { λ out given. Sent out.sink.ghost_name out.has_failed (W.state out.sink.now) given };
 

@@ -2,7 +2,7 @@
 use Rattle.std.proofs.Common.{◌≡◌, ℕ, List, [], ◌∷◌, ◌++◌, true, false, None, Some, refl, ap}
 use Rattle.std.specs.Prelude.{Option}
 use Rattle.std.proofs.lemmas.List.{append_assoc}
-use Rattle.cli_show.specs.ReadAhead.{subsequent}
+use Rattle.cli_show.specs.InnerReadAhead.{subsequent}
 use Rattle.cli_show.specs.ShowHex.{is_blank, octet_and, octet_of, decoded_octets}
 
 pub decodes_on : (c : ℕ) (rest : List ℕ) → is_blank c ≡ true → decoded_octets (c ∷ rest) ≡ decoded_octets rest

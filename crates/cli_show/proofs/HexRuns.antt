@@ -8,10 +8,11 @@ use Rattle.hsms_frame.specs.declared.fault.ReadFault.{ReadFault}
 use Rattle.hsms_frame.specs.declared.fault.ReadFault.TheVariants as read
 use Rattle.cli_show.specs.declared.show_error.ShowError.{ShowError}
 use Rattle.cli_show.specs.declared.show_error.ShowError.TheVariants.{Read, NoHex, NoMessage, Write, Endless}
-use Rattle.cli_show.specs.ReadAhead.{subsequent}
+use Rattle.cli_show.specs.InnerReadAhead.{subsequent}
 use Rattle.cli_output.specs.LineBuffer.{GrowsHolding}
 use Rattle.cli_output.specs.IoErrors.{LeavesPart}
-use Rattle.cli_show.specs.ShowHex.{IsAllRead, IsLine, ShowsHex, ShowsLine, ShowsLines, ShowsNextLine, StopsAt, ended, decoded_octets}
+use Rattle.cli_show.specs.ShowHex.{IsLine, ShowsHex, ShowsLine, ShowsLines, StopsAt, ended, decoded_octets}
+use Rattle.cli_show.specs.InnerShowHex.{IsAllRead, ShowsNextLine}
 use Rattle.cli_show.proofs.Runs.{holding_front, holding_out, holding_then}
 
 -- One more line.

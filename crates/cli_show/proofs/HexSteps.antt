@@ -10,8 +10,9 @@ use Rattle.hsms_frame.specs.Io.{Grows, GrowsByFront}
 use Rattle.hsms_frame.specs.Frame.{Frame}
 use Rattle.cli_output.specs.LineBuffer.{GrowsHolding, AppendsLine}
 use Rattle.cli_output.specs.IoErrors.{LeavesPart}
-use Rattle.cli_show.specs.ReadAhead.{IsUnread}
-use Rattle.cli_show.specs.ShowHex.{BeginsWithLine, IsAllRead, EndsAt, FindsEndHolding, IsLine, IsMessageOf, IsNotMessage, IsRefusedAt, IsRefusedLine, IsTooFar, AppendsShown, ShowsLine, ShowsNextLine, ShowsOctets, octets_of_line}
+use Rattle.cli_show.specs.InnerReadAhead.{IsUnread}
+use Rattle.cli_show.specs.ShowHex.{BeginsWithLine, IsLine, IsMessageOf, IsNotMessage, IsRefusedAt, IsRefusedLine, IsTooFar, ShowsLine, ShowsOctets, octets_of_line}
+use Rattle.cli_show.specs.InnerShowHex.{IsAllRead, EndsAt, FindsEndHolding, AppendsShown, ShowsNextLine}
 use Rattle.cli_show.specs.declared.hex_lines.LineEnd.TheVariants.{Feed}
 use Rattle.cli_show.specs.declared.show_error.ShowError.{ShowError}
 use Rattle.cli_show.specs.declared.show_error.ShowError.TheVariants.{Read, NoHex, NoMessage, Write, Endless}

@@ -10,8 +10,9 @@ use Rattle.hsms_frame.specs.Io.{IfRecorded, Grows, IsAtEnd, Stays}
 use Rattle.hsms_log.specs.Lines.{HasNone}
 use Rattle.hsms_frame.specs.declared.fault.ReadFault.{ReadFault}
 use Rattle.hsms_frame.specs.declared.fault.ReadFault.TheVariants as read
-use Rattle.cli_show.specs.ReadAhead.{IsUnread}
-use Rattle.cli_show.specs.ShowHex.{EndsAt, FindsEnd, FindsEndHolding, IsLine, IsPlaced, IsTooFar, is_open, line_limit}
+use Rattle.cli_show.specs.InnerReadAhead.{IsUnread}
+use Rattle.cli_show.specs.ShowHex.{IsLine, IsTooFar, line_limit}
+use Rattle.cli_show.specs.InnerShowHex.{EndsAt, FindsEnd, FindsEndHolding, IsPlaced, is_open}
 use Rattle.cli_show.specs.declared.hex_lines.LineEnd.{LineEnd}
 use Rattle.cli_show.specs.declared.hex_lines.LineEnd.TheVariants.{Feed, Open, TooFar}
 use Rattle.cli_show.proofs.NextFrames.{reads_on}

@@ -12,7 +12,7 @@ use Rattle.hsms_frame.specs.ReadAhead.{ReadsMore}
 use Rattle.hsms_frame.specs.Io.{IfRecorded}
 use Rattle.hsms_frame.specs.Frame.{Frame, frame_octets, length_field, IsFaultless, IsProperFront, IsTooLong, IsTooShort}
 use Rattle.hsms_frame.specs.Framing.{FrontAs}
-use Rattle.cli_show.specs.ReadAhead.{EndsAs, FindsNext, IsUnread, found_of, is_open, read_fault_of}
+use Rattle.cli_show.specs.InnerReadAhead.{EndsAs, FindsNext, IsUnread, found_of, is_open, read_fault_of}
 use Rattle.cli_show.specs.Show.{IsStopped}
 use Rattle.cli_output.specs.IoErrors.{LeavesPart}
 

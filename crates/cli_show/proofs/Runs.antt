@@ -16,10 +16,11 @@ use Rattle.hsms_frame.specs.Framing.{IsFrontOf}
 use Rattle.hsms_frame.proofs.Prefixes.{whole_at_front}
 use Rattle.hsms_frame.specs.declared.fault.ReadFault.{ReadFault}
 use Rattle.hsms_frame.specs.declared.fault.ReadFault.TheVariants as read
-use Rattle.cli_show.specs.ReadAhead.{subsequent}
+use Rattle.cli_show.specs.InnerReadAhead.{subsequent}
 use Rattle.cli_output.specs.Line.{LineOf}
 use Rattle.cli_output.specs.IoErrors.{LeavesPart}
-use Rattle.cli_show.specs.Show.{Begins, IsWithin, octets_of, LinesOf, Shows, Stops, ShowsNext, IsEnded}
+use Rattle.cli_show.specs.Show.{Begins, IsWithin, octets_of, LinesOf, Shows, Stops}
+use Rattle.cli_show.specs.InnerShow.{ShowsNext, IsEnded}
 use Rattle.cli_show.specs.declared.show_error.ShowError.{ShowError}
 use Rattle.cli_show.specs.declared.show_error.ShowError.TheVariants.{Read, NoHex, NoMessage, Write, Endless}
 

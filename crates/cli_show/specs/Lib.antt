@@ -1,4 +1,7 @@
-pub mod ReadAhead
+pub mod InnerReadAhead
 pub mod Show
+pub mod InnerShow
 pub mod ShowErrors
+pub mod InnerShowErrors
 pub mod ShowHex
+pub mod InnerShowHex

@@ -20,11 +20,6 @@ abbrev pub failures_by : ReadFault → ℕ → ℕ
 failures_by read.Read n = next_count n
 failures_by fault n = n
 
--- How often a source has failed, by the result of a read.
-abbrev pub failures_after : {T : Type 0} → Result T ReadFault → ℕ → ℕ
-failures_after (Ok _) n = n
-failures_after (Err fault) n = failures_by fault n
-
 -- How often a source has failed, by the result.
 abbrev pub reads_after : {T : Type 0} → Result T ShowError → ℕ → ℕ
 reads_after (Ok _) n = n

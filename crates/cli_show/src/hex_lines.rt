@@ -4,8 +4,9 @@ ghost use Rattle.std.specs.Prelude.{◌≡◌, ◌≤◌, ◌<◌, ◌++◌, [],
 ghost use Rattle.hsms_frame.specs.CallCounts.{next_count};
 ghost use Rattle.hsms_frame.specs.Io.{IfRecorded};
 ghost use Rattle.hsms_log.specs.Lines.{HasNone};
-ghost use Rattle.cli_show.specs.ShowErrors.{failures_after, reads_after, writes_after};
-ghost use Rattle.cli_show.specs.ShowHex.{EndsAt, FindsEnd, FindsEndHolding, IsPlaced, is_open};
+ghost use Rattle.cli_show.specs.ShowErrors.{reads_after, writes_after};
+ghost use Rattle.cli_show.specs.InnerShowErrors.{failures_after};
+ghost use Rattle.cli_show.specs.InnerShowHex.{EndsAt, FindsEnd, FindsEndHolding, IsPlaced, is_open};
 
 use crate::next_frame::read_more;
 use crate::show_error::ShowError;

@@ -5,8 +5,8 @@ ghost use Rattle.hsms_frame.specs.CallCounts.{next_count};
 ghost use Rattle.hsms_frame.specs.ReadAhead.{ReadsMore};
 ghost use Rattle.hsms_frame.specs.Io.{IfRecorded, IsAtEnd, Stays};
 ghost use Rattle.hsms_frame.specs.Framing.{IsFrontOf};
-ghost use Rattle.cli_show.specs.ReadAhead.{EndsAs, FindsNext, IsUnread, found_of, is_open};
-ghost use Rattle.cli_show.specs.ShowErrors.{failures_after};
+ghost use Rattle.cli_show.specs.InnerReadAhead.{EndsAs, FindsNext, IsUnread, found_of, is_open};
+ghost use Rattle.cli_show.specs.InnerShowErrors.{failures_after};
 
 use hsms_frame::{Ahead, AheadFault, FrameFault, Header, ReadFault, Source, front};
 use secs_text::Block;

@@ -3,10 +3,12 @@
 ghost use Rattle.std.specs.Prelude.{◌≡◌, ◌≤◌, ◌+◌, ◌++◌, [], Ok, true, IfOk, OnOk, drop, length, take, if◌then◌else◌};
 ghost use Rattle.hsms_frame.specs.CallCounts.{count_failure, next_count};
 ghost use Rattle.hsms_frame.specs.Io.{IfRecorded};
-ghost use Rattle.cli_show.specs.ReadAhead.{left_after};
+ghost use Rattle.cli_show.specs.InnerReadAhead.{left_after};
 ghost use Rattle.cli_output.specs.LineBuffer.{AppendsLine};
-ghost use Rattle.cli_show.specs.Show.{Shows, ShowsNext, IsEnded};
-ghost use Rattle.cli_show.specs.ShowErrors.{failures_after, reads_after, writes_after};
+ghost use Rattle.cli_show.specs.Show.{Shows};
+ghost use Rattle.cli_show.specs.InnerShow.{ShowsNext, IsEnded};
+ghost use Rattle.cli_show.specs.ShowErrors.{reads_after, writes_after};
+ghost use Rattle.cli_show.specs.InnerShowErrors.{failures_after};
 
 use crate::next_frame::{next_message, whole_front};
 use crate::show_error::ShowError;

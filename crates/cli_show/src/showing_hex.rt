@@ -4,9 +4,11 @@ ghost use Rattle.std.specs.Prelude.{◌≡◌, ◌≤◌, ◌++◌, ℕ, [], Ok,
 ghost use Rattle.hsms_frame.specs.CallCounts.{next_count};
 ghost use Rattle.hsms_frame.specs.Io.{IfRecorded};
 ghost use Rattle.cli_options.specs.Request.{is_bare};
-ghost use Rattle.cli_show.specs.ReadAhead.{left_after};
-ghost use Rattle.cli_show.specs.ShowErrors.{failures_after, reads_after, writes_after};
-ghost use Rattle.cli_show.specs.ShowHex.{AppendsShown, IsAllRead, IsNotMessage, IsRefusedLine, ShowsHex, ShowsLine, ShowsNextLine, ShowsOctets, octets_of_line};
+ghost use Rattle.cli_show.specs.InnerReadAhead.{left_after};
+ghost use Rattle.cli_show.specs.ShowErrors.{reads_after, writes_after};
+ghost use Rattle.cli_show.specs.InnerShowErrors.{failures_after};
+ghost use Rattle.cli_show.specs.ShowHex.{IsNotMessage, IsRefusedLine, ShowsHex, ShowsLine, ShowsOctets, octets_of_line};
+ghost use Rattle.cli_show.specs.InnerShowHex.{AppendsShown, IsAllRead, ShowsNextLine};
 
 use crate::hex_lines::{LineEnd, next_end};
 use crate::hex_message::{message_of, octets_in};

@@ -5,7 +5,8 @@ use Rattle.std.proofs.lemmas.Bool.{and_from}
 use Rattle.std.proofs.lemmas.List.Folds.{list_all-append}
 use Rattle.explain_forms.specs.declared.output_buffer.Page.{Page}
 use Rattle.explain_forms.specs.OutputBuffer.{Adds}
-use Rattle.explain_forms.specs.Visible.{AddsVisible, HasNoControl, is_visible}
+use Rattle.explain_forms.specs.Visible.{HasNoControl, is_visible}
+use Rattle.explain_forms.specs.InnerVisible.{AddsVisible}
 use Rattle.explain_forms.proofs.OutputBuffers.{adds_none, adds_then}
 
 pub no_control_then : (one other : List ℕ) → HasNoControl one → HasNoControl other → HasNoControl (one ++ other)

@@ -1,3 +1,4 @@
 pub mod OutputBuffer
 pub mod TextOutput
 pub mod Visible
+pub mod InnerVisible

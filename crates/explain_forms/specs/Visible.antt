@@ -1,8 +1,6 @@
 -- Bytes of the log as text, without control characters.
 use Rattle.std.specs.Prelude.{◌≡◌, ◌==◌, ◌&&◌, not, ℕ, Bool, true, List, nat_lt}
 use Rattle.std.specs.List.{list_all}
-use Rattle.explain_forms.specs.declared.output_buffer.Page.{Page}
-use Rattle.explain_forms.specs.OutputBuffer.{Adds}
 
 -- True if the byte is not an ASCII control character.
 abbrev pub is_visible : ℕ → Bool
@@ -11,7 +9,3 @@ is_visible octet = nat_lt 31 octet && not (octet == 127)
 -- Holds if none of these bytes is an ASCII control character.
 abbrev pub HasNoControl : List ℕ → Type 0
 HasNoControl words = list_all is_visible words ≡ true
-
--- Holds if bytes without ASCII control characters are appended to the output.
-abbrev pub AddsVisible : Page → Page → Type 0
-AddsVisible old new = (words : List ℕ) × HasNoControl words × Adds old new words

@@ -2,7 +2,8 @@
 
 ghost use Rattle.std.specs.Prelude.{◌≡◌, ◌<◌, true, length};
 ghost use Rattle.std.specs.List.{list_all};
-ghost use Rattle.explain_forms.specs.Visible.{AddsVisible, HasNoControl, is_visible as is_visible_octet};
+ghost use Rattle.explain_forms.specs.Visible.{HasNoControl, is_visible as is_visible_octet};
+ghost use Rattle.explain_forms.specs.InnerVisible.{AddsVisible};
 
 use crate::output_buffer::Page;
 

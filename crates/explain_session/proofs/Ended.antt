@@ -25,7 +25,8 @@ use Rattle.hsms_log.specs.declared.step.What.{What}
 use Rattle.hsms_log.specs.declared.step.What.TheVariants as what
 use Rattle.explain_session.specs.RepairedSession.{CurrentState}
 use Rattle.explain_session.specs.RepairedLines.{LinesAreRepaired, LinesCarry, LinesPut}
-use Rattle.explain_session.specs.RepairSteps.{AreChecked, IsChecked, LeadsOn, RepairsEntry, changed, left_of, most_steps}
+use Rattle.explain_session.specs.RepairSteps.{AreChecked, IsChecked, RepairsEntry, changed, left_of}
+use Rattle.explain_session.specs.InnerRepairSteps.{LeadsOn, most_steps}
 use Rattle.hsms_log.specs.Step.{entry_by, entry_of_what}
 
 at_least_one : (steps : Steps) → 1 ≤ judgements steps

@@ -8,7 +8,8 @@ use Rattle.explain_session.specs.declared.repaired_session.Checked.{Checked}
 use Rattle.explain_session.specs.declared.repaired_session.Checked.TheVariants as check_result
 use Rattle.explain_session.specs.RepairedSession.{CurrentState, ProgressLeadsTo, ChecksAs}
 use Rattle.explain_lines.specs.AnnotatedFailure.{either}
-use Rattle.explain_session.specs.EntryFailure.{why_of, FailsBy}
+use Rattle.explain_session.specs.EntryFailure.{FailsBy}
+use Rattle.explain_session.specs.InnerEntryFailure.{why_of}
 
 -- A valid entry, for which no failure is annotated.
 pub valid_entry : (old mid new : CurrentState) (entry : Entry) (closed : Option Opening) (what : Checked) (before after : Option Why)

@@ -19,7 +19,8 @@ use Rattle.hsms_log.specs.declared.step.Step.{Step}
 use Rattle.hsms_log.specs.declared.step.What.{What}
 use Rattle.hsms_log.specs.declared.step.What.TheVariants as what
 use Rattle.explain_session.specs.RepairedSession.{CurrentState, HasProgress, ForEachProgress, ChecksAs}
-use Rattle.explain_session.specs.RepairSteps.{AreDone, AreChecked, IsChecked, LeadsBy, LeadsOn, Notes, NotesSay, NoteSays, StepsRepair, StepsOn, changed, entries_of, left_of, log_after, most_steps, next_after, put_of, put_with, recorded_of, recorded_with}
+use Rattle.explain_session.specs.RepairSteps.{AreChecked, IsChecked, LeadsBy, Notes, NotesSay, NoteSays, StepsRepair, changed, left_of, log_after, next_after, put_of, put_with, recorded_of, recorded_with}
+use Rattle.explain_session.specs.InnerRepairSteps.{AreDone, LeadsOn, StepsOn, entries_of, most_steps}
 use Rattle.hsms_log.specs.Step.{entry_by, entry_of_what}
 
 -- ---- what a check appends, and what it records

@@ -1,4 +1,7 @@
 pub mod EntryFailure
+pub mod InnerEntryFailure
 pub mod RepairSteps
+pub mod InnerRepairSteps
 pub mod RepairedLines
+pub mod InnerRepairedLines
 pub mod RepairedSession

@@ -1,6 +1,6 @@
 -- Repair of an entry, check by check. The entry is checked; after a failure, what the repair requires is checked. Each
 -- check is of the next entry, after the entries that were appended to the log.
-use Rattle.std.specs.Prelude.{◌≡◌, ◌≤◌, ◌+◌, ◌*◌, ◌⊎◌, ℕ, List, [], ◌∷◌, ◌++◌, Some, None, map, reverse, length, codes}
+use Rattle.std.specs.Prelude.{◌≡◌, ◌⊎◌, ℕ, List, [], ◌∷◌, ◌++◌, Some, None, map, codes}
 use Rattle.hsms_machine.specs.declared.entry.Entry.{Entry}
 use Rattle.hsms_machine.specs.OpeningLines.{at_place}
 use Rattle.hsms_machine.specs.Repair.{Change, Other, First, Without, Steps, RepairedBy, change_by, repair_of}
@@ -12,11 +12,9 @@ use Rattle.explain_session.specs.declared.repaired_session.Checked.{Checked}
 use Rattle.explain_session.specs.declared.repaired_session.Checked.TheVariants.{Lawful, Broken}
 use Rattle.explain_lines.specs.declared.annotation.Note.{Note}
 use Rattle.explain_lines.specs.declared.annotation.Note.TheVariants.{Closes, Fails}
-use Rattle.hsms_log.specs.declared.step.Step.{Step}
 use Rattle.explain_lines.specs.declared.phrases.Closing.{Closing}
 use Rattle.explain_lines.specs.declared.annotation.Failing.{Failing}
-use Rattle.explain_session.specs.RepairedSession.{CurrentState, HasProgress, ForEachProgress, ChecksAs}
-use Rattle.hsms_log.specs.Step.{entry_by}
+use Rattle.explain_session.specs.RepairedSession.{CurrentState, HasProgress, ForEachProgress}
 use Rattle.hsms_machine.specs.declared.rule.Rule.{Rule}
 use Rattle.hsms_machine.specs.declared.rule.Rule.TheVariants.{WBit}
 use Rattle.cli_options.specs.RuleTexts.{sentence_of}
@@ -128,29 +126,3 @@ abbrev pub RepairsEntry : CurrentState → Entry → List Note → CurrentState 
 RepairsEntry old entry before new after =
     (check_result : List Checked) × LeadsBy old check_result (entry ∷ []) new × Notes before (recorded_of check_result (entry ∷ [])) after
     × ForEachProgress old (λ settings log placed. left_of check_result (entry ∷ []) ≡ [])
-
--- ---- the maximum number of checks
-
--- The maximum number of checks after a first failure, given the number of waiting primaries.
-abbrev pub most_steps : ℕ → ℕ
-most_steps waiting = waiting * 2 + 7
-
--- Holds if no entry is left, or if the maximum number of checks was made.
-abbrev pub AreDone : ℕ → List Checked → List Entry → Type 0
-AreDone most check_result left = (length check_result ≤ most) × ((left ≡ []) ⊎ (length check_result ≡ most))
-
--- Holds if the entries lead from one repaired session to another, by annotated checks, at most `most` of them.
-abbrev pub LeadsOn : ℕ → CurrentState → List Entry → List Note → CurrentState → List Note → Type 0
-LeadsOn most old entries before new after =
-    (check_result : List Checked) × LeadsBy old check_result entries new × Notes before (recorded_of check_result entries) after
-    × AreDone most check_result (left_of check_result entries)
-
--- Holds if the first of some entries is checked, and these are the entries to check next.
-abbrev pub StepsOn : CurrentState → Entry → List Entry → List Note → CurrentState → List Entry → List Note → Type 0
-StepsOn old entry more before new next after =
-    (check_result : Checked) × ChecksAs old entry new check_result × Notes before (recorded_with check_result more []) after
-    × (next ≡ next_after check_result entry more)
-
--- The entries of steps, the last one first.
-abbrev pub entries_of : List ℕ → List Step → List Entry
-entries_of text steps = map (λ step. entry_by step text) (reverse steps)

@@ -1,35 +1,11 @@
 -- The repaired log, line by line: the log as it continues after each failure.
-use Rattle.std.specs.Prelude.{◌≡◌, ◌+◌, ◌⊎◌, codes, ℕ, List, [], ◌∷◌, ◌++◌, Option, Some, None, map, length}
+use Rattle.std.specs.Prelude.{◌≡◌, ◌+◌, ◌⊎◌, ℕ, List, [], ◌∷◌, ◌++◌, Option, Some, None, map}
 use Rattle.hsms_machine.specs.declared.entry.Entry.{Entry}
 use Rattle.hsms_machine.specs.OpeningLines.{at_place}
 use Rattle.hsms_machine.specs.Repair.{Steps, RepairedBy, IsRepaired}
 use Rattle.hsms_machine.specs.Settings.{Parameters}
-use Rattle.hsms_log.specs.declared.reasons.Unreadable.{Unreadable as Reasoned}
-use Rattle.hsms_log.specs.declared.verdict.Why.TheVariants.{Unreadable}
-use Rattle.hsms_log.specs.LineFormat.{Carries, EncodesSettings}
-use Rattle.explain_lines.specs.declared.expected.Expected.TheVariants.{Form}
-use Rattle.explain_session.specs.declared.context.Known.{Known}
-use Rattle.explain_lines.specs.declared.annotation.Failing.{Failing}
-use Rattle.explain_lines.specs.declared.annotation.Note.{Note}
-use Rattle.explain_lines.specs.declared.annotation.Note.TheVariants.{Fails}
-use Rattle.explain_lines.specs.declared.explained_line.Carried.{Carried}
-use Rattle.explain_lines.specs.declared.explained_line.Carried.TheVariants as carried
+use Rattle.hsms_log.specs.LineFormat.{Carries}
 use Rattle.explain_lines.specs.Counted.{counted}
-use Rattle.explain_session.specs.RepairedSession.{CurrentState, HasProgress}
-use Rattle.explain_session.specs.RepairSteps.{RepairsEntry}
-use Rattle.hsms_log.specs.Step.{entry_by}
-
--- Holds if an annotation records that a line is unreadable, and why.
-abbrev pub NotesUnreadable : Reasoned → List Note → List Note → Type 0
-NotesUnreadable reasoned before after =
-    (failing : Failing) × (failing.why ≡ Unreadable) × (failing.sentence.now ≡ codes "not a valid log line")
-    × (failing.expected ≡ Some (Form reasoned)) × (after ≡ before ++ Fails failing ∷ [])
-
--- Holds if the repaired session continues with the content of a line, and these are its annotations.
-abbrev pub RepairsLine : CurrentState → Carried → CurrentState → List Note → Type 0
-RepairsLine old (carried.Entry step text) new notes = RepairsEntry old (entry_by step text.now) [] new notes
-RepairsLine old carried.Nothing new notes = (new ≡ old) × (notes ≡ [])
-RepairsLine old (carried.Unreadable reasoned) new notes = (new ≡ old) × NotesUnreadable reasoned [] notes
 
 -- Holds if the line appends these entries to the log: those that replace its entry in the repaired log, and none if it
 -- has no entry or is unreadable.
@@ -46,14 +22,6 @@ LinesPut settings number log [] after placed = (after ≡ []) × (placed ≡ [])
 LinesPut settings number log (line ∷ lines) after placed =
     (put : List Entry) × (rest : List Entry) × (places : List Entry) × LinePuts settings log line put × (after ≡ put ++ rest)
     × (placed ≡ map (at_place (counted number)) put ++ places) × LinesPut settings (number + 1) (log ++ put) lines rest places
-
--- Holds if the first of the lines encodes the settings, and this is the repaired session of the log that the other
--- lines append.
-abbrev pub ContinuesWith : Known → List (List ℕ) → Type 0
-ContinuesWith known [] = ⊥
-ContinuesWith known (first ∷ lines) =
-    (log : List Entry) × (placed : List Entry) × EncodesSettings first known.settings × LinesPut known.settings 2 [] lines log placed
-    × HasProgress known.settings log placed known.repaired_session × (known.repaired_session.line ≡ counted (length lines + 1))
 
 -- ---- law
 

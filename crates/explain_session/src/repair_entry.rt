@@ -7,8 +7,10 @@ ghost use Rattle.hsms_log.specs.declared.verdict.Why.{Why as Reason};
 ghost use Rattle.hsms_log.specs.declared.verdict.Why.TheVariants.{Broken};
 ghost use Rattle.explain_session.specs.declared.repaired_session.Checked.TheVariants.{Lawful};
 ghost use Rattle.explain_lines.specs.AnnotatedFailure.{either, first_why};
-ghost use Rattle.explain_session.specs.EntryFailure.{why_of, FailsBy};
-ghost use Rattle.explain_session.specs.RepairSteps.{LeadsOn, RepairsEntry, Notes, StepsOn, changed, entries_of, most_steps, recorded_with};
+ghost use Rattle.explain_session.specs.EntryFailure.{FailsBy};
+ghost use Rattle.explain_session.specs.InnerEntryFailure.{why_of};
+ghost use Rattle.explain_session.specs.RepairSteps.{RepairsEntry, Notes, changed, recorded_with};
+ghost use Rattle.explain_session.specs.InnerRepairSteps.{LeadsOn, StepsOn, entries_of, most_steps};
 ghost use Rattle.hsms_log.specs.Step.{entry_by, entry_of_what};
 ghost use Rattle.explain_session.specs.RepairSteps.{SaysRule};
 

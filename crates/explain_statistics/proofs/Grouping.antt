@@ -9,7 +9,8 @@ use Rattle.explain_lines.specs.declared.annotation.Note.TheVariants.{Closes, Fai
 use Rattle.explain_lines.specs.declared.phrases.FailureGroup.{FailureGroup}
 use Rattle.explain_statistics.specs.FailureGroups.{Fault, IsReported, fault_at, lines_of}
 use Rattle.explain_lines.specs.Counted.{counted}
-use Rattle.explain_statistics.specs.GroupedAnnotations.{AreGrouped, AreLike, EachIsReported, Joins, NoteIsReported, PutsNote, RepresentAll, Represents, failure_by, faults_with, times_of}
+use Rattle.explain_statistics.specs.GroupedAnnotations.{AreGrouped, AreLike, EachIsReported, NoteIsReported, RepresentAll, Represents, failure_by, faults_with, times_of}
+use Rattle.explain_statistics.specs.InnerGroupedAnnotations.{Joins, PutsNote}
 use Rattle.explain_lines.specs.AnnotatedFailure.{first_whole}
 
 -- ---- annotations that represent others

@@ -3,7 +3,7 @@ use Rattle.std.proofs.Common.{◌≡◌, ◌≤◌, ◌<◌, ◌+◌, ◌-◌, �
 use Rattle.std.proofs.Math.Nat.{mul-le-mul_left}
 use Rattle.std.proofs.lemmas.Bool.{lt-ltb, le-ltb}
 use native.Mathlib.Numerals.{unary_clauses}
-use Rattle.explain_statistics.specs.Histogram.{time_at, IsNear}
+use Rattle.explain_statistics.specs.InnerHistogram.{time_at, IsNear}
 
 -- Holds if the time is this number of units of a power of two, or less than one unit more.
 pub record IsHalved (time rest halvings : ℕ) : Type 0 where

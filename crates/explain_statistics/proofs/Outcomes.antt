@@ -5,7 +5,8 @@ use Rattle.indexmap.specs.IndexMap.{IndexMap, get, Updates}
 use Rattle.explain_statistics.specs.declared.reply_stats.Counts.{Counts}
 use Rattle.explain_statistics.specs.declared.reply_stats.ReplyOutcome.{ReplyOutcome}
 use Rattle.explain_statistics.specs.declared.reply_stats.ReplyOutcome.TheVariants.{Answered, Aborted, Expired, Rejected}
-use Rattle.explain_statistics.specs.ReplyStats.{Deed, Opened, Closed, Reply, IsCounts, HasReplies, counts_at, no_counts, open_of, opened_of, replies_of, is_kind, has, FatesAddUp}
+use Rattle.explain_statistics.specs.ReplyStats.{Reply, has, FatesAddUp}
+use Rattle.explain_statistics.specs.InnerReplyStats.{Deed, Opened, Closed, IsCounts, HasReplies, counts_at, no_counts, open_of, opened_of, replies_of, is_kind}
 
 module _ {T : Type 0} (kinds next : IndexMap ℕ Counts T) (kind : ℕ) (counts : Counts) (updates : Updates nat_eq kinds next kind (Some counts)) where
   -- The counts of a kind, if the new counts of one kind are these.

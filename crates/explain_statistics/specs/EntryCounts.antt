@@ -4,9 +4,6 @@ use Rattle.hsms_machine.specs.declared.entry.Entry.{Entry}
 use Rattle.hsms_log.specs.declared.verdict.Summary.{Summary}
 use Rattle.hsms_log.specs.Verdict.{is_sent, is_taken, is_discarded, is_expired}
 use Rattle.explain_lines.specs.Counted.{counted}
-use Rattle.explain_lines.specs.declared.explained_line.Carried.{Carried}
-use Rattle.explain_lines.specs.declared.explained_line.Carried.TheVariants as carried
-use Rattle.hsms_log.specs.Step.{entry_by}
 
 -- The counts of the entries, each limited to its maximum.
 abbrev pub counts_of : List Entry → Summary
@@ -37,9 +34,3 @@ with_kind old entry = record {
 -- The counts with one more entry.
 abbrev pub with_entry : Summary → Entry → Summary
 with_entry old entry = with_kind (record old { entries = counted (old.entries + 1) }) entry
-
--- The counts of the entries, including the content of a line.
-abbrev pub with_carried : Summary → Carried → Summary
-with_carried old (carried.Entry step text) = with_entry old (entry_by step text.now)
-with_carried old carried.Nothing = old
-with_carried old (carried.Unreadable reasoned) = old

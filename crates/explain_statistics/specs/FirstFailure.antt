@@ -1,22 +1,16 @@
 -- The first failure, and its verdict.
-use Rattle.std.specs.Prelude.{◌≡◌, ◌≤◌, ℕ, List, Option, Some, None, length}
+use Rattle.std.specs.Prelude.{ℕ, Option, Some, None}
 use Rattle.hsms_log.specs.declared.verdict.Why.{Why}
 use Rattle.hsms_log.specs.declared.verdict.Why.TheVariants.{Unreadable}
 use Rattle.hsms_log.specs.declared.verdict.Summary.{Summary}
 use Rattle.hsms_log.specs.declared.verdict.Verdict.{Verdict}
 use Rattle.hsms_log.specs.declared.verdict.Verdict.TheVariants.{Pass, Fail}
-use Rattle.hsms_log.specs.Verdict.{LineFails}
 use Rattle.explain_statistics.specs.declared.failure_counts.Failed.{Failed}
-use Rattle.explain_lines.specs.Counted.{counted}
 
 -- A failure at a line, if there is one.
 abbrev pub failed_at : ℕ → Option Why → Option Failed
 failed_at line None = None
 failed_at line (Some why) = Some (record { line = line; why = why })
-
--- Holds if this is the first failure of these lines.
-abbrev pub FailsFirst : List (List ℕ) → Failed → Type 0
-FailsFirst lines failed = (n : ℕ) × (failed.line ≡ counted n) × (n ≤ length lines) × LineFails lines n failed.why
 
 -- The verdict of the first failure; without one, a pass with the counts of the entries and of the waiting primaries.
 abbrev pub verdict_by : Option Failed → Summary → ℕ → Verdict

@@ -61,11 +61,3 @@ RepresentAll (note ∷ notes) each = (run : List Note) × (rest : List Note) × 
 -- Holds if the annotations of a line are written in this way, given the earlier failures and the number of groups.
 abbrev pub AreGrouped : ℕ → ℕ → List Fault → List Note → List Note → Type 0
 AreGrouped groups line faults notes shown_line = (each : List Note) × EachIsReported groups line faults notes each × RepresentAll shown_line each
-
--- Holds if `both` represents what `last` represents, followed by one more annotation.
-pub record Joins (last note both : Note) : Type 0 where
-  pub consistent : (notes : List Note) → Represents last notes → Represents both (notes ++ note ∷ [])
-
--- Holds if one more annotation is appended.
-pub record PutsNote (old : List Note) (note : Note) (new : List Note) : Type 0 where
-  pub consistent : (each : List Note) → RepresentAll old each → RepresentAll new (each ++ note ∷ [])

@@ -1,6 +1,10 @@
 pub mod EntryCounts
+pub mod InnerEntryCounts
 pub mod FailureGroups
 pub mod FirstFailure
+pub mod InnerFirstFailure
 pub mod GroupedAnnotations
-pub mod Histogram
+pub mod InnerGroupedAnnotations
+pub mod InnerHistogram
 pub mod ReplyStats
+pub mod InnerReplyStats

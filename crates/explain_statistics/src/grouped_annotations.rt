@@ -4,7 +4,8 @@ ghost use Rattle.std.specs.Prelude.{◌≡◌, ◌≤◌, ◌∷◌, [], List, I
 ghost use Rattle.indexmap.specs.IndexMap.{index_map_len};
 ghost use Rattle.explain_lines.specs.AnnotatedFailure.{first_whole};
 ghost use Rattle.explain_statistics.specs.FailureGroups.{Fault, HasGroups};
-ghost use Rattle.explain_statistics.specs.GroupedAnnotations.{AreGrouped, Joins, NoteIsReported, PutsNote, failure_by, faults_with};
+ghost use Rattle.explain_statistics.specs.GroupedAnnotations.{AreGrouped, NoteIsReported, failure_by, faults_with};
+ghost use Rattle.explain_statistics.specs.InnerGroupedAnnotations.{Joins, PutsNote};
 
 use crate::failure_groups::Groups;
 use explain_lines::{Failing, FailureGroup, Note};

@@ -1,7 +1,7 @@
 //! A histogram of times.
 
 ghost use Rattle.std.specs.Prelude.{◌≡◌, ◌<◌, ◌^◌};
-ghost use Rattle.explain_statistics.specs.Histogram.{time_at, IsNear};
+ghost use Rattle.explain_statistics.specs.InnerHistogram.{time_at, IsNear};
 
 use std::alloc::{AllocError, Global};
 

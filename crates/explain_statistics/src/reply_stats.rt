@@ -3,7 +3,8 @@
 ghost use Rattle.std.specs.Prelude.{◌≡◌, ◌<◌, ◌+◌, ◌⊎◌, ◌∷◌, [], ℕ, List, nat_eq, count_by, slice_get, is_some, IsTrue, IfOk, OnOk};
 ghost use Rattle.indexmap.specs.IndexMap.{get, values, index_map_len};
 ghost use Rattle.explain_statistics.specs.declared.reply_stats.ReplyOutcome.TheVariants.{Answered};
-ghost use Rattle.explain_statistics.specs.ReplyStats.{Deed, Opened, Closed, Ended, Reply, IsCounts, HasReplies, counts_at, no_counts};
+ghost use Rattle.explain_statistics.specs.ReplyStats.{Reply};
+ghost use Rattle.explain_statistics.specs.InnerReplyStats.{Deed, Opened, Closed, Ended, IsCounts, HasReplies, counts_at, no_counts};
 
 use indexmap::IndexMap;
 use std::alloc::{AllocError, Global};

@@ -8,7 +8,8 @@ use Rattle.hsms_machine.specs.declared.entry.Event.TheVariants.{Up}
 use Rattle.hsms_machine.specs.Entry.{entry_at}
 use Rattle.hsms_compare.specs.declared.stop.Stop.{Stop}
 use Rattle.hsms_compare.specs.declared.stop.Stop.TheVariants.{Ended, Waits, OtherSent}
-use Rattle.hsms_compare.specs.Conversation.{Agree, IsDelivered, Line, numbered, entries, peer, sent, received}
+use Rattle.hsms_compare.specs.Conversation.{Agree, IsDelivered, Line, entries, peer, sent, received}
+use Rattle.hsms_compare.specs.InnerConversation.{numbered}
 use Rattle.hsms_machine.specs.declared.settings.Role.{Role}
 use Rattle.hsms_machine.specs.declared.settings.Role.TheVariants.{Host, Equipment}
 use Rattle.hsms_compare.specs.declared.merge.Merge.{Merge}

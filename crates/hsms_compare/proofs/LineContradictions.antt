@@ -23,7 +23,7 @@ use Rattle.hsms_compare.specs.Agreement.{SendsAs, StopsAt, IsSentLater}
 use Rattle.hsms_compare.specs.Merge.{line_at}
 use Rattle.hsms_compare.specs.LineContradiction.{FirstByLines, IsSentAt, number_at}
 use Rattle.hsms_compare.specs.Readings.{IsRead, line_of}
-use Rattle.hsms_compare.specs.Passes.{HasStopped, HavePaused, IsFirstSent, IsPause}
+use Rattle.hsms_compare.specs.InnerPasses.{HasStopped, HavePaused, IsFirstSent, IsPause}
 use Rattle.hsms_compare.proofs.Contradictions.{receives_silent, sends-append, unsent, unsent_at_end}
 use Rattle.hsms_compare.proofs.Histories.{agree-delivered, sent-append}
 use Rattle.hsms_compare.proofs.LinesRead.{length-entries}

@@ -22,7 +22,7 @@ use Rattle.hsms_compare.specs.Conversation.{Agree, Line, entries, sent, received
 use Rattle.hsms_compare.specs.Agreement.{AgreeUpTo, ReceivesAs, SendsAs, StopsAt}
 use Rattle.hsms_compare.specs.Merge.{IsMergeOf, line_at}
 use Rattle.hsms_compare.specs.Readings.{IsRead, line_of, pending}
-use Rattle.hsms_compare.specs.Passes.{HasStopped, HavePaused, IsDifferentAt, IsOffered, IsPause, IsTurn, TakesOf, TurnsOf}
+use Rattle.hsms_compare.specs.InnerPasses.{HasStopped, HavePaused, IsDifferentAt, IsOffered, IsPause, IsTurn, TakesOf, TurnsOf}
 use Rattle.hsms_compare.proofs.Agreements.{IsStuck, is_merge-swap, encounters, stuck}
 use Rattle.hsms_compare.proofs.Contradictions.{different}
 use Rattle.hsms_compare.proofs.Histories.{agree-swap}

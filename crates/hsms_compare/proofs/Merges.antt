@@ -14,7 +14,8 @@ use Rattle.hsms_compare.specs.declared.merge.Merge.{Merge}
 use Rattle.hsms_compare.specs.declared.stop.MergeResult.{MergeResult}
 use Rattle.hsms_compare.specs.declared.stop.MergeResult.TheVariants.{Merged, NoneInFlight, OtherInFlight}
 use Rattle.hsms_compare.specs.Conversation.{Agree, Line, entries, sent, received, sent_by, received_by}
-use Rattle.hsms_compare.specs.Merge.{incoming, AreInFlight, AreMerged, IsMergeOf, IsMergeStep, IsStep, Receives, sent_frame, sent_frames_by, sent_frames_of, frames_of, line_at}
+use Rattle.hsms_compare.specs.Merge.{incoming, AreInFlight, AreMerged, IsMergeOf, IsMergeStep, sent_frame, sent_frames_by, sent_frames_of, frames_of, line_at}
+use Rattle.hsms_compare.specs.InnerMerge.{IsStep, Receives}
 use Rattle.hsms_compare.specs.Agreement.{SendsAs}
 use Rattle.hsms_compare.proofs.Histories.{agree-host, agree-swap, received-more}
 

@@ -10,7 +10,8 @@ use Rattle.hsms_compare.specs.declared.merge.Merge.{Merge}
 use Rattle.hsms_compare.specs.declared.stop.MergeResult.{MergeResult}
 use Rattle.hsms_compare.specs.declared.stop.MergeResult.TheVariants.{Merged, NoneInFlight, OtherInFlight}
 use Rattle.hsms_compare.specs.declared.stop.Stop.TheVariants.{Waits, OtherSent}
-use Rattle.hsms_compare.specs.Conversation.{Line, entries, numbered, sent, received, received_by}
+use Rattle.hsms_compare.specs.Conversation.{Line, entries, sent, received, received_by}
+use Rattle.hsms_compare.specs.InnerConversation.{numbered}
 use Rattle.hsms_compare.specs.Merge.{IsMergeOf, IsMergeStep, line_at}
 use Rattle.hsms_compare.specs.Agreement.{StopsAt, SendsAs, ReceivesAs}
 

@@ -1,6 +1,6 @@
 -- Two logs of one conversation: what each endpoint sent and received, and one history of both. TCP keeps the order of
 -- what is sent, and adds nothing.
-use Rattle.std.specs.Prelude.{◌≡◌, ◌++◌, ◌+◌, ℕ, List, [], ◌∷◌, map, take}
+use Rattle.std.specs.Prelude.{◌≡◌, ◌++◌, ℕ, List, [], ◌∷◌, map, take}
 use Rattle.std.specs.List.{flat_map}
 use Rattle.hsms_frame.specs.Frame.{Frame}
 use Rattle.hsms_machine.specs.declared.entry.Entry.{Entry}
@@ -43,11 +43,6 @@ pub record Line : Type 0 where
 
 abbrev pub entries : List Line → List Entry
 entries lines = map (λ (line : Line). line.entry) lines
-
--- A log whose entries are counted from a position on.
-abbrev pub numbered : ℕ → List Entry → List Line
-numbered position [] = []
-numbered position (entry ∷ log) = record { position = position; entry = entry } ∷ numbered (position + 1) log
 
 -- ---- of both endpoints
 

@@ -1,11 +1,13 @@
 pub mod Conversation
+pub mod InnerConversation
 pub mod Agreement
 pub mod Merge
+pub mod InnerMerge
 pub mod Outcome
 pub mod Connections
 pub mod Readings
 pub mod LineContradiction
-pub mod Passes
+pub mod InnerPasses
 pub mod Laws
 pub mod ByteStreams
 pub mod RequestState

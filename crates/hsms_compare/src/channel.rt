@@ -32,7 +32,8 @@ impl Model for Channel {
 
 impl Channel {
     ghost use Rattle.std.specs.Prelude.{◌≡◌, ◌++◌, [], ◌∷◌, length, OnOk, OnErr};
-    ghost use Rattle.hsms_compare.specs.Merge.{Receives, sent_frame};
+    ghost use Rattle.hsms_compare.specs.Merge.{sent_frame};
+    ghost use Rattle.hsms_compare.specs.InnerMerge.{Receives};
 
     /// Returns an empty channel.
     pub fn new(alloc: Global) -> Channel

@@ -3,7 +3,8 @@
 ghost use Rattle.std.specs.Prelude.{◌≡◌, ◌↔◌, ◌≤◌, ◌+◌, ◌<◌, List, [], ◌∷◌, ◌++◌, None, length, take, drop, IfOk, IsTrue};
 ghost use Rattle.hsms_machine.specs.Entry.{is_down as ends_connection};
 ghost use Rattle.hsms_machine.specs.declared.entry.Entry.{Entry};
-ghost use Rattle.hsms_compare.specs.Conversation.{Line, numbered, sent, sent_by};
+ghost use Rattle.hsms_compare.specs.Conversation.{Line, sent, sent_by};
+ghost use Rattle.hsms_compare.specs.InnerConversation.{numbered};
 ghost use Rattle.hsms_compare.specs.Agreement.{AgreeUpTo, AreLost, CanAgree, StopsAt, FirstContradiction, is_open as may_have_more};
 ghost use Rattle.hsms_compare.specs.Merge.{IsMergeOf};
 

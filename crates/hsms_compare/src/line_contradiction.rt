@@ -35,7 +35,7 @@ impl LineContradiction {
     ghost use Rattle.std.specs.Prelude.{◌≡◌, ℕ, List, Bool, true, false, Some, None, IfOk, OnOk};
     ghost use Rattle.hsms_compare.specs.Conversation.{Line};
     ghost use Rattle.hsms_compare.specs.LineContradiction.{FirstByLines};
-    ghost use Rattle.hsms_compare.specs.Passes.{HavePaused, IsFirstSent};
+    ghost use Rattle.hsms_compare.specs.InnerPasses.{HavePaused, IsFirstSent};
     ghost use Rattle.hsms_compare.specs.declared.pass.Pause.TheVariants.{Waits};
     ghost use Rattle.hsms_compare.specs.declared.line_contradiction.LineContradiction.TheVariants.{Unsent};
 

@@ -16,7 +16,8 @@ pub struct Merge {
 impl Merge {
     ghost use Rattle.std.specs.Prelude.{◌≡◌, ◌+◌, List, [], length, IfOk, OnErr};
     ghost use Rattle.hsms_compare.specs.Conversation.{Line, entries, sent, received};
-    ghost use Rattle.hsms_compare.specs.Merge.{IsMergeOf, IsMergeStep, IsStep};
+    ghost use Rattle.hsms_compare.specs.Merge.{IsMergeOf, IsMergeStep};
+    ghost use Rattle.hsms_compare.specs.InnerMerge.{IsStep};
     ghost use Rattle.hsms_machine.specs.declared.settings.Role.TheVariants.{Host};
 
     /// Returns the merge of two empty logs.

@@ -48,7 +48,7 @@ impl PassEnd {
     ghost use Rattle.hsms_machine.specs.declared.settings.Role.TheVariants.{Host};
     ghost use Rattle.hsms_compare.specs.Conversation.{Line};
     ghost use Rattle.hsms_compare.specs.Merge.{IsMergeOf};
-    ghost use Rattle.hsms_compare.specs.Passes.{HasStopped, IsOffered, IsTurn, TakesOf, TurnsOf};
+    ghost use Rattle.hsms_compare.specs.InnerPasses.{HasStopped, IsOffered, IsTurn, TakesOf, TurnsOf};
 
     /// Reads the logs of one connection up to the last entries that agree, or to a frame that differs. Equipment goes
     /// first if frames are in flight to it, so no more is buffered than the frames in flight and one entry of each log.

@@ -14,7 +14,7 @@ use Rattle.hsms_compare.specs.Conversation.{Line}
 use Rattle.hsms_compare_logs.specs.declared.read_entry.Content.{Content}
 use Rattle.hsms_compare_logs.specs.declared.input.InputLine.{InputLine}
 use Rattle.hsms_compare_logs.specs.declared.input.InputLine.TheVariants.{TooLong}
-use Rattle.hsms_compare_logs.specs.Reader.{IsContent, IsLine}
+use Rattle.hsms_compare_logs.specs.InnerReader.{IsContent, IsLine}
 use Rattle.hsms_compare_logs.specs.LogEntries.{AreEntries, AreLastEntries, IsUnreadable, at_line, has_frame, without_frame}
 use Rattle.hsms_compare_logs.specs.Entries.{AreOfText}
 

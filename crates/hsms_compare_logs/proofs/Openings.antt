@@ -10,10 +10,10 @@ use Rattle.hsms_log.proofs.LineLemmas.{ended_lines-first, ended_lines-none, open
 use Rattle.hsms_compare.specs.Conversation.{Line}
 use Rattle.hsms_compare_logs.specs.declared.input.InputLine.{InputLine}
 use Rattle.hsms_compare_logs.specs.declared.input.InputLine.TheVariants.{Last}
-use Rattle.hsms_compare_logs.specs.Connection.{IsFirstLine}
+use Rattle.hsms_compare_logs.specs.InnerConnection.{IsFirstLine}
 use Rattle.hsms_compare_logs.specs.Entries.{AreLeft, AreOfText}
 use Rattle.hsms_compare_logs.specs.LogEntries.{HasEntries, HaveEntries}
-use Rattle.hsms_compare_logs.specs.Reader.{IsLine}
+use Rattle.hsms_compare_logs.specs.InnerReader.{IsLine}
 
 pub starts : (block octets text line : List ℕ) (left : Option (List ℕ)) (ended : Bool) (s : Parameters) (max : ℕ) (found : List Line) → max ≡ s.max → left ≡ Some octets → IsFirstLine text line (block ++ octets) ended → HasEntries text s found → AreLeft block left max 1 ended found
 starts block octets text line left true s max found e known at h =

@@ -1,7 +1,6 @@
 -- For private contracts: what is left of the first connection of a log.
-use Rattle.std.specs.Prelude.{◌≡◌, ◌++◌, ℕ, Bool, true, false, not, ◌&&◌, List, [], ◌∷◌, Option, Some, None}
+use Rattle.std.specs.Prelude.{◌≡◌, ℕ, Bool, false, not, ◌&&◌, List, [], ◌∷◌, Option, Some, None}
 use Rattle.hsms_machine.specs.Entry.{is_down}
-use Rattle.hsms_log.specs.Lines.{HasNone}
 use Rattle.hsms_compare.specs.Conversation.{Line}
 use Rattle.hsms_compare.specs.declared.reading.NumberedEntry.{NumberedEntry}
 use Rattle.hsms_compare.specs.Readings.{line_of}
@@ -15,8 +14,3 @@ LogLeft block left max count ended None down followed lines more = (lines ≡ []
 LogLeft block left max count ended (Some next) down followed lines more =
     (found : List Line) × (followed ≡ false) × AreLeft block left max count ended found
     × (lines ≡ line_of next ∷ until_up found) × (more ≡ may_continue (is_down next.entry.event) found)
-
--- Holds if this is the first line of a text, and what follows it. Nothing follows a line that ends the text.
-abbrev pub IsFirstLine : List ℕ → List ℕ → List ℕ → Bool → Type 0
-IsFirstLine text line left false = (text ≡ line ++ 10 ∷ left) × HasNone 10 line
-IsFirstLine text line left true = (text ≡ line) × HasNone 10 line

@@ -1,12 +1,7 @@
 -- For private contracts: the entries that are left of a log.
-use Rattle.std.specs.Prelude.{◌≡◌, ◌+◌, ◌++◌, ℕ, Bool, true, false, List, [], ◌∷◌, Option, Some}
+use Rattle.std.specs.Prelude.{◌≡◌, ◌+◌, ◌++◌, ℕ, Bool, true, false, List, [], Option, Some}
 use Rattle.hsms_log.specs.Lines.{ended_lines, open_line}
 use Rattle.hsms_compare.specs.Conversation.{Line}
-use Rattle.hsms_compare.specs.Readings.{line_of}
-use Rattle.hsms_compare_logs.specs.declared.line_read.LineRead.{LineRead}
-use Rattle.hsms_compare_logs.specs.declared.line_read.LineRead.TheVariants.{Blank, Entry, Last, End}
-use Rattle.hsms_compare_logs.specs.declared.input.InputLine.{InputLine}
-use Rattle.hsms_compare_logs.specs.declared.input.InputLine.TheVariants as input
 use Rattle.hsms_compare_logs.specs.Audited.{AuditState}
 use Rattle.hsms_compare_logs.specs.LogEntries.{AreEntries}
 use Rattle.hsms_compare_logs.specs.Reader.{room}
@@ -14,26 +9,6 @@ use Rattle.hsms_compare_logs.specs.Reader.{room}
 -- The entries of a text whose first line has this number.
 abbrev pub AreOfText : ℕ → ℕ → List ℕ → List Line → Type 0
 AreOfText max number text found = AreEntries max number (ended_lines text) (open_line text) found
-
--- The result of the line with this number, if this text follows it.
-abbrev pub IsLineRead : ℕ → ℕ → List ℕ → List Line → LineRead → Type 0
-IsLineRead max number left found Blank = AreOfText max (number + 1) left found
-IsLineRead max number left found (Entry next) = (later : List Line) × (found ≡ line_of next ∷ later) × AreOfText max (number + 1) left later
-IsLineRead max number left found (Last next) = found ≡ line_of next ∷ []
-IsLineRead max number left found End = found ≡ []
-
--- Holds if no entries follow.
-abbrev pub IsLast : LineRead → Type 0
-IsLast Blank = ⊥
-IsLast (Entry next) = ⊥
-IsLast (Last next) = Unit {0}
-IsLast End = Unit {0}
-
--- Holds if entries follow only a line that a line feed ends.
-abbrev pub FollowsLine : InputLine → LineRead → Type 0
-FollowsLine (input.Ended line) read = Unit {0}
-FollowsLine (input.Last line) read = IsLast read
-FollowsLine input.TooLong read = IsLast read
 
 -- The entries that are left of a log: of a block, and of what the source has left.
 abbrev pub AreLeft : List ℕ → Option (List ℕ) → ℕ → ℕ → Bool → List Line → Type 0

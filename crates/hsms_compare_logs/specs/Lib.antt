@@ -1,6 +1,9 @@
 pub mod Audited
 pub mod LogEntries
 pub mod Reader
+pub mod InnerReader
 pub mod Entries
+pub mod InnerEntries
 pub mod Connection
-pub mod Comparison
+pub mod InnerConnection
+pub mod InnerComparison

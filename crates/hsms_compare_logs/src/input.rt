@@ -1,7 +1,7 @@
 //! The lines of a log that is read from a source and audited.
 
 ghost use Rattle.std.specs.Prelude.{◌≡◌, ◌++◌, ◌∷◌, true, false, List, ℕ, IfOk};
-ghost use Rattle.hsms_compare_logs.specs.Reader.{TakesLine};
+ghost use Rattle.hsms_compare_logs.specs.InnerReader.{TakesLine};
 
 use crate::bounded_audit::BoundedAudit;
 use hsms_compare::ReadFault;
@@ -35,7 +35,8 @@ impl<R: Source + Drop> Input<R> {
     ghost use Rattle.std.specs.Prelude.{◌≡◌, ◌<◌, ◌≤◌, ◌++◌, true, false, ℕ, List, [], Some, IfOk, OnOk};
     ghost use Rattle.hsms_log.specs.Verdict.{HasAuditVerdict};
     ghost use Rattle.hsms_compare_logs.specs.Audited.{ReadsText};
-    ghost use Rattle.hsms_compare_logs.specs.Reader.{IsLine, Shrinks, room};
+    ghost use Rattle.hsms_compare_logs.specs.Reader.{room};
+    ghost use Rattle.hsms_compare_logs.specs.InnerReader.{IsLine, Shrinks};
 
     /// Reads the next line.
     ///

@@ -23,8 +23,9 @@ impl LineRead {
     ghost use Rattle.std.specs.Prelude.{◌+◌, ◌*◌, ◌++◌, ◌∷◌, ℕ, List, IfOk};
     ghost use Rattle.hsms_compare.specs.Conversation.{Line};
     ghost use Rattle.hsms_log.specs.Lines.{HasNone};
-    ghost use Rattle.hsms_compare_logs.specs.Reader.{IsLine};
-    ghost use Rattle.hsms_compare_logs.specs.Entries.{AreOfText, FollowsLine, IsLast, IsLineRead};
+    ghost use Rattle.hsms_compare_logs.specs.InnerReader.{IsLine};
+    ghost use Rattle.hsms_compare_logs.specs.Entries.{AreOfText};
+    ghost use Rattle.hsms_compare_logs.specs.InnerEntries.{FollowsLine, IsLast, IsLineRead};
 
     /// Returns the entry of a line with this number.
     pub fn of(alloc: Global, line: InputLine, max: u32, number: u64) -> Result<LineRead, AllocError>

@@ -25,7 +25,8 @@ impl<R: Source + Drop> OpenedLog<R> {
     ghost use Rattle.hsms_compare.specs.Conversation.{Line};
     ghost use Rattle.hsms_compare_logs.specs.Audited.{ReadsText};
     ghost use Rattle.hsms_compare_logs.specs.LogEntries.{HasEntries, connection_of, is_open_connection};
-    ghost use Rattle.hsms_compare_logs.specs.Connection.{LogLeft, IsFirstLine};
+    ghost use Rattle.hsms_compare_logs.specs.Connection.{LogLeft};
+    ghost use Rattle.hsms_compare_logs.specs.InnerConnection.{IsFirstLine};
 
     /// Reads the settings of a log. Returns `None` if its first line encodes none.
     ///

@@ -16,7 +16,7 @@ pub enum Content {
 impl Content {
     ghost use Rattle.std.specs.Prelude.{◌≡◌, IfOk};
     ghost use Rattle.hsms_compare_logs.specs.LogEntries.{has_frame as carries_frame};
-    ghost use Rattle.hsms_compare_logs.specs.Reader.{IsContent};
+    ghost use Rattle.hsms_compare_logs.specs.InnerReader.{IsContent};
     ghost use Rattle.hsms_machine.specs.Entry.{is_up as begins, is_down as ends};
 
     /// Returns the content of a line.

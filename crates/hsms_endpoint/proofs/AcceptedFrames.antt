@@ -26,13 +26,13 @@ use Rattle.hsms_endpoint.specs.declared.state.State.{State}
 use Rattle.hsms_endpoint.specs.Answer.{Answered, quiet}
 use Rattle.hsms_endpoint.specs.Action.{Act, logs}
 use Rattle.hsms_endpoint.specs.PrimaryCounts.{name_of, name_in, times, once_more}
-use Rattle.hsms_endpoint.specs.Internals.{after_event, after_asking}
+use Rattle.hsms_endpoint.specs.InnerInternals.{after_event, after_asking}
 use Rattle.hsms_endpoint.specs.Reaction.{reaction, answers_taken, answers_primary, answers_discarded, rejects, warns, is_control_response}
 use Rattle.hsms_endpoint.specs.Turn.{is_up, BreaksAsTaken, received_as, IsAnswerOf, asked_with}
-use Rattle.hsms_endpoint.specs.ActionSteps.{Performs, IsValidEvent, HasLogged}
+use Rattle.hsms_endpoint.specs.InnerActionSteps.{Performs, IsValidEvent, HasLogged}
 use Rattle.hsms_endpoint.specs.Invariant.{IsSound}
-use Rattle.hsms_endpoint.specs.Receiving.{HasHandled}
-use Rattle.hsms_endpoint.specs.AwaitingReply.{PeerAwaits, Settles, Interjects, IsAsked, IsAskedToSelect, IsAskedForLink, CanTake, CanDiscard, IsAnsweredBy, is_silent}
+use Rattle.hsms_endpoint.specs.InnerReceiving.{HasHandled}
+use Rattle.hsms_endpoint.specs.InnerAwaitingReply.{PeerAwaits, Settles, Interjects, IsAsked, IsAskedToSelect, IsAskedForLink, CanTake, CanDiscard, IsAnsweredBy, is_silent}
 use Rattle.hsms_endpoint.proofs.ValidOutputs.{down_over_valid, applies}
 use Rattle.hsms_endpoint.proofs.Requests.{frame_taken, frame_discarded}
 use Rattle.hsms_endpoint.proofs.Steadiness.{kept_phase, sound_down}

@@ -14,10 +14,10 @@ use Rattle.hsms_machine.specs.ViewRules.{facts_of, view_after}
 use Rattle.hsms_endpoint.specs.declared.state.State.{State}
 use Rattle.hsms_endpoint.specs.EndState.{EndState}
 use Rattle.hsms_endpoint.specs.Action.{Act, logs, asks, Acts, with_event, with_number}
-use Rattle.hsms_endpoint.specs.Internals.{known, entry_of, after_event}
+use Rattle.hsms_endpoint.specs.InnerInternals.{known, entry_of, after_event}
 use Rattle.hsms_endpoint.specs.SystemBytes.{IsFirstFree}
 use Rattle.hsms_endpoint.specs.End.{Extends}
-use Rattle.hsms_endpoint.specs.ActionSteps.{Performs, IsValidEvent}
+use Rattle.hsms_endpoint.specs.InnerActionSteps.{Performs, IsValidEvent}
 use Rattle.hsms_endpoint.proofs.ValidOutputs.{first_same}
 
 -- A consequence that holds if a call succeeded.

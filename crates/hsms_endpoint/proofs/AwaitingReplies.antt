@@ -15,13 +15,13 @@ use Rattle.hsms_machine.specs.Transaction.{SentData, SentControl, TakenData, Tak
 use Rattle.hsms_machine.specs.View.{phase_by}
 use Rattle.hsms_machine.specs.ViewRules.{phase_after, pool_after, is_gone, is_over, is_selected, is_closed_by}
 use Rattle.hsms_endpoint.specs.declared.state.State.{State}
-use Rattle.hsms_endpoint.specs.Internals.{entry_of, after_event}
+use Rattle.hsms_endpoint.specs.InnerInternals.{entry_of, after_event}
 use Rattle.hsms_machine.specs.declared.entry.Entry.{Entry}
 use Rattle.hsms_machine.specs.View.{HasView}
-use Rattle.hsms_endpoint.specs.ActionSteps.{Performs}
+use Rattle.hsms_endpoint.specs.InnerActionSteps.{Performs}
 use Rattle.hsms_endpoint.specs.Turn.{is_up, is_unselected}
 use Rattle.hsms_endpoint.specs.Invariant.{IsSound}
-use Rattle.hsms_endpoint.specs.AwaitingReply.{PeerAwaits, IsMild}
+use Rattle.hsms_endpoint.specs.InnerAwaitingReply.{PeerAwaits, IsMild}
 use Rattle.hsms_endpoint.proofs.Steadiness.{or_first, or_second, or_both, up_is_not_before, up_is_not_over}
 
 -- ---- the phase

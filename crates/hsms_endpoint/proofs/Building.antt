@@ -1,6 +1,7 @@
 -- The items that message handlers build.
 use Rattle.std.proofs.Common.{◌≡◌, [], ◌∷◌, Vec, Global, ap, ◌∙◌}
-use Rattle.secs_item.specs.Item.{Value, list, element, no_elements, view, views}
+use Rattle.secs_item.specs.Item.{Value, list, element, no_elements, view}
+use Rattle.secs_item.specs.InnerItem.{views}
 use Rattle.secs_item.specs.declared.item.Item.{Item, List as item_list}
 use Rattle.secs_item.proofs.Views.{view-List}
 

@@ -15,11 +15,13 @@ use Rattle.hsms_endpoint.specs.Turn.{is_up, opening_of, InputEvent, Turn, start,
 use Rattle.hsms_endpoint.specs.declared.fault.EndFault.{EndFault}
 use Rattle.hsms_endpoint.specs.declared.fault.EndFault.TheVariants.{Spent, NotUp, NotSelected, NotPrimary, Nine, Full, TooLong, TooDeep, Memory}
 use Rattle.hsms_endpoint.specs.Fault.{Encounters, IsNotUp, is_before}
-use Rattle.hsms_endpoint.specs.ActionSteps.{Performs, HasLogged}
-use Rattle.hsms_endpoint.specs.Invariant.{IsSound, Completes}
+use Rattle.hsms_endpoint.specs.InnerActionSteps.{Performs, HasLogged}
+use Rattle.hsms_endpoint.specs.Invariant.{IsSound}
+use Rattle.hsms_endpoint.specs.InnerInvariant.{Completes}
 use Rattle.hsms_endpoint.specs.End.{Extends, Accepts, Refuses, Answers}
 use Rattle.hsms_endpoint.specs.EndState.{EndState, EndOf}
-use Rattle.hsms_endpoint.specs.Internals.{known_of, known, IsRefusedAs}
+use Rattle.hsms_endpoint.specs.Internals.{known_of}
+use Rattle.hsms_endpoint.specs.InnerInternals.{known, IsRefusedAs}
 
 pub acts_of : (end end' : State) (acts : List Act) (entries : List Entry) → Performs end [] acts end' entries → Acts (known end) acts entries (known end')
 acts_of end end' acts entries h = subst (λ es. Acts (known end) acts es (known end')) (sym h.added) h.done

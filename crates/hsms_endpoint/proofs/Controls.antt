@@ -23,12 +23,12 @@ use Rattle.hsms_machine.specs.Transaction.{answers, rejects, answers_kind}
 use Rattle.hsms_machine.specs.Rule.{IsAnswer}
 use Rattle.hsms_machine.specs.ViewRules.{facts_of, is_selected}
 use Rattle.hsms_endpoint.specs.declared.state.State.{State}
-use Rattle.hsms_endpoint.specs.Internals.{after_event}
+use Rattle.hsms_endpoint.specs.InnerInternals.{after_event}
 use Rattle.hsms_endpoint.specs.Frame.{select_rsp, linktest_rsp, reject_req}
 use Rattle.hsms_endpoint.specs.Action.{logs}
 use Rattle.hsms_endpoint.specs.Reaction.{rejects as rejects_by}
-use Rattle.hsms_endpoint.specs.ActionSteps.{IsValidEvent, Performs, HasLogged}
-use Rattle.hsms_endpoint.specs.AwaitingReply.{PeerAwaits, Settles, IsAskedToSelect, IsAskedForLink}
+use Rattle.hsms_endpoint.specs.InnerActionSteps.{IsValidEvent, Performs, HasLogged}
+use Rattle.hsms_endpoint.specs.InnerAwaitingReply.{PeerAwaits, Settles, IsAskedToSelect, IsAskedForLink}
 use Rattle.hsms_endpoint.proofs.ValidOutputs.{sent_valid}
 use Rattle.hsms_endpoint.proofs.OwnFrames.{IsFine}
 use Rattle.hsms_endpoint.proofs.AwaitingReplies.{IsQuiet, left_by, sent_awaits}

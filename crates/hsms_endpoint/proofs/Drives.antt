@@ -15,7 +15,7 @@ use Rattle.hsms_endpoint.specs.Turn.{InputEvent, Turn}
 use Rattle.hsms_endpoint.specs.Fault.{Encounters}
 use Rattle.hsms_endpoint.specs.End.{Accepts, Refuses}
 use Rattle.hsms_endpoint.specs.Drive.{input_event, Responds, is_refused, is_accepted, Drives, octets_received, IsDriven}
-use Rattle.hsms_endpoint.specs.Driving.{HasDriven}
+use Rattle.hsms_endpoint.specs.InnerDriving.{HasDriven}
 use Rattle.hsms_endpoint.proofs.Acts.{settings_of}
 use Rattle.hsms_endpoint.proofs.KeptRequests.{drive_keeps_octets}
 

@@ -6,10 +6,11 @@ use Rattle.hsms_endpoint.specs.declared.state.State.{State}
 use Rattle.hsms_endpoint.specs.Answer.{Answered}
 use Rattle.hsms_endpoint.specs.Turn.{is_up, expiries, tick}
 use Rattle.hsms_endpoint.specs.Fault.{Encounters}
-use Rattle.hsms_endpoint.specs.Invariant.{Completes}
+use Rattle.hsms_endpoint.specs.InnerInvariant.{Completes}
 use Rattle.hsms_endpoint.specs.EndState.{EndOf}
 use Rattle.hsms_endpoint.specs.End.{Accepts}
-use Rattle.hsms_endpoint.specs.Internals.{known_of, known, at_later}
+use Rattle.hsms_endpoint.specs.Internals.{known_of}
+use Rattle.hsms_endpoint.specs.InnerInternals.{known, at_later}
 use Rattle.hsms_endpoint.proofs.Calls.{inside_of, accepted}
 
 not_true : (b : Bool) → b ≡ false → b ≡ true → ⊥

@@ -18,11 +18,11 @@ use Rattle.hsms_machine.specs.View.{HasView, oldest_of}
 use Rattle.hsms_machine.specs.ViewRules.{facts_of, phase_after, view_after}
 use Rattle.hsms_endpoint.specs.declared.state.State.{State}
 use Rattle.hsms_endpoint.specs.Action.{Act, logs}
-use Rattle.hsms_endpoint.specs.Internals.{entry_of, after_event}
+use Rattle.hsms_endpoint.specs.InnerInternals.{entry_of, after_event}
 use Rattle.hsms_machine.specs.OpeningOrder.{IsOrdered}
 use Rattle.hsms_endpoint.specs.Turn.{is_up, expired_at, expiry}
-use Rattle.hsms_endpoint.specs.ActionSteps.{IsValidEvent, Performs}
-use Rattle.hsms_endpoint.specs.Expiring.{IsLate, is_data_overdue, overdue_of, with_data, headers_of, HasExpired}
+use Rattle.hsms_endpoint.specs.InnerActionSteps.{IsValidEvent, Performs}
+use Rattle.hsms_endpoint.specs.InnerExpiring.{IsLate, is_data_overdue, overdue_of, with_data, headers_of, HasExpired}
 use Rattle.hsms_endpoint.proofs.Acts.{does_then}
 use Rattle.hsms_endpoint.proofs.ValidOutputs.{none_of}
 use Rattle.hsms_endpoint.proofs.Steadiness.{up_is_not_before, up_is_not_over}

@@ -13,10 +13,10 @@ use Rattle.hsms_endpoint.specs.Frame.{warning}
 use Rattle.hsms_endpoint.specs.Action.{Act, asks}
 use Rattle.hsms_endpoint.specs.Reaction.{is_equipment}
 use Rattle.hsms_endpoint.specs.Turn.{is_up, is_unselected, expired_at, expiry, expiry_warning, overdue_cause, after_expiries, expiries, cut_by}
-use Rattle.hsms_endpoint.specs.ActionSteps.{Performs}
+use Rattle.hsms_endpoint.specs.InnerActionSteps.{Performs}
 use Rattle.hsms_endpoint.specs.Invariant.{IsSound}
-use Rattle.hsms_endpoint.specs.Expiring.{IsLate, is_data_overdue, headers_of, HasExpired, MayWarn, warns_of, warnings_of}
-use Rattle.hsms_endpoint.specs.Internals.{known, at_later}
+use Rattle.hsms_endpoint.specs.InnerExpiring.{IsLate, is_data_overdue, headers_of, HasExpired, MayWarn, warns_of, warnings_of}
+use Rattle.hsms_endpoint.specs.InnerInternals.{known, at_later}
 use Rattle.hsms_endpoint.proofs.Acts.{does_then}
 use Rattle.hsms_endpoint.proofs.Ordering.{ordered_later}
 use Rattle.hsms_endpoint.proofs.ExpiredData.{all_expired}

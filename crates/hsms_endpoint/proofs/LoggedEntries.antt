@@ -9,8 +9,8 @@ use Rattle.hsms_machine.specs.Settings.{Parameters}
 use Rattle.hsms_endpoint.specs.declared.state.State.{State}
 use Rattle.hsms_endpoint.specs.Action.{Act}
 use Rattle.hsms_endpoint.specs.Reaction.{is_equipment, warns}
-use Rattle.hsms_endpoint.specs.ActionSteps.{Performs}
-use Rattle.hsms_endpoint.specs.Expiring.{warns_of, warnings_of, MayWarn}
+use Rattle.hsms_endpoint.specs.InnerActionSteps.{Performs}
+use Rattle.hsms_endpoint.specs.InnerExpiring.{warns_of, warnings_of, MayWarn}
 use Rattle.hsms_endpoint.proofs.Acts.{does_then}
 
 -- A host reports nothing.

@@ -20,11 +20,11 @@ use Rattle.hsms_endpoint.specs.declared.state.State.{State}
 use Rattle.hsms_endpoint.specs.declared.fault.EndFault.{EndFault}
 use Rattle.hsms_endpoint.specs.SystemBytes.{IsFree}
 use Rattle.hsms_endpoint.specs.Frame.{is_within_depth, is_within_max, fitting, text_of, fitting_text, message_frame}
-use Rattle.hsms_endpoint.specs.Internals.{after_event, after_number}
+use Rattle.hsms_endpoint.specs.InnerInternals.{after_event, after_number}
 use Rattle.hsms_endpoint.specs.Turn.{is_up}
-use Rattle.hsms_endpoint.specs.ActionSteps.{IsValidEvent}
+use Rattle.hsms_endpoint.specs.InnerActionSteps.{IsValidEvent}
 use Rattle.hsms_endpoint.specs.Invariant.{IsSound}
-use Rattle.hsms_endpoint.specs.Sending.{hindrance_by, hindrance_of, IsSpelt}
+use Rattle.hsms_endpoint.specs.InnerSending.{hindrance_by, hindrance_of, IsSpelt}
 use Rattle.hsms_endpoint.proofs.ValidOutputs.{sent_valid}
 use Rattle.hsms_endpoint.proofs.DataFrames.{IsSendable, data_fine}
 use Rattle.hsms_endpoint.proofs.Steadiness.{IsSteadySend, sent_sound, renumbered}

@@ -16,11 +16,13 @@ use Rattle.hsms_machine.specs.Timer.{IsT7Overdue}
 use Rattle.hsms_machine.specs.View.{oldest_of}
 use Rattle.hsms_machine.specs.ViewRules.{facts_of, is_connected}
 use Rattle.hsms_endpoint.specs.declared.state.State.{State}
-use Rattle.hsms_endpoint.specs.Internals.{known, entry_of}
+use Rattle.hsms_endpoint.specs.InnerInternals.{known, entry_of}
 use Rattle.hsms_endpoint.specs.Turn.{is_up, is_unselected, is_t6_overdue, is_t7_overdue, is_t8_overdue, overdue_cause}
-use Rattle.hsms_endpoint.specs.ActionSteps.{IsValidEvent, IsCalm}
-use Rattle.hsms_endpoint.specs.Invariant.{IsSound, CanCut}
-use Rattle.hsms_endpoint.specs.Expiring.{IsLate, is_data_overdue, overdue_of}
+use Rattle.hsms_endpoint.specs.ActionSteps.{IsCalm}
+use Rattle.hsms_endpoint.specs.InnerActionSteps.{IsValidEvent}
+use Rattle.hsms_endpoint.specs.Invariant.{IsSound}
+use Rattle.hsms_endpoint.specs.InnerInvariant.{CanCut}
+use Rattle.hsms_endpoint.specs.InnerExpiring.{IsLate, is_data_overdue, overdue_of}
 use Rattle.hsms_endpoint.proofs.ValidOutputs.{none_of, first_same, down_valid}
 use Rattle.hsms_endpoint.proofs.Steadiness.{up_is_not_before, up_is_not_over}
 use Rattle.hsms_endpoint.proofs.ExpiredData.{none_overdue, found_overdue}

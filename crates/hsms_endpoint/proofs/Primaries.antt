@@ -15,16 +15,16 @@ use Rattle.hsms_machine.specs.Settings.{Parameters, IsWithinLimits}
 use Rattle.hsms_machine.specs.Message.{is_data_request, is_control_request, separates, is_separate_kind, opens_data, opens_control}
 use Rattle.hsms_machine.specs.Transaction.{answers, answers_kind, opened_by}
 use Rattle.hsms_endpoint.specs.declared.state.State.{State}
-use Rattle.hsms_endpoint.specs.Internals.{after_event}
+use Rattle.hsms_endpoint.specs.InnerInternals.{after_event}
 use Rattle.hsms_endpoint.specs.Frame.{abort_of}
 use Rattle.hsms_endpoint.specs.declared.answer.Answer.{Answer}
 use Rattle.hsms_endpoint.specs.declared.answer.Answer.TheVariants.{Reply, Quiet, NoStream, NoFunction, Illegal}
 use Rattle.hsms_endpoint.specs.Action.{Act, logs}
 use Rattle.hsms_endpoint.specs.Answer.{Answered, answered}
 use Rattle.hsms_endpoint.specs.Reaction.{warns, answers_primary}
-use Rattle.hsms_endpoint.specs.ActionSteps.{IsValidEvent, Performs, HasLogged}
+use Rattle.hsms_endpoint.specs.InnerActionSteps.{IsValidEvent, Performs, HasLogged}
 use Rattle.hsms_endpoint.proofs.Acts.{does_then}
-use Rattle.hsms_endpoint.specs.AwaitingReply.{PeerAwaits, IsSame, Settles, Interjects, reply_by, replies_by, IsAsked, IsReplyTo}
+use Rattle.hsms_endpoint.specs.InnerAwaitingReply.{PeerAwaits, IsSame, Settles, Interjects, reply_by, replies_by, IsAsked, IsReplyTo}
 use Rattle.hsms_endpoint.proofs.ValidOutputs.{sent_valid}
 use Rattle.hsms_endpoint.proofs.DataFrames.{IsSendable, data_fine}
 use Rattle.hsms_endpoint.proofs.AwaitingReplies.{IsQuiet, left_by, sent_awaits, does_nothing}

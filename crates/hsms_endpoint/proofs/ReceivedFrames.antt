@@ -5,12 +5,13 @@ use Rattle.hsms_machine.specs.declared.entry.Entry.{Entry}
 use Rattle.hsms_endpoint.specs.declared.state.State.{State}
 use Rattle.hsms_endpoint.specs.Answer.{Answered}
 use Rattle.hsms_endpoint.specs.Turn.{is_up, bytes, Receives}
-use Rattle.hsms_endpoint.specs.Internals.{known_of, known, after_octets}
+use Rattle.hsms_endpoint.specs.Internals.{known_of}
+use Rattle.hsms_endpoint.specs.InnerInternals.{known, after_octets}
 use Rattle.hsms_endpoint.specs.Fault.{Encounters}
 use Rattle.hsms_endpoint.specs.End.{Extends, Accepts}
 use Rattle.hsms_endpoint.specs.EndState.{EndOf}
 use Rattle.hsms_endpoint.specs.Invariant.{IsSound}
-use Rattle.hsms_endpoint.specs.Receiving.{HasReceivedAll}
+use Rattle.hsms_endpoint.specs.InnerReceiving.{HasReceivedAll}
 use Rattle.hsms_endpoint.proofs.Calls.{not_spent, up_is_up, inside_of, accepted_at}
 
 -- The pending bytes and the time of the last one do not affect soundness.

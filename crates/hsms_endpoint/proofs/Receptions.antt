@@ -14,9 +14,10 @@ use Rattle.hsms_endpoint.specs.declared.state.State.{State}
 use Rattle.hsms_endpoint.specs.Answer.{Answered}
 use Rattle.hsms_endpoint.specs.Turn.{is_up, cut_by, warns_too_long, Receives, Rests, is_down, waits, too_short, too_long, TakesOff}
 use Rattle.hsms_endpoint.specs.End.{Extends}
-use Rattle.hsms_endpoint.specs.Invariant.{IsSound, Completes}
-use Rattle.hsms_endpoint.specs.Internals.{known}
-use Rattle.hsms_endpoint.specs.Receiving.{HasHandled, HasReceived, HasReceivedAll}
+use Rattle.hsms_endpoint.specs.Invariant.{IsSound}
+use Rattle.hsms_endpoint.specs.InnerInvariant.{Completes}
+use Rattle.hsms_endpoint.specs.InnerInternals.{known}
+use Rattle.hsms_endpoint.specs.InnerReceiving.{HasHandled, HasReceived, HasReceivedAll}
 use Rattle.hsms_endpoint.proofs.Acts.{extends_then}
 
 extends_none : (view : View) → Extends view [] view

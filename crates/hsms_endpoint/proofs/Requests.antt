@@ -16,11 +16,12 @@ use Rattle.hsms_machine.specs.ViewRules.{phase_after, facts_of}
 use Rattle.hsms_endpoint.specs.declared.state.State.{State}
 use Rattle.hsms_endpoint.specs.SystemBytes.{IsFree}
 use Rattle.hsms_endpoint.specs.Frame.{select_req, linktest_req, separate_req}
-use Rattle.hsms_endpoint.specs.Internals.{after_event, after_number}
+use Rattle.hsms_endpoint.specs.InnerInternals.{after_event, after_number}
 use Rattle.hsms_endpoint.specs.Turn.{is_up, BreaksAsTaken}
 use Rattle.hsms_endpoint.specs.Fault.{is_before}
-use Rattle.hsms_endpoint.specs.ActionSteps.{IsValidEvent}
-use Rattle.hsms_endpoint.specs.Invariant.{IsSound, CanCut}
+use Rattle.hsms_endpoint.specs.InnerActionSteps.{IsValidEvent}
+use Rattle.hsms_endpoint.specs.Invariant.{IsSound}
+use Rattle.hsms_endpoint.specs.InnerInvariant.{CanCut}
 use Rattle.hsms_endpoint.proofs.ValidOutputs.{sent_valid, down_valid, down_over_valid, cut_valid, taken_broken, discarded_valid}
 use Rattle.hsms_endpoint.proofs.OwnFrames.{select_req_fine, linktest_req_fine, separate_req_fine}
 use Rattle.hsms_endpoint.proofs.Steadiness.{IsSteadySend, sent_sound, sound_down, renumbered, up_valid, up_phase, up_sound, up_none}

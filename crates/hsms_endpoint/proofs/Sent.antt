@@ -13,7 +13,7 @@ use Rattle.hsms_endpoint.specs.Fault.{Hinders, IsFirstFault, Encounters}
 use Rattle.hsms_endpoint.specs.EndState.{EndOf}
 use Rattle.hsms_endpoint.specs.Internals.{known_of}
 use Rattle.hsms_endpoint.specs.End.{Refuses}
-use Rattle.hsms_endpoint.specs.Sending.{hindrance_by, hindrance_of}
+use Rattle.hsms_endpoint.specs.InnerSending.{hindrance_by, hindrance_of}
 use Rattle.hsms_endpoint.proofs.Calls.{inside_of}
 
 -- The test is true if and only if the fact holds.

@@ -17,9 +17,9 @@ use Rattle.hsms_machine.specs.Rule.{Breaks, all_rules}
 use Rattle.hsms_machine.specs.View.{phase_by, own_open_of}
 use Rattle.hsms_machine.specs.ViewRules.{facts_of, phase_after, is_gone, is_over, is_selected, is_connected}
 use Rattle.hsms_endpoint.specs.declared.state.State.{State}
-use Rattle.hsms_endpoint.specs.Internals.{entry_of, after_event}
+use Rattle.hsms_endpoint.specs.InnerInternals.{entry_of, after_event}
 use Rattle.hsms_endpoint.specs.Turn.{is_up, is_unselected}
-use Rattle.hsms_endpoint.specs.ActionSteps.{IsValidEvent}
+use Rattle.hsms_endpoint.specs.InnerActionSteps.{IsValidEvent}
 use Rattle.hsms_endpoint.specs.Invariant.{IsFresh, IsSteady, IsSound}
 use Rattle.hsms_endpoint.proofs.ValidOutputs.{none_of}
 

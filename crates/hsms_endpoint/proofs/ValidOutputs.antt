@@ -11,10 +11,11 @@ use Rattle.hsms_machine.specs.declared.direction.Flow.TheVariants.{Outgoing, Inc
 use Rattle.hsms_machine.specs.Rule.{Breaks, FrameBreaks, IsFirst, all_rules, format_rules, transaction_rules}
 use Rattle.hsms_machine.specs.Timer.{IsT3Overdue, IsT6Overdue, IsT7Overdue}
 use Rattle.hsms_machine.specs.ViewRules.{facts_of, is_connected}
-use Rattle.hsms_endpoint.specs.Internals.{entry_of}
+use Rattle.hsms_endpoint.specs.InnerInternals.{entry_of}
 use Rattle.hsms_endpoint.specs.declared.state.State.{State}
 use Rattle.hsms_endpoint.specs.Turn.{is_up, is_unselected}
-use Rattle.hsms_endpoint.specs.ActionSteps.{IsValidEvent, IsCalm}
+use Rattle.hsms_endpoint.specs.ActionSteps.{IsCalm}
+use Rattle.hsms_endpoint.specs.InnerActionSteps.{IsValidEvent}
 
 pub none_of : (Applies : Rule → Type 0) (rules : List Rule) → ((rule : Rule) → Applies rule → ⊥) → IsFirst Applies rules None
 none_of Applies [] never = refl

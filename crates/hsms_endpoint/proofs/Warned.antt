@@ -15,10 +15,10 @@ use Rattle.hsms_machine.specs.Settings.{Parameters, IsWithinLimits}
 use Rattle.hsms_machine.specs.Message.{is_data_request, is_control_request, establishes, separates, is_select_response, is_separate_kind, is_reject_kind, opens_data, opens_control}
 use Rattle.hsms_machine.specs.Transaction.{answers, rejects, answers_kind, concludes}
 use Rattle.hsms_endpoint.specs.declared.state.State.{State}
-use Rattle.hsms_endpoint.specs.Internals.{after_event, after_number}
+use Rattle.hsms_endpoint.specs.InnerInternals.{after_event, after_number}
 use Rattle.hsms_endpoint.specs.Frame.{warning}
-use Rattle.hsms_endpoint.specs.ActionSteps.{IsValidEvent}
-use Rattle.hsms_endpoint.specs.AwaitingReply.{PeerAwaits, IsSame}
+use Rattle.hsms_endpoint.specs.InnerActionSteps.{IsValidEvent}
+use Rattle.hsms_endpoint.specs.InnerAwaitingReply.{PeerAwaits, IsSame}
 use Rattle.hsms_endpoint.proofs.ValidOutputs.{sent_valid}
 use Rattle.hsms_endpoint.proofs.Warnings.{warning_fine}
 use Rattle.hsms_endpoint.proofs.Steadiness.{kept_phase}

@@ -12,8 +12,8 @@ ghost use Rattle.hsms_machine.specs.ViewRules.{is_selected as is_selected_phase}
 ghost use Rattle.hsms_endpoint.specs.Answer.{Answered, answered};
 ghost use Rattle.hsms_endpoint.specs.PrimaryCounts.{name_in, times};
 ghost use Rattle.hsms_endpoint.specs.Reaction.{answers_discarded, is_control_response as is_control_response_of};
-ghost use Rattle.hsms_endpoint.specs.Receiving.{HasHandled};
-ghost use Rattle.hsms_endpoint.specs.AwaitingReply.{PeerAwaits, Settles, CanTake, CanDiscard, IsAnsweredBy};
+ghost use Rattle.hsms_endpoint.specs.InnerReceiving.{HasHandled};
+ghost use Rattle.hsms_endpoint.specs.InnerAwaitingReply.{PeerAwaits, Settles, CanTake, CanDiscard, IsAnsweredBy};
 
 use crate::answer::{Answer, TurnDesk};
 use crate::state::{State, bare};

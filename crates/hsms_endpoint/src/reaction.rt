@@ -10,7 +10,7 @@ ghost use Rattle.hsms_machine.specs.ViewRules.{is_selected as is_selected_phase}
 ghost use Rattle.hsms_endpoint.specs.Answer.{answered};
 ghost use Rattle.hsms_endpoint.specs.Frame.{warning, abort_of, reply_of};
 ghost use Rattle.hsms_endpoint.specs.Reaction.{warns, rejects, answers_primary};
-ghost use Rattle.hsms_endpoint.specs.AwaitingReply.{PeerAwaits, Settles, Interjects, replies_by, IsAsked, IsReplyTo};
+ghost use Rattle.hsms_endpoint.specs.InnerAwaitingReply.{PeerAwaits, Settles, Interjects, replies_by, IsAsked, IsReplyTo};
 
 use crate::answer::Answer;
 use crate::state::{State, bare};

@@ -5,10 +5,11 @@ ghost use Rattle.hsms_frame.specs.Framing.{FramesAs};
 ghost use Rattle.hsms_machine.specs.declared.entry.Cause.TheVariants.{Length};
 ghost use Rattle.hsms_machine.specs.declared.entry.Event.TheVariants.{Taken};
 ghost use Rattle.hsms_endpoint.specs.Turn.{is_up as is_connection_up, cut_by, warns_too_long, BreaksAsTaken, received_as};
-ghost use Rattle.hsms_endpoint.specs.Internals.{known, after_octets};
-ghost use Rattle.hsms_endpoint.specs.ActionSteps.{IsValidEvent};
-ghost use Rattle.hsms_endpoint.specs.Invariant.{IsSound, Completes};
-ghost use Rattle.hsms_endpoint.specs.Receiving.{HasHandled, HasReceivedAll};
+ghost use Rattle.hsms_endpoint.specs.InnerInternals.{known, after_octets};
+ghost use Rattle.hsms_endpoint.specs.InnerActionSteps.{IsValidEvent};
+ghost use Rattle.hsms_endpoint.specs.Invariant.{IsSound};
+ghost use Rattle.hsms_endpoint.specs.InnerInvariant.{Completes};
+ghost use Rattle.hsms_endpoint.specs.InnerReceiving.{HasHandled, HasReceivedAll};
 
 use crate::answer::TurnDesk;
 use crate::state::State;

@@ -6,8 +6,9 @@ ghost use Rattle.secs_item.specs.Encoding.{IsText};
 ghost use Rattle.secs_text.specs.View.{content};
 ghost use Rattle.hsms_endpoint.specs.Action.{asks};
 ghost use Rattle.hsms_endpoint.specs.Frame.{text_of as text_of_item, is_within_depth as is_item_within_depth, fitting_text as fitting_text_of, message_frame as message_frame_of};
-ghost use Rattle.hsms_endpoint.specs.Invariant.{IsSound, Completes};
-ghost use Rattle.hsms_endpoint.specs.Sending.{IsSpelt, hindrance_of};
+ghost use Rattle.hsms_endpoint.specs.Invariant.{IsSound};
+ghost use Rattle.hsms_endpoint.specs.InnerInvariant.{Completes};
+ghost use Rattle.hsms_endpoint.specs.InnerSending.{IsSpelt, hindrance_of};
 
 use crate::fault::EndFault;
 use crate::state::State;

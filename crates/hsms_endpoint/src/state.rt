@@ -35,12 +35,13 @@ impl State {
     ghost use Rattle.hsms_machine.specs.declared.entry.Event.TheVariants.{Sent, Down};
     ghost use Rattle.hsms_machine.specs.View.{own_open_of};
     ghost use Rattle.hsms_endpoint.specs.Action.{logs, asks};
-    ghost use Rattle.hsms_endpoint.specs.Internals.{IsRefusedAs};
+    ghost use Rattle.hsms_endpoint.specs.InnerInternals.{IsRefusedAs};
     ghost use Rattle.hsms_endpoint.specs.Fault.{is_before};
     ghost use Rattle.hsms_endpoint.specs.Frame.{linktest_req as linktest_req_of, separate_req as separate_req_of};
     ghost use Rattle.hsms_endpoint.specs.Turn.{opening_of, cut_by, is_up as is_connection_up};
-    ghost use Rattle.hsms_endpoint.specs.Invariant.{IsSound, CanCut, Completes};
-    ghost use Rattle.hsms_endpoint.specs.ActionSteps.{IsValidEvent, HasLogged, HasAsked};
+    ghost use Rattle.hsms_endpoint.specs.Invariant.{IsSound};
+    ghost use Rattle.hsms_endpoint.specs.InnerInvariant.{CanCut, Completes};
+    ghost use Rattle.hsms_endpoint.specs.InnerActionSteps.{IsValidEvent, HasLogged, HasAsked};
     ghost use Rattle.hsms_endpoint.specs.SystemBytes.{IsFirstFree};
 
     /// Logs an event at the endpoint's current time.

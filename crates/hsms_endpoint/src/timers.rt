@@ -4,9 +4,10 @@ ghost use Rattle.std.specs.Prelude.{◌≡◌, true, false, OnOk, IfOk};
 ghost use Rattle.hsms_machine.specs.declared.entry.Event.TheVariants.{Down};
 ghost use Rattle.hsms_machine.specs.ViewRules.{IsBrokenAt};
 ghost use Rattle.hsms_endpoint.specs.Turn.{is_up as is_connection_up, is_t8_overdue, overdue_cause, expiries};
-ghost use Rattle.hsms_endpoint.specs.Invariant.{IsSound, Completes};
-ghost use Rattle.hsms_endpoint.specs.Expiring.{IsLate, HasExpired, MayWarn, is_data_overdue, overdue_of, warnings_of};
-ghost use Rattle.hsms_endpoint.specs.Internals.{known, at_later};
+ghost use Rattle.hsms_endpoint.specs.Invariant.{IsSound};
+ghost use Rattle.hsms_endpoint.specs.InnerInvariant.{Completes};
+ghost use Rattle.hsms_endpoint.specs.InnerExpiring.{IsLate, HasExpired, MayWarn, is_data_overdue, overdue_of, warnings_of};
+ghost use Rattle.hsms_endpoint.specs.InnerInternals.{known, at_later};
 ghost use Rattle.hsms_endpoint.specs.NextDue.{octets_due, next_due, test_due};
 
 use crate::state::State;

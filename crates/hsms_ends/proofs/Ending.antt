@@ -19,10 +19,11 @@ use Rattle.hsms_ends.specs.declared.serving.ServedScript.{ServedScript}
 use Rattle.hsms_ends.specs.declared.fault.ServeFault.{ServeFault}
 use Rattle.hsms_ends.specs.declared.fault.ServeFault.TheVariants as serve
 use Rattle.hsms_ends.specs.Link.{LinkState, LinkInput, ProcessesInput}
-use Rattle.hsms_ends.specs.Output.{GrowsByPart, LogGrows, IsEnding, sent_octets, log_lines}
+use Rattle.hsms_ends.specs.Output.{GrowsByPart, LogGrows, IsEnding, sent_octets}
+use Rattle.hsms_ends.specs.InnerOutput.{log_lines}
 use Rattle.hsms_ends.specs.Turns.{has_gone}
 use Rattle.hsms_ends.specs.Serving.{Story, Unopened, Unstarted, Started, IsStory, IsLost, IsStarted, has_lost, lost_entries, last_lost, last_call, entries_of, reception_of, turns_begun, MayHaveFailed}
-use Rattle.hsms_ends.specs.ServeSteps.{Ran, ClosedAs, IsLeft, ClosedLink, RestClosed, StoppedAs, AnswersEnd, HoldsLines, ServesEnd}
+use Rattle.hsms_ends.specs.InnerServeSteps.{Ran, ClosedAs, IsLeft, ClosedLink, RestClosed, StoppedAs, AnswersEnd, HoldsLines, ServesEnd}
 use Rattle.hsms_ends.proofs.OutputSteps.{lines-append, sent-append, part_of_first, log_then, stops_then, grows_along, whole_is}
 use Rattle.hsms_ends.proofs.TurnResults.{ending_none}
 use Rattle.hsms_ends.proofs.Downs.{gone_after}

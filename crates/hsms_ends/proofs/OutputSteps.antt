@@ -12,7 +12,8 @@ use Rattle.hsms_log.specs.LineFormat.{entry_line}
 use Rattle.hsms_ends.specs.declared.output.Stop.{Stop}
 use Rattle.hsms_ends.specs.declared.output.Stop.TheVariants.{Link, Log, Memory}
 use Rattle.hsms_ends.specs.Link.{LinkState, LinkInput, ProcessesInput, Asks, both, processed_nothing, processed_time}
-use Rattle.hsms_ends.specs.Output.{GrowsByPart, GrowsInto, LogGrows, LogFails, LogStops, LogFailsIn, LogsAll, RestLogged, Logged, TakesAll, TakesPart, Delivered, SendsAll, PutsOut, sent_octets, log_lines, sent_of}
+use Rattle.hsms_ends.specs.Output.{GrowsByPart, GrowsInto, LogGrows, LogFails, LogStops, sent_octets, sent_of}
+use Rattle.hsms_ends.specs.InnerOutput.{LogFailsIn, LogsAll, RestLogged, Logged, TakesAll, TakesPart, Delivered, SendsAll, PutsOut, log_lines}
 use Rattle.hsms_ends.proofs.ReceivedBytes.{grows_then, grows_none, grows_stays, processes_then, processes_nothing}
 
 pub part_of_front : (old new : Option (List ℕ)) (a : List ℕ) → GrowsByFront old new a → GrowsByPart old new a

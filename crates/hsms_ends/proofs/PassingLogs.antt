@@ -30,10 +30,11 @@ use Rattle.hsms_ends.specs.declared.serving.ServedScript.{ServedScript}
 use Rattle.hsms_ends.specs.declared.fault.ServeFault.{ServeFault}
 use Rattle.hsms_ends.specs.declared.fault.ServeFault.TheVariants as serve
 use Rattle.hsms_ends.specs.Link.{LinkState}
-use Rattle.hsms_ends.specs.Output.{LogGrows, LogFails, LogStops, log_lines}
+use Rattle.hsms_ends.specs.Output.{LogGrows, LogFails, LogStops}
+use Rattle.hsms_ends.specs.InnerOutput.{log_lines}
 use Rattle.hsms_ends.specs.Turns.{has_gone}
 use Rattle.hsms_ends.specs.Serving.{Story, Unopened, Unstarted, Started, IsStory, entries_of, ends_down, Answers, LogStopsIn, LogHolds, is_log_fault, ServesTesting}
-use Rattle.hsms_ends.specs.ServeSteps.{AnswersEnd, HoldsLines, ServesEnd}
+use Rattle.hsms_ends.specs.InnerServeSteps.{AnswersEnd, HoldsLines, ServesEnd}
 use Rattle.hsms_ends.specs.Laws.{ServedLogPasses}
 use Rattle.hsms_ends.proofs.TurnPrefixes.{along_story}
 use Rattle.hsms_ends.proofs.Downs.{gone_of_view}

@@ -6,7 +6,8 @@ use Rattle.std.proofs.lemmas.Grind.{flat_map-append}
 use Rattle.std.proofs.lemmas.List.{append-nil, take_all, drop_all, drop_more, drop-drop, length-drop}
 use Rattle.std.proofs.Math.Seq.{take-suc, take-add}
 use Rattle.hsms_ends.specs.declared.link.Got.TheVariants.{Octets, Quiet, Closed}
-use Rattle.hsms_ends.specs.ScriptedLink.{wait_octets, given_of, left_of, without_front, pass_over, Answers}
+use Rattle.hsms_ends.specs.ScriptedLink.{pass_over, Answers}
+use Rattle.hsms_ends.specs.InnerScriptedLink.{wait_octets, given_of, left_of, without_front}
 
 same_at : {A : Type 0} (xs : List A) (i : ℕ) (d e : A) → i < length xs → get_or xs i d ≡ get_or xs i e
 same_at [] i d e h = absurd (omega arith)

@@ -24,10 +24,10 @@ use Rattle.hsms_endpoint.specs.Answer.{Answered}
 use Rattle.hsms_endpoint.specs.EndState.{EndOf, initial_since}
 use Rattle.hsms_endpoint.specs.Turn.{InputEvent as Input}
 use Rattle.hsms_endpoint.specs.End.{Accepts}
-use Rattle.hsms_ends.specs.Output.{FitsLengthField, AllFitLengthField}
+use Rattle.hsms_ends.specs.InnerOutput.{FitsLengthField, AllFitLengthField}
 use Rattle.hsms_ends.specs.declared.step.Step.{Step}
 use Rattle.hsms_ends.specs.Link.{LinkState, LinkInput}
-use Rattle.hsms_ends.specs.ServeSteps.{IsReady, Handed, TurnTaken}
+use Rattle.hsms_ends.specs.InnerServeSteps.{IsReady, Handed, TurnTaken}
 use Rattle.hsms_ends.proofs.TurnPrefixes.{along_turn}
 
 -- ---- the rules of a run

@@ -29,12 +29,13 @@ use Rattle.hsms_ends.specs.declared.serving.ServedScript.{ServedScript}
 use Rattle.hsms_ends.specs.declared.fault.ServeFault.{ServeFault}
 use Rattle.hsms_ends.specs.declared.fault.ServeFault.TheVariants as serve
 use Rattle.hsms_ends.specs.Link.{LinkState, processed_nothing, ProcessesInput}
-use Rattle.hsms_ends.specs.Output.{LogGrows, LogFails, LogStops, log_lines}
+use Rattle.hsms_ends.specs.Output.{LogGrows, LogFails, LogStops}
+use Rattle.hsms_ends.specs.InnerOutput.{log_lines}
 use Rattle.hsms_ends.specs.Turns.{entries_turns}
 use Rattle.hsms_ends.specs.Serving.{Story, Unopened, Unstarted, Started, IsStory, entries_of, reception_of, entries_cut, lost_entries, ends_down, Answers, is_log_fault}
-use Rattle.hsms_ends.specs.ServeSteps.{IsLeft, HoldsLines}
+use Rattle.hsms_ends.specs.InnerServeSteps.{IsLeft, HoldsLines}
 use Rattle.hsms_ends.specs.Reconnect.{Connection, new_end, IsServed, entries_all, processed_all, last_time, AreServed, completes, are_complete, AnswersAgain, LogStopsLast, LogHoldsAgain, is_log_fault_again, ServesAgain}
-use Rattle.hsms_ends.specs.ReconnectSteps.{Onward, NextServed, LinesHeld, ServedEach, script_at}
+use Rattle.hsms_ends.specs.InnerReconnectSteps.{Onward, NextServed, LinesHeld, ServedEach, script_at}
 use Rattle.hsms_ends.specs.Laws.{ServedAgainLogPasses}
 use Rattle.hsms_ends.proofs.Downs.{gone_of_view}
 use Rattle.hsms_ends.proofs.ReceivedBytes.{processes_then, processes_nothing, grows_none}

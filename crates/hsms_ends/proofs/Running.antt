@@ -16,7 +16,7 @@ use Rattle.hsms_ends.specs.Link.{LinkState, both, processed_time}
 use Rattle.hsms_ends.specs.Turns.{Rest, Nothing, Stepped, Declined, Tested, Quiet, Octets, Closed, Turn, Untaken, Ticks, Continues, IsTurn, AreTurns, entries_turns, last_turns, processed_turns, steps_rest, steps_turn, steps_turns}
 use Rattle.hsms_ends.specs.Serving.{count_after, entries_cut, last_cut, last_call, processed_cut, Unstarted, Started, IsCutTurn, entries_of, reception_of, refused_of, steps_cut}
 use Rattle.hsms_ends.specs.Output.{IsEnding}
-use Rattle.hsms_ends.specs.ServeSteps.{is_cut, Counts, Handed, IsCut, TurnsTaken, StartedBy, Ran}
+use Rattle.hsms_ends.specs.InnerServeSteps.{is_cut, Counts, Handed, IsCut, TurnsTaken, StartedBy, Ran}
 use Rattle.hsms_ends.proofs.TurnResults.{ending_none, counts_none, yields_then, yields_along, yields_last, yields_left}
 
 started_by : (r : Result (Unit {0}) Stop) (now : ℕ) (entries : List Entry) (turns : List Turn) (cut : Option Turn) → StartedBy r (Started now entries turns cut None)

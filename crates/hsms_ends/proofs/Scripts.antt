@@ -7,7 +7,8 @@ use Rattle.hsms_frame.specs.Io.{Grows, Stays}
 use Rattle.hsms_ends.specs.declared.link.Got.{Got}
 use Rattle.hsms_ends.specs.declared.link.Got.TheVariants.{Octets, Quiet, Closed}
 use Rattle.hsms_ends.specs.Link.{LinkState, Recalls, Asks, Sends, Waits, RisesBy, IsGot}
-use Rattle.hsms_ends.specs.ScriptedLink.{moment_at, moments_of, got_octets, closes_after, is_closed}
+use Rattle.hsms_ends.specs.ScriptedLink.{moment_at, moments_of}
+use Rattle.hsms_ends.specs.InnerScriptedLink.{got_octets, closes_after, is_closed}
 use Rattle.hsms_ends.proofs.ReceivedBytes.{grows_none, recalls_none, rises_none}
 
 -- The record of a link in memory.

@@ -4,7 +4,7 @@ use Rattle.std.specs.Prelude.{Result}
 use Rattle.hsms_frame.specs.CallCounts.{next_count}
 use Rattle.hsms_ends.specs.declared.fault.LinkFault.{LinkFault}
 use Rattle.hsms_ends.specs.Link.{LinkState, ProcessesInput, processed_nothing}
-use Rattle.hsms_ends.specs.Output.{SendsAll}
+use Rattle.hsms_ends.specs.InnerOutput.{SendsAll}
 use Rattle.hsms_ends.proofs.ReceivedBytes.{grows_then, front_of_first, front_of_second, processes_then}
 
 pub processes_none_then : (old mid new : LinkState) → ProcessesInput old mid processed_nothing → ProcessesInput mid new processed_nothing → ProcessesInput old new processed_nothing

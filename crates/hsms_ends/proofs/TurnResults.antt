@@ -10,7 +10,7 @@ use Rattle.hsms_ends.specs.declared.output.Stop.{Stop}
 use Rattle.hsms_ends.specs.declared.output.Stop.TheVariants.{Memory}
 use Rattle.hsms_ends.specs.Link.{LinkState, LinkInput, ProcessesInput, Asks, both, processed_nothing, processed_time}
 use Rattle.hsms_ends.specs.Output.{IsEnding}
-use Rattle.hsms_ends.specs.ServeSteps.{Counts, Yields}
+use Rattle.hsms_ends.specs.InnerServeSteps.{Counts, Yields}
 use Rattle.hsms_ends.proofs.OutputSteps.{puts_then, puts_processed, puts_nothing, puts_memory, asked_then}
 
 -- A suffix of the empty list is empty, so it is a suffix of any list.

@@ -21,7 +21,7 @@ use Rattle.hsms_ends.specs.declared.output.Stop.TheVariants.{Link, Log, Memory}
 use Rattle.hsms_ends.specs.Link.{LinkState, LinkInput, ProcessesInput, Asks, both, processed_nothing, processed_time, processed_octets, processed_quiet, processed_close, processed_got}
 use Rattle.hsms_ends.specs.Turns.{Refused, Ticked, Done, Rest, Nothing, Stepped, Declined, Tested, Quiet, Octets, Closed, Untaken, Ticks, HasNotGone, has_gone, is_step_due, MustWait, MustTest, Continues, IsTurn, entries_after, entries_rest, entries_turn, entries_turns, last_after, last_rest, last_turn, moment_after, processed_rest, processed_turn, processed_turns, refused_turn, refused_turns, input_of}
 use Rattle.hsms_ends.specs.Output.{IsEnding}
-use Rattle.hsms_ends.specs.ServeSteps.{is_cut, Leads, Takes, Counts, Yields, Handed, Followed, Heeded, Continued, TurnTaken, TurnsSoFar, TurnsTaken}
+use Rattle.hsms_ends.specs.InnerServeSteps.{is_cut, Leads, Takes, Counts, Yields, Handed, Followed, Heeded, Continued, TurnTaken, TurnsSoFar, TurnsTaken}
 use Rattle.hsms_ends.proofs.ReceivedBytes.{both_nothing}
 use Rattle.hsms_ends.proofs.OutputSteps.{puts_fault}
 use Rattle.hsms_ends.proofs.TurnLists.{processed_snoc, entries_snoc, refused_snoc, turns_snoc, length_snoc}

@@ -1,10 +1,12 @@
 pub mod Link
 pub mod Output
+pub mod InnerOutput
 pub mod ScriptedLink
+pub mod InnerScriptedLink
 pub mod Turns
 pub mod Serving
-pub mod ServeSteps
+pub mod InnerServeSteps
 pub mod Laws
 pub mod Reconnect
-pub mod ReconnectSteps
+pub mod InnerReconnectSteps
 pub mod ScriptedDesk

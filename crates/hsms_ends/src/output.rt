@@ -3,7 +3,8 @@
 ghost use Rattle.std.specs.Prelude.{All};
 ghost use Rattle.hsms_log.specs.LineFormat.{IsEntry};
 ghost use Rattle.hsms_ends.specs.Link.{processed_nothing};
-ghost use Rattle.hsms_ends.specs.Output.{FitsLengthField, AllFitLengthField, SendsAll, PutsOut, RestLogged, sent_of};
+ghost use Rattle.hsms_ends.specs.Output.{sent_of};
+ghost use Rattle.hsms_ends.specs.InnerOutput.{FitsLengthField, AllFitLengthField, SendsAll, PutsOut, RestLogged};
 
 use crate::fault::LinkFault;
 use crate::link::Link;

@@ -1,7 +1,8 @@
 //! The peer of a link in memory.
 
 ghost use Rattle.std.specs.Prelude.{◌≡◌, ◌≢◌, ◌<◌, ◌≤◌, None, length, get_or, true, false};
-ghost use Rattle.hsms_ends.specs.ScriptedLink.{given_of, left_of, pass_over, wait_octets};
+ghost use Rattle.hsms_ends.specs.ScriptedLink.{pass_over};
+ghost use Rattle.hsms_ends.specs.InnerScriptedLink.{given_of, left_of, wait_octets};
 
 use crate::link::Got;
 use hsms_frame::copy_front;
@@ -21,7 +22,7 @@ pub struct Peer {
 
 impl Model for Peer {
     ghost use Rattle.std.specs.Prelude.{◌≤◌, length, get_or, vec_len, None};
-    ghost use Rattle.hsms_ends.specs.ScriptedLink.{PeerState, given_of, left_of, wait_octets};
+    ghost use Rattle.hsms_ends.specs.InnerScriptedLink.{PeerState, given_of, left_of, wait_octets};
 
     ghost Value = { PeerState };
 
@@ -39,7 +40,8 @@ impl Model for Peer {
 impl Peer {
     ghost use Rattle.std.specs.Prelude.{◌≡◌, ◌<◌, ◌++◌, [], length, map, option_map, false};
     ghost use Rattle.hsms_ends.specs.Link.{IsGot};
-    ghost use Rattle.hsms_ends.specs.ScriptedLink.{Answers, pass_over, got_octets, closes_after, is_closed as answers_closed};
+    ghost use Rattle.hsms_ends.specs.ScriptedLink.{Answers, pass_over};
+    ghost use Rattle.hsms_ends.specs.InnerScriptedLink.{got_octets, closes_after, is_closed as answers_closed};
 
     /// Creates a peer that has sent nothing yet.
     pub fn new(waits: Vec<Option<Vec<u8>>>) -> Peer

@@ -2,8 +2,8 @@
 
 ghost use Rattle.std.specs.Prelude.{◌≡◌};
 ghost use Rattle.hsms_ends.specs.Reconnect.{ServesAgainBy};
-ghost use Rattle.hsms_ends.specs.ReconnectSteps.{NextServed, script_at};
-ghost use Rattle.hsms_ends.specs.ServeSteps.{IsReady};
+ghost use Rattle.hsms_ends.specs.InnerReconnectSteps.{NextServed, script_at};
+ghost use Rattle.hsms_ends.specs.InnerServeSteps.{IsReady};
 
 use crate::fault::ServeFault;
 use crate::link::Again;

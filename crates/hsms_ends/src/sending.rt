@@ -2,7 +2,7 @@
 
 ghost use Rattle.std.specs.Prelude.{◌≡◌, ◌<◌, ◌≤◌, ◌+◌, ◌^◌, ◌++◌, length, take};
 ghost use Rattle.hsms_frame.specs.Frame.{frame_octets};
-ghost use Rattle.hsms_ends.specs.Output.{SendsAll};
+ghost use Rattle.hsms_ends.specs.InnerOutput.{SendsAll};
 
 use crate::fault::LinkFault;
 use crate::link::Link;

@@ -3,7 +3,7 @@
 ghost use Rattle.std.specs.Prelude.{◌≡◌, drop, length};
 ghost use Rattle.hsms_endpoint.specs.EndState.{initial_state};
 ghost use Rattle.hsms_ends.specs.Serving.{Serves, ServesBy};
-ghost use Rattle.hsms_ends.specs.ServeSteps.{IsReady, ServesEnd, RestClosed, StoppedAs};
+ghost use Rattle.hsms_ends.specs.InnerServeSteps.{IsReady, ServesEnd, RestClosed, StoppedAs};
 
 use crate::fault::ServeFault;
 use crate::link::Link;

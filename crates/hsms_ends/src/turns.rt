@@ -4,9 +4,9 @@ ghost use Rattle.std.specs.Prelude.{◌≡◌, ◌<◌, ℕ, List, Option, drop,
 ghost use Rattle.hsms_endpoint.specs.Turn.{tick as ticks};
 ghost use Rattle.hsms_endpoint.specs.End.{Accepts, Refuses};
 ghost use Rattle.hsms_ends.specs.Link.{Asks, processed_time, processed_nothing};
-ghost use Rattle.hsms_ends.specs.Output.{AllFitLengthField};
+ghost use Rattle.hsms_ends.specs.InnerOutput.{AllFitLengthField};
 ghost use Rattle.hsms_ends.specs.Turns.{HasNotGone, MustWait, has_gone as is_down, is_idle as is_free, is_step_due as step_due, input_of, is_test_due as test_due, test_moment as moment_of_test};
-ghost use Rattle.hsms_ends.specs.ServeSteps.{called, IsReady, Yields, Handed, Followed, Continued, TurnTaken, Ran};
+ghost use Rattle.hsms_ends.specs.InnerServeSteps.{called, IsReady, Yields, Handed, Followed, Continued, TurnTaken, Ran};
 
 use crate::endpoint_call::Call;
 use crate::link::{Got, Link};

@@ -9,7 +9,8 @@ use Rattle.hsms_frame.specs.declared.fault.ReadFault.{ReadFault}
 use Rattle.hsms_frame.specs.declared.fault.ReadFault.TheVariants.{TooShort, TooLong, Memory, CutOff, Read}
 use Rattle.hsms_frame.specs.CallCounts.{next_count}
 use Rattle.hsms_frame.specs.Io.{SourceState, CountsFill, ends_after_fill}
-use Rattle.hsms_frame.specs.Reading.{CountsPart, CountsWhole, ends_after_part, failures_after}
+use Rattle.hsms_frame.specs.Reading.{CountsWhole, ends_after_part, failures_after}
+use Rattle.hsms_frame.specs.InnerReading.{CountsPart}
 
 -- A fill that is not full finds the end, and a full one does not.
 found : (room n old new : ℕ) → n < room → new ≡ ends_after_fill room (Ok n) old → new ≡ next_count old

@@ -9,7 +9,8 @@ use Rattle.hsms_frame.specs.declared.fault.ReadFault.{ReadFault}
 use Rattle.hsms_frame.specs.declared.fault.ReadFault.TheVariants.{TooShort, TooLong, Memory, CutOff, Read}
 use Rattle.hsms_frame.specs.Header.{header_octets, IsHeader}
 use Rattle.hsms_frame.specs.Frame.{IsOctets, length_field, IsTooShort, IsTooLong}
-use Rattle.hsms_frame.specs.Reading.{ReadsAs, StopsWithin, TakesFront, TakesLength}
+use Rattle.hsms_frame.specs.Reading.{ReadsAs, StopsWithin}
+use Rattle.hsms_frame.specs.InnerReading.{TakesFront, TakesLength}
 use Rattle.hsms_frame.proofs.Octets.{IsOctets-parts, IsOctets-append}
 use Rattle.hsms_frame.proofs.FramedMessages.{subsequent, length-subsequent, encodes_to, cut_within, cut_early, faultless}
 

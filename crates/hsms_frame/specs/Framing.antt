@@ -25,12 +25,6 @@ FramesAs max pending (Err Memory) rest =
     (f : Frame) × (more : List ℕ) × (pending ≡ frame_octets f ++ more) × IsFrame f × (10 + length f.text ≤ max)
     × (0 < length f.text) × (rest ≡ pending)
 
--- How many bytes a result removes: those of the returned message, or none.
-abbrev pub size_of : Result (Option Frame) FrameFault → ℕ
-size_of (Ok (Some f)) = 14 + length f.text
-size_of (Ok None) = 0
-size_of (Err fault) = 0
-
 -- Holds if a complete message is at the front, with this header and this size of its text.
 pub record IsFrontOf (max : ℕ) (octets : List ℕ) (h : Header) (size : ℕ) : Type 0 where
   pub there : 14 + size ≤ length octets

@@ -6,8 +6,10 @@ pub mod Io
 pub mod Fault
 pub mod Frame
 pub mod Framing
+pub mod InnerFraming
 pub mod Header
 pub mod Laws
 pub mod TestIo
 pub mod Reading
+pub mod InnerReading
 pub mod Writing

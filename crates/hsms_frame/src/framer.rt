@@ -1,7 +1,8 @@
 //! Messages from bytes that come in chunks.
 
 ghost use Rattle.std.specs.Prelude.{◌≡◌, ◌≤◌, ◌<◌, ◌+◌, [], ◌⊎◌, drop, length, vec_len, OnOk, OnErr, IsOkUnless, Err};
-ghost use Rattle.hsms_frame.specs.Framing.{FramesAs, FrontAs, IsPushed, size_of};
+ghost use Rattle.hsms_frame.specs.Framing.{FramesAs, FrontAs, IsPushed};
+ghost use Rattle.hsms_frame.specs.InnerFraming.{size_of};
 
 use crate::fault::FrameFault;
 use crate::frame::Frame;

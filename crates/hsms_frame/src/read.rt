@@ -2,7 +2,8 @@
 
 ghost use Rattle.std.specs.Prelude.{◌≡◌, ◌⊎◌, Option, Result, Err, length};
 ghost use Rattle.hsms_frame.specs.Io.{IfRecorded};
-ghost use Rattle.hsms_frame.specs.Reading.{CountsPart, CountsWhole, ReadsAs, IsRefusal, TakesFront, TakesLength};
+ghost use Rattle.hsms_frame.specs.Reading.{CountsWhole, ReadsAs, IsRefusal};
+ghost use Rattle.hsms_frame.specs.InnerReading.{CountsPart, TakesFront, TakesLength};
 
 use crate::fault::ReadFault;
 use crate::frame::Frame;

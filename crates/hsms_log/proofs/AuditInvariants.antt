@@ -13,8 +13,10 @@ use Rattle.hsms_log.specs.declared.verdict.Verdict.TheVariants.{Pass, Fail}
 use Rattle.hsms_log.specs.Counters.{Counters}
 use Rattle.hsms_log.specs.Lines.{HasNone, IsOverlong, ended_lines, open_line, last_lines}
 use Rattle.hsms_log.specs.Verdict.{FailsAfter, LinesAudited, HasAuditVerdict, OverlongAfter, FailsOnward, Fails}
-use Rattle.hsms_log.specs.AuditState.{Follows, Counts, IsChecked, Tracks, limit_after}
-use Rattle.hsms_log.specs.LineReader.{Reading, StateInvariant, EndsLine, FailsAs}
+use Rattle.hsms_log.specs.AuditState.{Follows, Counts, Tracks, limit_after}
+use Rattle.hsms_log.specs.InnerAuditState.{IsChecked}
+use Rattle.hsms_log.specs.LineReader.{Reading, StateInvariant, FailsAs}
+use Rattle.hsms_log.specs.InnerLineReader.{EndsLine}
 use Rattle.hsms_log.proofs.LineLemmas.{ended_lines-first, ended_lines-none, open_line-first, open_line-none}
 use Rattle.hsms_log.proofs.GrowingTexts.{ended_lines-append, open_line-append, HasNone-open_line, FailsSoFar-onward}
 

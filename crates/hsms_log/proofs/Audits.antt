@@ -17,8 +17,10 @@ use Rattle.hsms_log.specs.LineFormat.{line_limit}
 use Rattle.hsms_log.specs.Log.{EncodesLog}
 use Rattle.hsms_log.specs.Verdict.{LineFails, Fails, HasAuditVerdict, OverlongAfter, FailsOnward}
 use Rattle.hsms_log.specs.AuditState.{Counts, Tracks, limit_after}
-use Rattle.hsms_log.specs.LineReader.{Reading, StateInvariant, FailsAs, IsFailure}
-use Rattle.hsms_log.specs.Auditing.{AuditsAs, HoldsNoFailure, FrontHolds, UsesReads, HasRead}
+use Rattle.hsms_log.specs.LineReader.{Reading, StateInvariant, FailsAs}
+use Rattle.hsms_log.specs.InnerLineReader.{IsFailure}
+use Rattle.hsms_log.specs.Auditing.{AuditsAs, HoldsNoFailure, FrontHolds, UsesReads}
+use Rattle.hsms_log.specs.InnerAuditing.{HasRead}
 use Rattle.hsms_log.proofs.Uniqueness.{RunLaws, run_invariant, EncodesLog-unique}
 
 -- ---- a text in whose state a reader is holds no failure

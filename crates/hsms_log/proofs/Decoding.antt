@@ -10,7 +10,7 @@ use Rattle.hex.specs.Hex.{decode_pairs, hex_digit_value, is_hex_digit, pair_valu
 use Rattle.hex.proofs.Pairs.{prepend, decode_start, decode_step, decode_done}
 use Rattle.hex.proofs.HexLemmas.{decode_of-ok, decode_of-even}
 use Rattle.hsms_log.specs.LineFormat.{IsHexOf}
-use Rattle.hsms_log.specs.Digits.{value_or_none, IsPair, IsValueOf, AreSmall, AreRead}
+use Rattle.hsms_log.specs.InnerDigits.{value_or_none, IsPair, IsValueOf, AreSmall, AreRead}
 
 -- ---- from bytes to the definition
 

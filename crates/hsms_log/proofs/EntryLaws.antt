@@ -5,7 +5,7 @@ use Rattle.hsms_machine.specs.declared.entry.Entry.{Entry}
 use Rattle.hsms_machine.specs.declared.entry.Event.{Event}
 use Rattle.hsms_log.specs.LineFormat.{Carries, IsBlank, EncodesEntry, EncodesEvent, IsEvent}
 use Rattle.hsms_log.specs.LineContent.{HasFrame, CarriesFrame}
-use Rattle.hsms_log.specs.Reading.{number_at}
+use Rattle.hsms_log.specs.InnerReading.{number_at}
 use Rattle.hsms_log.proofs.Numbers.{number_at-encoded_bytes, number_at-some, pair_inj}
 
 -- The number at the front of a line that encodes an entry.

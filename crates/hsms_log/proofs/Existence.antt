@@ -24,7 +24,7 @@ use Rattle.hsms_log.specs.declared.verdict.Why.TheVariants.{Unreadable, Broken}
 use Rattle.hsms_log.specs.declared.verdict.Verdict.{Verdict}
 use Rattle.hsms_log.specs.declared.verdict.Verdict.TheVariants.{Pass, Fail}
 use Rattle.hsms_log.specs.LineFormat.{EncodesSettings, EncodesEntry, EncodesEvent, EncodesOctets, IsEvent, IsMessage, IsHexOf, message_octets, system_octets, cause_word, Carries, line_limit}
-use Rattle.hsms_log.specs.Reading.{settings_at, number_at}
+use Rattle.hsms_log.specs.InnerReading.{settings_at, number_at}
 use Rattle.hsms_log.specs.Log.{EncodesLog}
 use Rattle.hsms_log.specs.Verdict.{LinesAudited, summary_of}
 use Rattle.hsms_log.proofs.LineBindings.{some_inj}

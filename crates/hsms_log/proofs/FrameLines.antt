@@ -14,8 +14,8 @@ use Rattle.hsms_machine.specs.Entry.{frame_entry}
 use Rattle.hex.proofs.HexLemmas.{decode_of-ok}
 use Rattle.hsms_log.specs.LineFormat.{EncodesEntry, EncodesEvent, IsHexOf, message_octets}
 use Rattle.hsms_log.specs.LineContent.{HasFrame, EncodesFramesOnly, EncodesNoFrame}
-use Rattle.hsms_log.specs.Reading.{number_at}
-use Rattle.hsms_log.specs.FrameLine.{IsEncoded, mark_word}
+use Rattle.hsms_log.specs.InnerReading.{number_at}
+use Rattle.hsms_log.specs.InnerFrameLine.{IsEncoded, mark_word}
 use Rattle.hsms_log.proofs.EntryLaws.{entry_found, event_after}
 use Rattle.hsms_log.proofs.Uniqueness.{marked_after}
 

@@ -19,7 +19,7 @@ use Rattle.std.proofs.lemmas.Fmt.{digits_decimal, digits_value-decimal, decimal_
 use Rattle.std.proofs.lemmas.List.{length-take, drop_more, get_or-take}
 use Rattle.std.proofs.lemmas.List.Elements.{All-head, All-tail}
 use Rattle.hsms_log.specs.Lines.{HasNone}
-use Rattle.hsms_log.specs.Reading.{number_of, is_decimal, has_leading_zero, word_at, number_at, ◌>>=◌}
+use Rattle.hsms_log.specs.InnerReading.{number_of, is_decimal, has_leading_zero, word_at, number_at, ◌>>=◌}
 use Rattle.hsms_log.proofs.LineBindings.{bind_some, some_inj}
 
 -- The definitions of std for digits and their value.

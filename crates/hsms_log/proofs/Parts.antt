@@ -18,7 +18,8 @@ use Rattle.hsms_machine.specs.declared.settings.Side.{Side}
 use Rattle.hsms_machine.specs.declared.settings.Side.TheVariants.{Active, Passive}
 use Rattle.hsms_machine.specs.Settings.{Parameters}
 use Rattle.hsms_log.specs.LineFormat.{settings_line, role_word, link_word}
-use Rattle.hsms_log.specs.Writing.{HasFailed, HasWritten, Puts, Writes, spaced, version_text, words_of, opening_of, numbers_of}
+use Rattle.hsms_log.specs.Writing.{Puts}
+use Rattle.hsms_log.specs.InnerWriting.{HasFailed, HasWritten, Writes, spaced, version_text, words_of, opening_of, numbers_of}
 
 pub grows_then : (old mid new : Option (List ℕ)) (a b : List ℕ) → Grows old mid a → Grows mid new b → Grows old new (a ++ b)
 grows_then old mid new a b h k octets found_fact = k (octets ++ a) (h octets found_fact) ∙ ap Some (append_assoc octets a b)

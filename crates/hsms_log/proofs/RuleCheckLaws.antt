@@ -18,7 +18,8 @@ use Rattle.hsms_log.specs.LineFormat.{EncodesSettings, Carries}
 use Rattle.hsms_log.specs.Log.{CarryLog, EncodesLog}
 use Rattle.hsms_log.specs.Verdict.{FailsAfter, LineFails, is_sent, is_taken, is_discarded, is_expired}
 use Rattle.hsms_log.specs.declared.audit_state.LineChecker.{LineChecker}
-use Rattle.hsms_log.specs.AuditState.{Counts, Tracks, Follows, IsChecked, counted}
+use Rattle.hsms_log.specs.AuditState.{Counts, Tracks, Follows}
+use Rattle.hsms_log.specs.InnerAuditState.{IsChecked, counted}
 
 pub carry_more : (max : ℕ) (lines : List (List ℕ)) (log : List Entry) (line : List ℕ) (carried : Option Entry) → CarryLog max lines log → Carries max line carried
     → CarryLog max (lines ++ line ∷ []) (log ++ option_to_list carried)

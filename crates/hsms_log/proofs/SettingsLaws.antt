@@ -13,7 +13,7 @@ use Rattle.hsms_machine.specs.declared.settings.Side.{Side}
 use Rattle.hsms_machine.specs.declared.settings.Side.TheVariants.{Active, Passive}
 use Rattle.hsms_machine.specs.Settings.{Parameters, IsWithinLimits}
 use Rattle.hsms_log.specs.LineFormat.{settings_line, role_word, link_word, EncodesSettings}
-use Rattle.hsms_log.specs.Reading.{settings_at, version_at, end_at, times_at, limits_of, u32_at, number_at, number_of, word_at, role_of, link_of, after, below}
+use Rattle.hsms_log.specs.InnerReading.{settings_at, version_at, end_at, times_at, limits_of, u32_at, number_at, number_of, word_at, role_of, link_of, after, below}
 use Rattle.hsms_log.proofs.LineBindings.{bind_step, some_inj, below_fits, below_some}
 use Rattle.hsms_log.proofs.Numbers.{number_at-encoded_bytes, number_at-some, number_of-decimal, number_of-some, word_at-some}
 

@@ -22,7 +22,7 @@ use Rattle.hsms_machine.specs.Settings.{Parameters, IsWithinLimits}
 use Rattle.hsms_log.specs.Lines.{HasNone, lines_of, ended_lines, open_line}
 use Rattle.hsms_log.specs.LineFormat.{IsBlank, IsComment, IsEntry, IsEvent, entry_line, event_text, settings_line, settings_limit, line_limit, message_octets, system_octets, role_word, link_word}
 use Rattle.hsms_log.specs.Log.{CarryLog, LogText, EncodesLog, written_log}
-use Rattle.hsms_log.specs.Writing.{version_text, words_of, opening_of, numbers_of, spaced}
+use Rattle.hsms_log.specs.InnerWriting.{version_text, words_of, opening_of, numbers_of, spaced}
 use Rattle.hsms_log.proofs.Numbers.{own}
 use Rattle.hsms_log.proofs.GrowingTexts.{lines_of-first, strip_kept}
 use Rattle.hsms_log.proofs.Parts.{line_text}

@@ -1,16 +1,15 @@
 -- The state of an audit between two lines.
-use Rattle.std.specs.Prelude.{◌≡◌, ◌+◌, ◌++◌, ◌≤◌, if◌then◌else◌, ℕ, List, [], ◌∷◌, length, count_by, Option, Some, None, MatchOption}
+use Rattle.std.specs.Prelude.{◌≡◌, ◌+◌, ◌≤◌, ℕ, List, [], length, count_by, Option, Some, None, MatchOption}
 use Rattle.hsms_machine.specs.declared.entry.Entry.{Entry}
 use Rattle.hsms_machine.specs.declared.entry.Event.{Event}
 use Rattle.hsms_machine.specs.declared.entry.Event.TheVariants.{Sent, Taken, Discarded}
 use Rattle.hsms_machine.specs.View.{HasView}
 use Rattle.hsms_log.specs.declared.audit_state.Session.{Session}
 use Rattle.hsms_log.specs.declared.audit_state.LineChecker.{LineChecker}
-use Rattle.hsms_log.specs.declared.verdict.Why.{Why}
 use Rattle.hsms_log.specs.LineFormat.{settings_limit, line_limit}
 use Rattle.hsms_log.specs.Log.{EncodesLog}
 use Rattle.hsms_log.specs.Counters.{Counters}
-use Rattle.hsms_log.specs.Verdict.{FailsAfter, is_sent, is_taken, is_discarded, is_expired}
+use Rattle.hsms_log.specs.Verdict.{is_sent, is_taken, is_discarded, is_expired}
 
 -- Holds if these are the numbers of entries by kind.
 pub record Counts (tally : Counters) (log : List Entry) : Type 0 where
@@ -20,30 +19,10 @@ pub record Counts (tally : Counters) (log : List Entry) : Type 0 where
   pub discarded : tally.discarded ≡ count_by (λ entry. is_discarded entry.event) log
   pub expired : tally.expired ≡ count_by (λ entry. is_expired entry.event) log
 
--- The counts after one more entry.
-abbrev pub counted : Counters → Entry → Counters
-counted old entry = record {
-  lines = old.lines + 1;
-  entries = old.entries + 1;
-  sent = old.sent + (if is_sent entry.event then 1 else 0);
-  taken = old.taken + (if is_taken entry.event then 1 else 0);
-  discarded = old.discarded + (if is_discarded entry.event then 1 else 0);
-  expired = old.expired + (if is_expired entry.event then 1 else 0);
-}
-
 -- Holds if the session and the tally are those after these lines, which encode a run.
 abbrev pub Tracks : Session → Counters → List (List ℕ) → Type 0
 Tracks session tally lines =
     (log : List Entry) × EncodesLog lines session.settings log × HasView session.settings log session.tracker × Counts tally log
-
--- Holds for the effect of the check of a line, by its result. If the line does not fail, the state after the lines
--- before it becomes the state after it, and it is counted. Otherwise it fails after them for this reason, and is not
--- counted.
-abbrev pub IsChecked : (old new : ℕ) → (Before After : List (List ℕ) → Type 0) → List ℕ → Option Why → Type 0
-IsChecked old new Before After line None =
-    (new ≡ old + 1) × ((before : List (List ℕ)) → Before before → After (before ++ line ∷ []))
-IsChecked old new Before After line (Some why) =
-    (new ≡ old) × ((before : List (List ℕ)) → Before before → FailsAfter before line why)
 
 -- Holds if this is the state after these lines, which do not fail.
 pub record Follows (line_checker : LineChecker) (lines : List (List ℕ)) : Type 0 where

@@ -1,14 +1,13 @@
 -- The result of an audit of an input (project-specific).
 use Rattle.std.specs.Prelude.{◌≡◌, ◌≤◌, ◌+◌, ◌<◌, ◌^◌, ◌++◌, ◌⊎◌, ℕ, List, [], length, Option, Some, Result, Ok, Err}
 use Rattle.hsms_frame.specs.CallCounts.{next_count}
-use Rattle.hsms_frame.specs.Io.{SourceState, IfRecorded}
+use Rattle.hsms_frame.specs.Io.{SourceState}
 use Rattle.hsms_log.specs.declared.fault.AuditFault.{AuditFault}
 use Rattle.hsms_log.specs.declared.fault.AuditFault.TheVariants.{Read, Endless, Memory}
 use Rattle.hsms_log.specs.declared.verdict.Why.{Why}
 use Rattle.hsms_log.specs.declared.verdict.Verdict.{Verdict}
 use Rattle.hsms_log.specs.declared.verdict.Verdict.TheVariants.{Pass, Fail}
 use Rattle.hsms_log.specs.Verdict.{Passes, Fails, FailsOnward, FailsSoFar}
-use Rattle.hsms_log.specs.LineReader.{Reading, StateInvariant}
 
 -- Holds if no line of what was read fails: a line that has ended, or one that is already too long.
 abbrev pub HoldsNoFailure : List ℕ → Type 0
@@ -70,9 +69,3 @@ pub record CountsAudit (reads : ℕ) (result : Result Verdict AuditFault) (old n
   pub pulls : new.pulls ≤ old.pulls + reads
   pub empty_pulls : new.empty_pulls ≡ old.empty_pulls
   pub failures : new.failures ≡ failures_after result old.failures
-
--- For private contracts: holds if the reader is in its state after what was read of an input. No line of that fails so
--- far.
-abbrev pub HasRead : Option (List ℕ) → Reading → Option (List ℕ) → Type 0
-HasRead old reader new =
-    IfRecorded old (λ input. (text rest : List ℕ) × (input ≡ text ++ rest) × (new ≡ Some rest) × StateInvariant reader text)

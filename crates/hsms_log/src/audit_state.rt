@@ -30,7 +30,8 @@ pub struct LineChecker {
 impl LineChecker {
     ghost use Rattle.std.specs.Prelude.{◌≡◌, ◌↔◌, ◌+◌, ◌-◌, ◌<◌, ◌^◌, ◌++◌, [], ◌∷◌, List, ℕ, None, IfOk, IsSome, IsTrue};
     ghost use Rattle.hsms_log.specs.Verdict.{LinesAudited};
-    ghost use Rattle.hsms_log.specs.AuditState.{Allows, Follows, IsChecked, limit_after};
+    ghost use Rattle.hsms_log.specs.AuditState.{Allows, Follows, limit_after};
+    ghost use Rattle.hsms_log.specs.InnerAuditState.{IsChecked};
     ghost use Rattle.hsms_log.specs.LineFormat.{IsComment, entry_line};
 
     pub fn new(alloc: Global) -> LineChecker

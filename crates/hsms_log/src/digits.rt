@@ -2,7 +2,7 @@
 
 ghost use Rattle.std.specs.Prelude.{◌≡◌, ◌+◌, ◌*◌, ◌<◌, ◌≤◌, ℕ, List, length, slice_index, true, false};
 ghost use Rattle.hsms_log.specs.LineFormat.{IsHexOf};
-ghost use Rattle.hsms_log.specs.Digits.{IsValueOf, AreSmall};
+ghost use Rattle.hsms_log.specs.InnerDigits.{IsValueOf, AreSmall};
 
 use std::simd::prelude::*;
 

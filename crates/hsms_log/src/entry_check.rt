@@ -4,7 +4,8 @@ ghost use Rattle.std.specs.Prelude.{◌-◌, ◌<◌, ◌≤◌, ◌^◌, List, 
 ghost use Rattle.hsms_machine.specs.Entry.{frame_entry};
 ghost use Rattle.hsms_log.specs.LineFormat.{Carries, IsBlank, line_limit};
 ghost use Rattle.hsms_log.specs.LineContent.{EncodesNoFrame};
-ghost use Rattle.hsms_log.specs.AuditState.{IsChecked, Tracks};
+ghost use Rattle.hsms_log.specs.AuditState.{Tracks};
+ghost use Rattle.hsms_log.specs.InnerAuditState.{IsChecked};
 
 use crate::audit_state::Session;
 use crate::reading::{FrameLine, entry_of, frame_at_front, is_blank, read_plain_line};

@@ -2,7 +2,7 @@
 
 ghost use Rattle.std.specs.Prelude.{◌≡◌, ◌≤◌, ◌*◌, length, map, take};
 ghost use Rattle.hex.specs.Hex.{encode_lower};
-ghost use Rattle.hsms_log.specs.Digits.{digit_of};
+ghost use Rattle.hsms_log.specs.InnerDigits.{digit_of};
 
 use std::simd::prelude::*;
 

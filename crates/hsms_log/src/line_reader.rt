@@ -44,7 +44,8 @@ impl LineReader {
     ghost use Rattle.hsms_log.specs.Lines.{HasNone, IsOverlong};
     ghost use Rattle.hsms_log.specs.Verdict.{HasAuditVerdict};
     ghost use Rattle.hsms_log.specs.AuditState.{Allows, limit_after};
-    ghost use Rattle.hsms_log.specs.LineReader.{StateInvariant, EndsLine, FailsAs, IsFailure};
+    ghost use Rattle.hsms_log.specs.LineReader.{StateInvariant, FailsAs};
+    ghost use Rattle.hsms_log.specs.InnerLineReader.{EndsLine, IsFailure};
     ghost use Rattle.hsms_log.specs.LineFormat.{IsComment, entry_line};
 
     /// Creates a reader that has read nothing.

@@ -10,7 +10,7 @@ ghost use Rattle.hsms_machine.specs.Entry.{frame_entry};
 ghost use Rattle.hsms_log.specs.Step.{entry_by, event_of};
 ghost use Rattle.hsms_log.specs.LineContent.{carried_by, CarriesFrame, HasFrame, EncodesFramesOnly, EncodesNoFrame};
 ghost use Rattle.hsms_machine.specs.declared.entry.Mark.{Mark as FrameMark};
-ghost use Rattle.hsms_log.specs.FrameLine.{IsEncoded, mark_word};
+ghost use Rattle.hsms_log.specs.InnerFrameLine.{IsEncoded, mark_word};
 
 use crate::digits::decode;
 use crate::fault::LineFault;

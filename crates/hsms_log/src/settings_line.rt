@@ -3,8 +3,8 @@
 ghost use Rattle.std.specs.Prelude.{◌≡◌, ◌≤◌, ◌↔◌, ℕ, Option, Some, None, IsSome, IfSome, IfNone, option_map};
 ghost use Rattle.hsms_machine.specs.Settings.{Parameters, IsWithinLimits};
 ghost use Rattle.hsms_log.specs.LineFormat.{EncodesSettings};
-ghost use Rattle.hsms_log.specs.Reading.{role_of, link_of, version_at as version_and_rest, end_at as end_and_rest, times_at as times_and_rest, limits_of as limits_in, u32_at as u32_and_rest, settings_at};
-ghost use Rattle.hsms_log.specs.SettingsFields.{IsOf};
+ghost use Rattle.hsms_log.specs.InnerReading.{role_of, link_of, version_at as version_and_rest, end_at as end_and_rest, times_at as times_and_rest, limits_of as limits_in, u32_at as u32_and_rest, settings_at};
+ghost use Rattle.hsms_log.specs.InnerSettingsFields.{IsOf};
 
 use crate::number::{after_prefix, number, number_at, word_at};
 use hsms_machine::{Role, Settings, Side};
@@ -33,7 +33,7 @@ fn of_version(version: u8, settings: Settings) -> Option<Settings>
 
 /// Returns the version in a first line, and its settings for a log of one connection. These are `None` if a number is
 /// outside its limits.
-#[tactic(auto, unfolding(crate::specs::Reading::settings_at))]
+#[tactic(auto, unfolding(crate::specs::InnerReading::settings_at))]
 fn version_and_settings(line: &[u8]) -> Option<(u8, Option<Settings>)>
     ensures found { (x : ℕ × Option Parameters) → result ≡ Some x → (p : Parameters) × (settings_at line.now ≡ Some p) × IsOf p x.0 x.1 }
     ensures none { result ≡ None → settings_at line.now ≡ None }
@@ -47,7 +47,7 @@ fn version_and_settings(line: &[u8]) -> Option<(u8, Option<Settings>)>
 }
 
 /// Returns the version, and what follows it.
-#[tactic(auto, unfolding(crate::specs::Reading::version_at))]
+#[tactic(auto, unfolding(crate::specs::InnerReading::version_at))]
 fn version_at(line: &[u8]) -> Option<(u8, &[u8])>
     ensures { option_map (λ x. (x.0, x.1.now)) result ≡ version_and_rest line.now }
 {
@@ -58,7 +58,7 @@ fn version_at(line: &[u8]) -> Option<(u8, &[u8])>
 }
 
 /// Returns the role, the side and the device ID of an endpoint, and what follows them.
-#[tactic(auto, unfolding(crate::specs::Reading::end_at))]
+#[tactic(auto, unfolding(crate::specs::InnerReading::end_at))]
 fn end_at(text: &[u8]) -> Option<(Role, Side, u16, &[u8])>
     ensures { option_map (λ x. (x.0, x.1, x.2, x.3.now)) result ≡ end_and_rest text.now }
 {
@@ -70,7 +70,7 @@ fn end_at(text: &[u8]) -> Option<(Role, Side, u16, &[u8])>
     Some((role, link, u16::try_from(device).ok()?, text))
 }
 
-#[tactic(auto, unfolding(crate::specs::Reading::role_of))]
+#[tactic(auto, unfolding(crate::specs::InnerReading::role_of))]
 pub fn read_role(word: &[u8]) -> Option<Role>
     ensures { result ≡ role_of word.now }
 {
@@ -83,7 +83,7 @@ pub fn read_role(word: &[u8]) -> Option<Role>
     }
 }
 
-#[tactic(auto, unfolding(crate::specs::Reading::link_of))]
+#[tactic(auto, unfolding(crate::specs::InnerReading::link_of))]
 pub fn read_link(word: &[u8]) -> Option<Side>
     ensures { result ≡ link_of word.now }
 {
@@ -97,7 +97,7 @@ pub fn read_link(word: &[u8]) -> Option<Side>
 }
 
 /// Returns the four times, and what follows them.
-#[tactic(auto, unfolding(crate::specs::Reading::times_at))]
+#[tactic(auto, unfolding(crate::specs::InnerReading::times_at))]
 fn times_at(text: &[u8]) -> Option<(u32, u32, u32, u32, &[u8])>
     ensures { option_map (λ x. (x.0, x.1, x.2, x.3, x.4.now)) result ≡ times_and_rest text.now }
 {
@@ -109,7 +109,7 @@ fn times_at(text: &[u8]) -> Option<(u32, u32, u32, u32, &[u8])>
 }
 
 /// Returns the maximum length of a message, and the maximum depth of items.
-#[tactic(auto, unfolding(crate::specs::Reading::limits_of))]
+#[tactic(auto, unfolding(crate::specs::InnerReading::limits_of))]
 fn limits_of(text: &[u8]) -> Option<(u32, u8)>
     ensures { result ≡ limits_in text.now }
 {
@@ -118,7 +118,7 @@ fn limits_of(text: &[u8]) -> Option<(u32, u8)>
 }
 
 /// Returns a number of 32 bits, and what follows it.
-#[tactic(auto, unfolding(crate::specs::Reading::u32_at))]
+#[tactic(auto, unfolding(crate::specs::InnerReading::u32_at))]
 fn u32_at(text: &[u8]) -> Option<(u32, &[u8])>
     ensures { option_map (λ x. (x.0, x.1.now)) result ≡ u32_and_rest text.now }
 {

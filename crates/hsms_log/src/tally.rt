@@ -12,7 +12,8 @@ pub struct Tally {
 }
 
 impl Model for Tally {
-    ghost use Rattle.hsms_log.specs.Counters.{Counters, IsBounded};
+    ghost use Rattle.hsms_log.specs.Counters.{Counters};
+    ghost use Rattle.hsms_log.specs.InnerCounters.{IsBounded};
 
     ghost Value = { Counters };
 
@@ -25,7 +26,7 @@ impl Tally {
     ghost use Rattle.std.specs.Prelude.{◌≡◌, ◌+◌, ◌-◌, ◌<◌, ◌^◌, ℕ, List};
     ghost use Rattle.hsms_frame.specs.declared.header.Header.{Header};
     ghost use Rattle.hsms_machine.specs.Entry.{frame_entry};
-    ghost use Rattle.hsms_log.specs.AuditState.{counted};
+    ghost use Rattle.hsms_log.specs.InnerAuditState.{counted};
 
     /// Counts a line without an entry.
     pub fn count_line(&mut self)

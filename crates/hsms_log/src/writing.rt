@@ -4,7 +4,8 @@ ghost use Rattle.std.specs.Prelude.{◌≡◌, ◌<◌, ◌++◌, [], ◌∷◌,
 ghost use Rattle.std.specs.List.{flat_map};
 ghost use Rattle.hex.specs.Hex.{encode_lower};
 ghost use Rattle.hsms_frame.specs.CallCounts.{count_failure};
-ghost use Rattle.hsms_log.specs.Writing.{Puts, Writes, words_of, opening_of, numbers_of, spaced};
+ghost use Rattle.hsms_log.specs.Writing.{Puts};
+ghost use Rattle.hsms_log.specs.InnerWriting.{Writes, words_of, opening_of, numbers_of, spaced};
 ghost use Rattle.hsms_log.specs.LineFormat.{EncodesSettings, EncodesEntry, entry_line, settings_line, event_text, message_octets, cause_word as cause_word_of};
 
 use crate::fault::LogFault;

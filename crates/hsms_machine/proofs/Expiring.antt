@@ -13,7 +13,8 @@ use Rattle.hsms_machine.specs.declared.open_transactions.Transaction.{Transactio
 use Rattle.hsms_machine.specs.declared.view.View.{View}
 use Rattle.hsms_machine.specs.Entry.{is_up, connection_of}
 use Rattle.hsms_machine.specs.Message.{is_data_request, is_control_request}
-use Rattle.hsms_machine.specs.OpeningOrder.{AreInOrder, AreUntil, first_of}
+use Rattle.hsms_machine.specs.OpeningOrder.{AreUntil, first_of}
+use Rattle.hsms_machine.specs.InnerOpeningOrder.{AreInOrder}
 use Rattle.hsms_machine.specs.RepairLaws.{ExpiryPutIsValid}
 use Rattle.hsms_machine.specs.Repair.{First, change_by, entry_of_event, expired, expiry_of}
 use Rattle.hsms_machine.specs.Rule.{Breaks, IsFirst, IsNotUp, all_rules, format_rules, timer_rules, transaction_rules}

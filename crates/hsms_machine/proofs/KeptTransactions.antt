@@ -12,7 +12,8 @@ use Rattle.std.proofs.lemmas.List.Edits.{length-remove}
 use Rattle.std.proofs.lemmas.List.Folds.{list_any-append}
 use Rattle.std.proofs.lemmas.Map.Entries.{length-values_of}
 use Rattle.hsms_machine.specs.declared.open_transactions.Transaction.{Transaction}
-use Rattle.hsms_machine.specs.OpeningOrder.{AreKeyed, AreSince, AreUntil, AreInOrder, AreApart, AreKept, uses, first_of}
+use Rattle.hsms_machine.specs.OpeningOrder.{AreUntil, first_of}
+use Rattle.hsms_machine.specs.InnerOpeningOrder.{AreKeyed, AreSince, AreInOrder, AreApart, AreKept, uses}
 use Rattle.hsms_machine.proofs.Mapped.{or_parts, filter_none, find-some, is_none_at}
 
 -- ---- after the closed ones

@@ -11,10 +11,12 @@ use Rattle.hsms_frame.specs.declared.header.Header.{Header}
 use Rattle.hsms_machine.specs.declared.open_transactions.Transaction.{Transaction}
 use Rattle.hsms_frame.specs.declared.kinds.Kind.{Kind}
 use Rattle.hsms_frame.specs.declared.kinds.Kind.TheVariants.{Primary, Reply, SelectReq, SelectRsp, LinktestReq, LinktestRsp, Reject}
-use Rattle.hsms_machine.specs.Message.{is_reject_kind, is_response_kind, may_conclude}
+use Rattle.hsms_machine.specs.Message.{is_reject_kind, is_response_kind}
+use Rattle.hsms_machine.specs.InnerMessage.{may_conclude}
 use Rattle.hsms_machine.specs.Transaction.{passes, answers, answers_kind, rejects, concludes}
 use Rattle.hsms_machine.specs.Timer.{due_at, due_times, least_of, least_in}
-use Rattle.hsms_machine.specs.OpeningOrder.{IsOrdered, AreKeyed, AreSince, AreUntil, AreInOrder, AreApart, uses, first_of}
+use Rattle.hsms_machine.specs.OpeningOrder.{IsOrdered, AreUntil, first_of}
+use Rattle.hsms_machine.specs.InnerOpeningOrder.{AreKeyed, AreSince, AreInOrder, AreApart, uses}
 
 -- The parts of an `
 --

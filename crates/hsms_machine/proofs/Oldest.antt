@@ -12,7 +12,8 @@ use Rattle.hsms_machine.specs.Entry.{entry_at}
 use Rattle.hsms_machine.specs.Message.{is_data_request}
 use Rattle.hsms_machine.specs.Transaction.{SentData, IsOpen, opened_by, opened_as_at, passes}
 use Rattle.hsms_machine.specs.View.{open_of}
-use Rattle.hsms_machine.specs.OpeningOrder.{AreInOrder, first_of}
+use Rattle.hsms_machine.specs.OpeningOrder.{first_of}
+use Rattle.hsms_machine.specs.InnerOpeningOrder.{AreInOrder}
 use Rattle.hsms_machine.specs.OpeningLines.{SameEvents, is_sent_primary, IsPlaceOfOldest, NoPrimaryIsOpen}
 use Rattle.hsms_machine.proofs.Mapped.{any_first}
 use Rattle.hsms_machine.proofs.ViewsOfRuns.{pool_from_open, open_from_pool}

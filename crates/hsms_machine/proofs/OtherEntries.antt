@@ -4,7 +4,8 @@ use Rattle.std.specs.List.{find}
 use Rattle.std.proofs.lemmas.Bool.{eqb-true}
 use Rattle.std.proofs.lemmas.List.Elements.{filter-append}
 use Rattle.hsms_machine.specs.declared.open_transactions.Transaction.{Transaction}
-use Rattle.hsms_machine.specs.OpeningOrder.{AreSince, AreUntil, AreInOrder, AreApart, AreListed, uses}
+use Rattle.hsms_machine.specs.OpeningOrder.{AreUntil}
+use Rattle.hsms_machine.specs.InnerOpeningOrder.{AreSince, AreInOrder, AreApart, AreListed, uses}
 use Rattle.hsms_machine.proofs.Mapped.{or_parts, or_false, any_none, filter_none}
 use Rattle.hsms_machine.proofs.KeptTransactions.{apart-push, in_order-push}
 

@@ -8,7 +8,8 @@ use Rattle.hsms_machine.specs.Settings.{Parameters}
 use Rattle.hsms_machine.specs.EventParts.{entry_of}
 use Rattle.hsms_machine.specs.Session.{Facts}
 use Rattle.hsms_machine.specs.Rule.{Breaks, IsFirst, all_rules, order_rules, timer_rules}
-use Rattle.hsms_machine.specs.ViewRules.{facts_of, view_after, IsBrokenAt, IsFresh}
+use Rattle.hsms_machine.specs.ViewRules.{facts_of, view_after, IsBrokenAt}
+use Rattle.hsms_machine.specs.InnerViewRules.{IsFresh}
 use Rattle.hsms_machine.proofs.SameFacts.{never_from}
 
 module _ (facts : Facts) (settings : Parameters) (time : ℕ) where

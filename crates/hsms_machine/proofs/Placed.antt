@@ -19,8 +19,9 @@ use Rattle.hsms_machine.specs.Rule.{Breaks, IsFirst, all_rules}
 use Rattle.hsms_machine.specs.Run.{Broken}
 use Rattle.hsms_machine.specs.ViewRules.{is_closed_by, view_after, pool_of}
 use Rattle.hsms_machine.specs.View.{open_of, view_of}
-use Rattle.hsms_machine.specs.OpeningOrder.{uses}
-use Rattle.hsms_machine.specs.OpeningLines.{SameEvents, at_place, HasPlaces, ClosesOneOpenedAt, ClosesNothing, IsClosing, ClosesNone, ForEachPlaced, is_fresh}
+use Rattle.hsms_machine.specs.InnerOpeningOrder.{uses}
+use Rattle.hsms_machine.specs.OpeningLines.{SameEvents, at_place, HasPlaces, ClosesOneOpenedAt, ClosesNothing, IsClosing, ClosesNone, ForEachPlaced}
+use Rattle.hsms_machine.specs.InnerOpeningLines.{is_fresh}
 use Rattle.hsms_machine.proofs.SameFacts.{never_from}
 use Rattle.hsms_machine.proofs.Parts.{unused}
 use Rattle.hsms_machine.proofs.Push.{Agrees, agrees_by, view-push}

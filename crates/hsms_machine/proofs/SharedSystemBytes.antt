@@ -13,7 +13,7 @@ use Rattle.hsms_machine.specs.Message.{is_data_request, is_control_request}
 use Rattle.hsms_machine.specs.Laws.{shares_system}
 use Rattle.hsms_machine.specs.Transaction.{Pool, SentData, SentControl, TakenData, TakenControl, opens, opened_by, opened_as_at, passes}
 use Rattle.hsms_machine.specs.ViewRules.{pool_of}
-use Rattle.hsms_machine.specs.OpeningOrder.{uses}
+use Rattle.hsms_machine.specs.InnerOpeningOrder.{uses}
 use Rattle.hsms_machine.specs.OpeningLines.{ForEachPlaced, IsNamesake, IsPlaceInUse, IsNotInUse}
 use Rattle.hsms_machine.proofs.Mapped.{or_parts}
 use Rattle.hsms_machine.proofs.ViewsOfRuns.{pool_from_open, open_from_pool}

@@ -106,10 +106,6 @@ is_control header = is_control_kind (kind_of header)
 unfoldable pub is_response : Header → Bool
 is_response header = is_response_kind (kind_of header)
 
--- True for a response or a Reject: no other message ends a transaction.
-unfoldable pub may_conclude : Header → Bool
-may_conclude header = is_response_kind (kind_of header) || is_reject_kind (kind_of header)
-
 -- True for a Select.rsp with status 0.
 unfoldable pub establishes : Header → Bool
 establishes header = is_select_response (kind_of header) && (header.byte3 == 0)

@@ -1,20 +1,17 @@
 -- The line number of each entry of a log in the input. A log with line numbers as times satisfies the same definitions
 -- as the log. So each open transaction has its line number.
-use Rattle.std.specs.Prelude.{◌≡◌, ℕ, ◌≤◌, Bool, true, false, ◌&&◌, ◌||◌, not, List, [], ◌∷◌, ◌++◌, None, IsTrue, length}
+use Rattle.std.specs.Prelude.{◌≡◌, ℕ, ◌≤◌, Bool, false, List, [], ◌∷◌, ◌++◌, None, IsTrue, length}
 use Rattle.hsms_machine.specs.declared.entry.Entry.{Entry}
 use Rattle.hsms_machine.specs.declared.entry.Event.{Event}
 use Rattle.hsms_machine.specs.declared.entry.Event.TheVariants.{Sent}
-use Rattle.hsms_machine.specs.declared.entry.Act.{Act}
-use Rattle.hsms_machine.specs.declared.entry.Act.TheVariants.{Sent as ActSent, Taken as ActTaken}
 use Rattle.hsms_machine.specs.declared.view.View.{View}
 use Rattle.hsms_machine.specs.Settings.{Parameters}
 use Rattle.hsms_machine.specs.Entry.{entry_at}
-use Rattle.hsms_machine.specs.Message.{is_request, is_data_request}
+use Rattle.hsms_machine.specs.Message.{is_data_request}
 use Rattle.hsms_machine.specs.Transaction.{IsOpen, closes}
 use Rattle.hsms_machine.specs.Laws.{shares_system}
 use Rattle.hsms_machine.specs.Run.{Broken, IsRun}
 use Rattle.hsms_machine.specs.View.{view_of}
-use Rattle.hsms_machine.specs.OpeningOrder.{uses}
 
 -- Holds if the events are equal, entry by entry.
 abbrev pub SameEvents : List Entry → List Entry → Type 0
@@ -105,11 +102,3 @@ abbrev pub IsNotInUse : View → Event → Type 0
 IsNotInUse places event =
     ForEachPlaced places (λ log placed. (j : ℕ) → IsOpen log j (length log)
     → IsTrue (shares_system (entry_at log j).event event) → ⊥)
-
--- True unless a request has the system bytes of an open transaction of its direction.
-abbrev pub is_fresh : View → Act → Bool
-is_fresh view (ActSent header) =
-    not (is_request header) || (not (uses header.system view.sent_data) && not (uses header.system view.sent_control))
-is_fresh view (ActTaken header) =
-    not (is_request header) || (not (uses header.system view.taken_data) && not (uses header.system view.taken_control))
-is_fresh view act = true

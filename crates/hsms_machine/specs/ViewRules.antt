@@ -5,20 +5,17 @@ use Rattle.std.specs.List.{list_any}
 use Rattle.hsms_machine.specs.declared.entry.Entry.{Entry}
 use Rattle.hsms_machine.specs.declared.entry.Event.{Event}
 use Rattle.hsms_machine.specs.declared.entry.Event.TheVariants.{Sent, Taken, T3}
-use Rattle.hsms_machine.specs.declared.entry.Act.{Act}
-use Rattle.hsms_machine.specs.declared.entry.Act.TheVariants.{Sent as ActSent, Taken as ActTaken}
 use Rattle.hsms_machine.specs.declared.phase.Phase.{Phase}
 use Rattle.hsms_machine.specs.declared.phase.Phase.TheVariants.{Before, NotSelected, Selected, Over, Gone}
 use Rattle.hsms_machine.specs.declared.rule.Rule.{Rule}
 use Rattle.hsms_machine.specs.declared.open_transactions.Transaction.{Transaction}
 use Rattle.hsms_machine.specs.declared.view.View.{View}
 use Rattle.hsms_machine.specs.Entry.{is_up, is_down}
-use Rattle.hsms_machine.specs.Message.{is_request}
 use Rattle.hsms_machine.specs.Transaction.{Pool, SentData, SentControl, TakenData, TakenControl, concludes, opened_as}
 use Rattle.hsms_machine.specs.Session.{Facts, selects, ends_session}
 use Rattle.hsms_machine.specs.View.{phase_by}
 use Rattle.hsms_machine.specs.Rule.{Breaks, IsFirst, all_rules}
-use Rattle.hsms_machine.specs.OpeningOrder.{IsOrdered, AreUntil, uses}
+use Rattle.hsms_machine.specs.OpeningOrder.{IsOrdered, AreUntil}
 
 -- ---- facts that the rules use
 
@@ -87,15 +84,6 @@ pool_after pool opened entry =
     filter (λ transaction. not (is_closed_by pool entry.event transaction)) opened
     ++ option_to_list (opened_as pool entry)
 
--- The view with the transactions that are open after an entry, and the rest unchanged.
-abbrev pub pools_after : View → Entry → View
-pools_after view entry = record view {
-  sent_data = pool_after SentData view.sent_data entry;
-  sent_control = pool_after SentControl view.sent_control entry;
-  taken_data = pool_after TakenData view.taken_data entry;
-  taken_control = pool_after TakenControl view.taken_control entry;
-}
-
 -- The view after a valid entry.
 abbrev pub view_after : View → Entry → View
 view_after view entry = record {
@@ -117,16 +105,6 @@ pub record IsInOrder (view : View) : Type 0 where
   pub sent_control : IsOrdered view.last_time view.sent_control
   pub taken_data : IsOrdered view.last_time view.taken_data
   pub taken_control : IsOrdered view.last_time view.taken_control
-
--- Holds unless a request has the system bytes of an open transaction of its direction.
-abbrev pub IsFresh : View → Act → Type 0
-IsFresh view (ActSent header) =
-    IsTrue (is_request header)
-    → (uses header.system view.sent_data ≡ false) × (uses header.system view.sent_control ≡ false)
-IsFresh view (ActTaken header) =
-    IsTrue (is_request header)
-    → (uses header.system view.taken_data ≡ false) × (uses header.system view.taken_control ≡ false)
-IsFresh view act = Unit {0}
 
 -- Holds if no open transaction was opened after this time.
 pub record IsUntil (time : ℕ) (view : View) : Type 0 where

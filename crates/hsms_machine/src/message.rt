@@ -1,7 +1,8 @@
 //! What the rules need to know of a header.
 
 ghost use Rattle.std.specs.Prelude.{◌≡◌};
-ghost use Rattle.hsms_machine.specs.Message.{is_data_request as opens_data_transaction, is_control_request as opens_control_transaction, establishes as is_establishment, is_data as carries_data, is_control as is_control_message, is_response as is_response_message, may_conclude as is_of_conclusive_kind, has_right_session as is_session_right, has_right_direction as is_direction_right, has_right_wait as is_wait_right};
+ghost use Rattle.hsms_machine.specs.Message.{is_data_request as opens_data_transaction, is_control_request as opens_control_transaction, establishes as is_establishment, is_data as carries_data, is_control as is_control_message, is_response as is_response_message, has_right_session as is_session_right, has_right_direction as is_direction_right, has_right_wait as is_wait_right};
+ghost use Rattle.hsms_machine.specs.InnerMessage.{may_conclude as is_of_conclusive_kind};
 ghost use Rattle.hsms_machine.specs.Transaction.{answers as is_answer, is_reply_to as is_reply, concludes as is_conclusion};
 
 use crate::direction::Flow;
@@ -113,7 +114,7 @@ pub fn concludes(request: Header, other: Message) -> bool
 }
 
 /// Returns whether the message is of a kind that may end a transaction.
-#[tactic(auto, unfolding(crate::specs::Message::may_conclude))]
+#[tactic(auto, unfolding(crate::specs::InnerMessage::may_conclude))]
 pub fn may_conclude(message: Message) -> bool
     ensures { result ≡ is_of_conclusive_kind message }
 {

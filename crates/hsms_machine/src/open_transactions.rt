@@ -31,7 +31,7 @@ pub struct Transactions {
 impl Model for Transactions {
     ghost use Rattle.std.specs.Prelude.{List, ◌++◌, option_to_list};
     ghost use Rattle.hsms_machine.specs.declared.open_transactions.Transaction.{Transaction};
-    ghost use Rattle.hsms_machine.specs.OpeningOrder.{AreListed};
+    ghost use Rattle.hsms_machine.specs.InnerOpeningOrder.{AreListed};
 
     ghost Value = { List Transaction };
 
@@ -45,7 +45,8 @@ impl Transactions {
     ghost use Rattle.std.specs.List.{list_any, find};
     ghost use Rattle.hsms_machine.specs.Timer.{least_in, due_times, due_at};
     ghost use Rattle.hsms_machine.specs.Transaction.{answers as is_answer, concludes as is_conclusion};
-    ghost use Rattle.hsms_machine.specs.OpeningOrder.{AreInOrder, AreApart, AreUntil, uses, first_of};
+    ghost use Rattle.hsms_machine.specs.OpeningOrder.{AreUntil, first_of};
+    ghost use Rattle.hsms_machine.specs.InnerOpeningOrder.{AreInOrder, AreApart, uses};
 
     /// Creates a list without transactions.
     pub fn new(alloc: Global) -> Self

@@ -40,8 +40,9 @@ impl Places {
     ghost use Rattle.std.specs.Prelude.{◌≡◌, ◌≤◌, ◌==◌, ◌&&◌, ◌||◌, false, [], IsTrue, OnOk, OnErr, IfSome, IfNone};
     ghost use Rattle.std.specs.List.{list_any};
     ghost use Rattle.hsms_machine.specs.Transaction.{concludes as is_conclusion};
-    ghost use Rattle.hsms_machine.specs.OpeningOrder.{uses};
-    ghost use Rattle.hsms_machine.specs.OpeningLines.{HasPlaces, PlacesLeadTo, ClosesOneOpenedAt, ClosesNothing, IsPlaceOfOldest, NoPrimaryIsOpen, IsPlaceInUse, IsNotInUse, is_fresh as is_new};
+    ghost use Rattle.hsms_machine.specs.InnerOpeningOrder.{uses};
+    ghost use Rattle.hsms_machine.specs.OpeningLines.{HasPlaces, PlacesLeadTo, ClosesOneOpenedAt, ClosesNothing, IsPlaceOfOldest, NoPrimaryIsOpen, IsPlaceInUse, IsNotInUse};
+    ghost use Rattle.hsms_machine.specs.InnerOpeningLines.{is_fresh as is_new};
 
     /// Creates an empty set of line numbers.
     pub fn new(alloc: Global, settings: Settings) -> Places

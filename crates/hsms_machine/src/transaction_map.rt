@@ -24,7 +24,7 @@ impl Model for Queue {
     ghost use Rattle.std.specs.Prelude.{List, drop};
     ghost use Rattle.indexmap.specs.IndexMap.{values};
     ghost use Rattle.hsms_machine.specs.declared.open_transactions.Transaction.{Transaction};
-    ghost use Rattle.hsms_machine.specs.OpeningOrder.{AreKept};
+    ghost use Rattle.hsms_machine.specs.InnerOpeningOrder.{AreKept};
 
     ghost Value = { List Transaction };
 
@@ -39,7 +39,8 @@ impl Queue {
     ghost use Rattle.std.specs.Option.{option_map};
     ghost use Rattle.indexmap.specs.IndexMap.{index_map_len};
     ghost use Rattle.hsms_machine.specs.Transaction.{concludes as is_conclusion};
-    ghost use Rattle.hsms_machine.specs.OpeningOrder.{AreInOrder, AreApart, AreUntil, uses, first_of};
+    ghost use Rattle.hsms_machine.specs.OpeningOrder.{AreUntil, first_of};
+    ghost use Rattle.hsms_machine.specs.InnerOpeningOrder.{AreInOrder, AreApart, uses};
 
     /// Creates a map without transactions.
     pub fn new(alloc: Global) -> Self

@@ -28,8 +28,10 @@ impl View {
     ghost use Rattle.hsms_machine.specs.Session.{ends_session as is_end_of_session, selects as is_selection};
     ghost use Rattle.hsms_machine.specs.View.{view_of};
     ghost use Rattle.hsms_machine.specs.EventParts.{event_of, entry_of};
-    ghost use Rattle.hsms_machine.specs.ViewRules.{view_after, pools_after, phase_after, IsUntil, IsFresh};
-    ghost use Rattle.hsms_machine.specs.OpeningOrder.{AreUntil, uses};
+    ghost use Rattle.hsms_machine.specs.ViewRules.{view_after, phase_after, IsUntil};
+    ghost use Rattle.hsms_machine.specs.InnerViewRules.{pools_after, IsFresh};
+    ghost use Rattle.hsms_machine.specs.OpeningOrder.{AreUntil};
+    ghost use Rattle.hsms_machine.specs.InnerOpeningOrder.{uses};
 
     /// Creates the view of an empty log.
     #[tactic(auto, unfolding(crate::specs::Entry::connection_of))]

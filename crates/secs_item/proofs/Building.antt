@@ -4,8 +4,8 @@ use Rattle.std.specs.Prelude.{IsOk}
 use Rattle.std.proofs.lemmas.List.{length-append, length-drop, drop-drop}
 use Rattle.secs_item.specs.Item.{Value, Elements, no_elements, element, elements_of}
 use Rattle.secs_item.specs.Encoding.{IsOctets}
-use Rattle.secs_item.specs.Decoding.{Fault, ◌>>=◌, subsequent, elements_by, item_at}
-use Rattle.secs_item.specs.Measure.{EndsAt}
+use Rattle.secs_item.specs.InnerDecoding.{Fault, ◌>>=◌, subsequent, elements_by, item_at}
+use Rattle.secs_item.specs.InnerMeasure.{EndsAt}
 use Rattle.secs_item.proofs.Octets.{IsOctets-drop}
 use Rattle.secs_item.proofs.Items.{item_found, bind_ok, subsequent_ok}
 

@@ -8,7 +8,7 @@ use Rattle.secs_item.specs.Format.{is_list}
 use Rattle.secs_item.specs.Item.{Value, list, values, Values, binary, boolean, ascii, jis8, char2, i8, i1, i2, i4, f8, f4, u8, u1, u2, u4, Elements, no_elements, element, count, nest, nest_of_elements, format_of_values}
 use Rattle.secs_item.specs.Header.{header_at}
 use Rattle.secs_item.specs.Encoding.{Body, header, Framed, EncodesTo, AllEncoded}
-use Rattle.secs_item.specs.Decoding.{Fault, elements_by, item_by, item_at}
+use Rattle.secs_item.specs.InnerDecoding.{Fault, elements_by, item_by, item_at}
 use Rattle.secs_item.proofs.Bodies.{body_reads}
 use Rattle.secs_item.proofs.Headers.{header_reads}
 use Rattle.secs_item.proofs.Items.{framed_length}

@@ -4,7 +4,8 @@ use Rattle.std.specs.Bool.{Decides}
 use Rattle.std.specs.Cmp.Lexicographic.{pointwise}
 use Rattle.std.proofs.lemmas.Slice.Eq.{slice_eq-Decides}
 use Rattle.secs_item.specs.declared.item.Item.{Item}
-use Rattle.secs_item.specs.Item.{Value, list, values, Values, Elements, element, view, views}
+use Rattle.secs_item.specs.Item.{Value, list, values, Values, Elements, element, view}
+use Rattle.secs_item.specs.InnerItem.{views}
 use Rattle.secs_item.proofs.Views.{views_from, views_done}
 
 -- The result of `==` on the values decides whether the items are equal.

@@ -7,7 +7,7 @@ use Rattle.secs_item.specs.Item.{Value, list, Elements, no_elements, element, co
 use Rattle.secs_item.specs.Header.{Reason, Head, header_at}
 use Rattle.secs_item.specs.Encoding.{IsOctets, AllEncoded}
 use Rattle.secs_item.specs.Fault.{FaultsInElement, FaultsInHeader, Faults}
-use Rattle.secs_item.specs.Decoding.{Fault, ◌>>=◌, subsequent, elements_by, item_by, item_at}
+use Rattle.secs_item.specs.InnerDecoding.{Fault, ◌>>=◌, subsequent, elements_by, item_by, item_at}
 use Rattle.secs_item.proofs.Octets.{IsOctets-drop, IsOctets-rest}
 use Rattle.secs_item.proofs.Headers.{header_is}
 use Rattle.secs_item.proofs.Items.{IsItem, item_found}

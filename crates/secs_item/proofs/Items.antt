@@ -9,7 +9,8 @@ use Rattle.secs_item.specs.Format.{is_list, value_size}
 use Rattle.secs_item.specs.Item.{Value, list, values, Elements, no_elements, element, count, nest, nest_of_elements}
 use Rattle.secs_item.specs.Header.{Reason, Head, header_at}
 use Rattle.secs_item.specs.Encoding.{IsOctets, header, EncodesTo, AllEncoded}
-use Rattle.secs_item.specs.Decoding.{Fault, ◌>>=◌, subsequent, values_of, elements_by, item_by, item_at}
+use Rattle.secs_item.specs.Decoding.{values_of}
+use Rattle.secs_item.specs.InnerDecoding.{Fault, ◌>>=◌, subsequent, elements_by, item_by, item_at}
 use Rattle.secs_item.proofs.Octets.{IsOctets-drop, IsOctets-rest, IsOctets-take}
 use Rattle.secs_item.proofs.Bodies.{body_encoded}
 use Rattle.secs_item.proofs.Headers.{IsHeader, header_is}

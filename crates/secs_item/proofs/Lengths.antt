@@ -7,8 +7,10 @@ use Rattle.secs_item.specs.declared.header.Header.{Header}
 use Rattle.secs_item.specs.Format.{is_list}
 use Rattle.secs_item.specs.Header.{Reason, Head, header_at}
 use Rattle.secs_item.specs.Item.{Value, Elements, no_elements, list, values, element}
-use Rattle.secs_item.specs.Decoding.{Fault, ◌>>=◌, subsequent, values_of, elements_by, item_by, item_at}
-use Rattle.secs_item.specs.Measure.{header_from, end_from, EndsAt}
+use Rattle.secs_item.specs.Decoding.{values_of}
+use Rattle.secs_item.specs.InnerDecoding.{Fault, ◌>>=◌, subsequent, elements_by, item_by, item_at}
+use Rattle.secs_item.specs.Measure.{header_from}
+use Rattle.secs_item.specs.InnerMeasure.{end_from, EndsAt}
 use Rattle.secs_item.specs.Fault.{fault_at}
 
 -- ---- elements

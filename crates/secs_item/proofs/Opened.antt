@@ -10,8 +10,9 @@ use Rattle.secs_item.specs.Fault.{fault_at}
 use Rattle.secs_item.specs.Format.{is_list}
 use Rattle.secs_item.specs.Header.{Reason, Head, header_at}
 use Rattle.secs_item.specs.Item.{Value}
-use Rattle.secs_item.specs.Decoding.{Fault, elements_by, item_at}
-use Rattle.secs_item.specs.Measure.{header_from, part_from, end_from, and_from_there, end_of_lists, end_of_open}
+use Rattle.secs_item.specs.InnerDecoding.{Fault, elements_by, item_at}
+use Rattle.secs_item.specs.Measure.{header_from}
+use Rattle.secs_item.specs.InnerMeasure.{part_from, end_from, and_from_there, end_of_lists, end_of_open}
 use Rattle.secs_item.proofs.Lengths.{first_is, first_fails, item_fails, item_of_values, item_of_elements, empty_list}
 
 -- ---- parts as headers

@@ -12,7 +12,7 @@ use Rattle.secs_item.specs.declared.format.Format.{Format}
 use Rattle.secs_item.specs.declared.format.Format.TheVariants as format
 use Rattle.secs_item.specs.Format.{format_with_code, is_list, value_size}
 use Rattle.secs_item.specs.Header.{Reason, Head, header_at}
-use Rattle.secs_item.specs.Measure.{part_from, mask_for, short_format}
+use Rattle.secs_item.specs.InnerMeasure.{part_from, mask_for, short_format}
 use Rattle.secs_item.proofs.Headers.{ok_body, is_deep}
 
 -- ---- masks

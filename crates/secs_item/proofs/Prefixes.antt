@@ -9,8 +9,8 @@ use Rattle.secs_item.specs.Item.{Value, list, values, count, format_of_values}
 use Rattle.secs_item.specs.Header.{Reason, trailing}
 use Rattle.secs_item.specs.Encoding.{IsOctets, Framed, EncodesTo, IsAtFront, IsWhole, IsTextOf, IsText}
 use Rattle.secs_item.specs.Fault.{Faults, HasTrailing, TextFaults, IsReported, fault_at}
-use Rattle.secs_item.specs.Decoding.{Fault, item_at}
-use Rattle.secs_item.specs.Measure.{end_from, EndsAt}
+use Rattle.secs_item.specs.InnerDecoding.{Fault, item_at}
+use Rattle.secs_item.specs.InnerMeasure.{end_from, EndsAt}
 use Rattle.secs_item.proofs.Items.{IsItem, item_found, framed_length}
 use Rattle.secs_item.proofs.Determinism.{item_reads}
 use Rattle.secs_item.proofs.Faults.{fault_found, fault_read}

@@ -7,9 +7,11 @@ use Rattle.secs_item.specs.declared.format.Format.{Format}
 use Rattle.secs_item.specs.declared.format.Format.TheVariants as format
 use Rattle.secs_item.specs.declared.item.Item.{Item}
 use Rattle.secs_item.specs.Format.{is_list, value_size}
-use Rattle.secs_item.specs.Item.{Value, list, values, Values, Elements, count, count_of, format_of, format_of_values, view, views, ValuesInRange, InRange}
+use Rattle.secs_item.specs.Item.{Value, list, values, Values, Elements, count, count_of, format_of, format_of_values, view, ValuesInRange, InRange}
+use Rattle.secs_item.specs.InnerItem.{views}
 use Rattle.secs_item.specs.Encoding.{header}
-use Rattle.secs_item.specs.ShortestEncoding.{field_of, framed, short, short_body, short_elements, body_of, Appends, IsBodyOf}
+use Rattle.secs_item.specs.ShortestEncoding.{field_of, framed, short, short_body, short_elements, IsBodyOf}
+use Rattle.secs_item.specs.InnerShortestEncoding.{body_of, Appends}
 
 pub count-views : (items : List Item) → count (views items) ≡ length items
 count-views [] = refl

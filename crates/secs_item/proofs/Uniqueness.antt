@@ -16,7 +16,8 @@ use Rattle.secs_item.specs.Header.{Reason}
 use Rattle.secs_item.specs.Encoding.{IsOctets, InOrder, Octet, Truth, Signed, Unsigned, Unread, Body, header, Framed, EncodesTo, AllEncoded, IsAtFront}
 use Rattle.secs_item.specs.ShortestEncoding.{octet_alone, octet_of_truth, octets_of_signed, unread, short_body, field_of, framed, short, short_elements}
 use Rattle.secs_item.specs.Fault.{Faults}
-use Rattle.secs_item.specs.Decoding.{Fault, item_at, octet, truth, signed, unread as unread_of}
+use Rattle.secs_item.specs.Decoding.{octet, truth, signed, unread as unread_of}
+use Rattle.secs_item.specs.InnerDecoding.{Fault, item_at}
 use Rattle.secs_item.proofs.Octets.{IsOctets-nil, IsOctets-cons}
 use Rattle.secs_item.proofs.Codecs.{IsCodec, octets_codec, truth_codec, signed_codec, unsigned_codec, unread_codec}
 use Rattle.secs_item.proofs.Bodies.{in_order_length}

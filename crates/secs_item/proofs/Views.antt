@@ -2,7 +2,8 @@
 use Rattle.std.proofs.Common.{◌≡◌, ℕ, ℤ, ◌+◌, ◌<◌, ◌≤◌, Bool, List, [], ◌∷◌, ◌++◌, length, map, take, drop, get_or, Vec, Global, max, min, Result, Ok, Err, sym, ap, ◌∙◌, rules, arith}
 use Rattle.std.specs.Prelude.{IfOk, IsOkAnd, MatchResult}
 use Rattle.std.proofs.lemmas.List.{at_drop_more, at_drop_all, take_more, take_all, map-append}
-use Rattle.secs_item.specs.Item.{Value, list, Values, values, no_elements, element, binary, boolean, ascii, jis8, char2, i1, i2, i4, i8, u1, u2, u4, u8, f4, f8, elements_of, nest, nest_of_elements, view, views}
+use Rattle.secs_item.specs.Item.{Value, list, Values, values, no_elements, element, binary, boolean, ascii, jis8, char2, i1, i2, i4, i8, u1, u2, u4, u8, f4, f8, elements_of, nest, nest_of_elements, view}
+use Rattle.secs_item.specs.InnerItem.{views}
 use Rattle.secs_item.specs.declared.item.Item.{Item, the_lemmas, List as item_list, Binary as item_binary, Boolean as item_boolean, Ascii as item_ascii, Jis8 as item_jis8, Char2 as item_char2, I1 as item_i1, I2 as item_i2, I4 as item_i4, I8 as item_i8, U1 as item_u1, U2 as item_u2, U4 as item_u4, U8 as item_u8, F4 as item_f4, F8 as item_f8}
 
 pub view-List : (v : Vec Item Global) → view (item_list v) ≡ list (views v.items)

@@ -1,6 +1,6 @@
 -- A data item of SEMI E5 (data structures: items and lists), independent of its location in memory, and the value that
 -- an `Item` of the code represents.
-use Rattle.std.specs.Prelude.{◌≡◌, ◌<◌, ◌^◌, ℕ, suc, max, ℤ, Bool, List, [], ◌∷◌, length, map, FitsSigned}
+use Rattle.std.specs.Prelude.{◌≡◌, ◌<◌, ◌^◌, ℕ, suc, max, ℤ, Bool, List, [], ◌∷◌, length, FitsSigned}
 use Rattle.std.specs.Int.{w8, w16, w32, w64}
 use Rattle.std.specs.List.{AllByRecursion}
 use Rattle.secs_item.specs.declared.format.Format.{Format}
@@ -154,6 +154,3 @@ view_step (Item-F.U4 v) = values (u4 v.items)
 
 abbrev pub view : Item → Value
 view = fold-Item Value view_step
-
-abbrev pub views : List Item → Elements
-views items = elements_of (map view items)

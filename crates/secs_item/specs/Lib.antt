@@ -1,11 +1,15 @@
 pub mod Item
+pub mod InnerItem
 pub mod Equality
 pub mod Format
 pub mod Header
 pub mod Encoding
 pub mod ShortestEncoding
+pub mod InnerShortestEncoding
 pub mod Fault
 pub mod Decoding
-pub mod Codec
+pub mod InnerDecoding
+pub mod InnerCodec
 pub mod Measure
+pub mod InnerMeasure
 pub mod Laws

@@ -61,15 +61,6 @@ abbrev mutual
   short_elements no_elements = Some []
   short_elements (element v es) = option_and_then (λ first. option_map (λ others. first ++ others) (short_elements es)) (short v)
 
--- Holds if there is an encoding, and it was appended.
-abbrev pub Appends : Option (List ℕ) → List ℕ → List ℕ → Type 0
-Appends encoded_form old new = (octets : List ℕ) × (encoded_form ≡ Some octets) × (new ≡ old ++ octets)
-
--- The bytes of an item's values; a list has none.
-abbrev pub body_of : Value → List ℕ
-body_of (list es) = []
-body_of (values v) = short_body v
-
 -- Holds if the bytes are those of an item's values, which are in range; a list has none.
 abbrev pub IsBodyOf : Value → List ℕ → Type 0
 IsBodyOf (list es) octets = octets ≡ []

@@ -4,10 +4,12 @@ ghost use Rattle.std.specs.Prelude.{◌≡◌, ◌≤◌, ◌<◌, ◌%◌, ◌�
 ghost use Rattle.secs_item.specs.Fault.{Faults, TextFaults, IsReported, fault_at};
 ghost use Rattle.secs_item.specs.Format.{is_list, value_size};
 ghost use Rattle.secs_item.specs.Header.{Reason};
-ghost use Rattle.secs_item.specs.Measure.{EndsAt};
-ghost use Rattle.secs_item.specs.Decoding.{each, octet, values_of, item_at, elements_by};
+ghost use Rattle.secs_item.specs.InnerMeasure.{EndsAt};
+ghost use Rattle.secs_item.specs.Decoding.{each, octet, values_of};
+ghost use Rattle.secs_item.specs.InnerDecoding.{item_at, elements_by};
 ghost use Rattle.secs_item.specs.Encoding.{IsAtFront, IsText, IsTextOf};
-ghost use Rattle.secs_item.specs.Item.{Value as ItemValue, values, view, views};
+ghost use Rattle.secs_item.specs.Item.{Value as ItemValue, values, view};
+ghost use Rattle.secs_item.specs.InnerItem.{views};
 
 use crate::fault::ItemFault;
 use crate::format::Format;

@@ -2,7 +2,8 @@
 
 ghost use Rattle.std.specs.Prelude.{◌≡◌, ◌<◌, ◌^◌, ◌++◌, OnOk, IfOk, IfErr, IsTrue, IsSome, IsNone, IsErrOf, Some, ◌↔◌, ◌⊎◌};
 ghost use Rattle.std.specs.List.{flat_map, AllByRecursion};
-ghost use Rattle.secs_item.specs.ShortestEncoding.{octet_alone, body_of, field_of, short, Appends, IsBodyOf};
+ghost use Rattle.secs_item.specs.ShortestEncoding.{octet_alone, field_of, short, IsBodyOf};
+ghost use Rattle.secs_item.specs.InnerShortestEncoding.{body_of, Appends};
 ghost use Rattle.secs_item.specs.Encoding.{header, EncodesTo};
 ghost use Rattle.secs_item.specs.Item.{view, InRange};
 

@@ -2,7 +2,8 @@
 
 ghost use Rattle.std.specs.Prelude.{◌≡◌, ◌↔◌, false, IfOk, IsTrue, min};
 ghost use Rattle.secs_item.specs.Format.{is_list};
-ghost use Rattle.secs_item.specs.Item.{count_of, format_of, nest, view, views};
+ghost use Rattle.secs_item.specs.Item.{count_of, format_of, nest, view};
+ghost use Rattle.secs_item.specs.InnerItem.{views};
 
 use crate::format::Format;
 use std::alloc::{AllocError, Global};

@@ -3,8 +3,8 @@
 ghost use Rattle.std.specs.Prelude.{◌≡◌, ◌≤◌, ◌<◌, ◌-◌, ℕ, length, drop, IfOk, IfErr, OnOk, IsOk};
 ghost use Rattle.secs_item.specs.Fault.{Faults, TextFaults, IsReported, fault_at};
 ghost use Rattle.secs_item.specs.Header.{Reason};
-ghost use Rattle.secs_item.specs.Measure.{end_from};
-ghost use Rattle.secs_item.specs.Decoding.{item_at, elements_by};
+ghost use Rattle.secs_item.specs.InnerMeasure.{end_from};
+ghost use Rattle.secs_item.specs.InnerDecoding.{item_at, elements_by};
 ghost use Rattle.secs_item.specs.Encoding.{IsAtFront, IsText};
 ghost use Rattle.secs_item.specs.Item.{Value};
 

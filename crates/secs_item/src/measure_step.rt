@@ -2,7 +2,7 @@
 
 ghost use Rattle.std.specs.Prelude.{◌≡◌, ◌≤◌, length, drop, IfOk, IfSome};
 ghost use Rattle.secs_item.specs.Header.{header_at};
-ghost use Rattle.secs_item.specs.Measure.{part_from, LiesIn};
+ghost use Rattle.secs_item.specs.InnerMeasure.{part_from, LiesIn};
 
 use crate::fault::ItemFault;
 use crate::format::Format;

@@ -3,7 +3,7 @@
 ghost use Rattle.std.specs.Prelude.{◌≡◌, ◌++◌, ◌<◌, length, OnOk};
 ghost use Rattle.std.specs.Int.{w8, w16, w32, w64};
 ghost use Rattle.std.specs.List.{AllByRecursion};
-ghost use Rattle.secs_item.specs.Codec.{Codec, of_signed, of_truth, of_unread, of_unsigned};
+ghost use Rattle.secs_item.specs.InnerCodec.{Codec, of_signed, of_truth, of_unread, of_unsigned};
 
 use byteorder::{BigEndian, ByteOrder};
 use std::alloc::AllocError;

@@ -7,7 +7,7 @@ use Rattle.std.proofs.lemmas.List.{drop-drop, drop-take}
 use Rattle.std.proofs.lemmas.Fmt.{AppendsLastDigit, decimal_from_appends, decimal_step, length-decimal-le}
 use Rattle.secs_item.specs.Equality.{octets_Decides}
 use Rattle.secs_text.specs.declared.word_tables.TheConstants.{WORDS, NUMBERS}
-use Rattle.secs_text.specs.BlockOutput.{IsPlace, AppendsText, Puts, two_decimals}
+use Rattle.secs_text.specs.InnerBlockOutput.{IsPlace, AppendsText, Puts, two_decimals}
 use Rattle.secs_text.specs.Printed.{hexadecimal, two_digits}
 use Rattle.secs_text.proofs.Prefixes.{both}
 

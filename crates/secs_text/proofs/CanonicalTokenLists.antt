@@ -8,19 +8,19 @@ use Rattle.std.proofs.lemmas.Bool.{eqb-true, false_from_ne_true, lt-ltb, le-ltb}
 use Rattle.std.proofs.lemmas.Slice.Eq.{bytes_eq-Decides}
 use Rattle.std.proofs.lemmas.List.{drop-drop, drop_more, length-append, length-take-le, take-append-drop}
 use Rattle.secs_item.specs.declared.format.Format.{Format}
-use Rattle.secs_text.specs.CanonicalTokens.{EndsWord, IsWord, IsSymbol, IsSymbolAfter, NamesType, IsCounted, IsSmall, IsLettered, IsHeaded, IsOpening, IsWait, IsHead}
+use Rattle.secs_text.specs.InnerCanonicalTokens.{EndsWord, IsWord, IsSymbol, IsSymbolAfter, NamesType, IsCounted, IsSmall, IsLettered, IsHeaded, IsOpening, IsWait, IsHead}
 use Rattle.secs_item.specs.declared.format.Format.TheVariants as format
 use Rattle.secs_text.specs.Body.{nothing_of}
 use Rattle.secs_text.specs.Content.{Content}
 use Rattle.secs_text.specs.Fault.{any_messages}
 use Rattle.secs_text.specs.ParserStates.{Rules, Before, walk, start, type_expected, after_type, in_item, after_name, ◌>>=◌}
-use Rattle.secs_text.specs.ParseSteps.{count_seen}
-use Rattle.secs_text.specs.EncodedText.{named}
+use Rattle.secs_text.specs.InnerParseSteps.{count_seen}
+use Rattle.secs_text.specs.InnerEncodedText.{named}
 use Rattle.secs_text.specs.declared.token.Count.{Count}
 use Rattle.secs_text.specs.declared.fault.TextFault.TheVariants as fault
 use Rattle.secs_text.specs.declared.token.Token.{Token}
 use Rattle.secs_text.specs.Octets.{is_white, is_digit, is_of_word}
-use Rattle.secs_text.specs.TokenView.{seen, then_tokens}
+use Rattle.secs_text.specs.InnerTokenView.{seen, then_tokens}
 use Rattle.secs_text.specs.Token as math
 use Rattle.secs_text.specs.Token.{Placed, front, whole, with_front, tokens_after, tokens_from}
 use Rattle.secs_text.specs.TypeName.{type_name, formats, format_named}

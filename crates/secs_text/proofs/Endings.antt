@@ -6,7 +6,7 @@ use Rattle.secs_text.specs.declared.fault.TextFault.TheVariants as fault
 use Rattle.secs_item.specs.Item.{Value, list, values}
 use Rattle.secs_text.specs.Content.{Content}
 use Rattle.secs_text.specs.Token.{Token, word, quoted, less, greater, bracket, bracket_end, stop, broken, end, Placed, Front, white, whole, faulty, front, with_front, tokens_after, tokens}
-use Rattle.secs_text.specs.TokenView.{is_last}
+use Rattle.secs_text.specs.InnerTokenView.{is_last}
 use Rattle.secs_text.specs.ParserStates.{Rules, Place, Step, start, after_head, after_wait, type_expected, after_type, count_expected, after_count, in_item, stop_expected, finished, Opened, Before, walk, step, ◌>>=◌, is_empty, at_in_item}
 
 -- Holds if the last of these tokens ends the text.

@@ -13,8 +13,8 @@ use Rattle.secs_text.specs.Body.{nothing_of}
 use Rattle.secs_text.specs.Token as math
 use Rattle.secs_text.specs.Token.{Placed}
 use Rattle.secs_text.specs.ParserStates.{Rules, Before, Count, walk, type_expected, in_item, closed, is_counted, count_place, ◌>>=◌}
-use Rattle.secs_text.specs.ParseSteps.{Checks, Fails}
-use Rattle.secs_text.specs.EncodedText.{appended_text, AppendsBytes, Closed, Itemized, Deep, Anywhere}
+use Rattle.secs_text.specs.InnerParseSteps.{Checks, Fails}
+use Rattle.secs_text.specs.InnerEncodedText.{appended_text, AppendsBytes, Closed, Itemized, Deep, Anywhere}
 use Rattle.secs_text.specs.declared.fault.TextFault.{TextFault}
 use Rattle.secs_text.specs.declared.fault.TextFault.TheVariants as fault
 

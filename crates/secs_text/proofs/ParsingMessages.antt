@@ -5,7 +5,8 @@ use Rattle.secs_item.specs.Item.{Value}
 use Rattle.secs_text.specs.Content.{Content, AllWithin}
 use Rattle.secs_text.specs.Fault.{NotesFault}
 use Rattle.secs_text.specs.Notation.{Notations}
-use Rattle.secs_text.specs.EncodedText.{appended_text, AppendsBytes, text_of, AllGiven}
+use Rattle.secs_text.specs.EncodedText.{text_of}
+use Rattle.secs_text.specs.InnerEncodedText.{appended_text, AppendsBytes, AllGiven}
 use Rattle.secs_text.specs.declared.fault.TextFault.{TextFault}
 use Rattle.secs_text.specs.declared.fault.TextFault.TheVariants as fault
 use Rattle.secs_text.proofs.Results.{ok_all, ok_where_all, err_all, err_where_all}

@@ -19,7 +19,7 @@ use Rattle.secs_text.specs.Token.{Token, word, quoted, less, greater, bracket, b
 use Rattle.secs_text.specs.TypeName.{type_name, format_named}
 use Rattle.secs_text.specs.Words.{head, number_below, head_of_numbers, head_of_parts, head_word}
 use Rattle.secs_text.proofs.PartialTokens.{SoFar}
-use Rattle.secs_text.specs.CanonicalTokens.{IsWord}
+use Rattle.secs_text.specs.InnerCanonicalTokens.{IsWord}
 use Rattle.secs_text.proofs.CanonicalTokenLists.{name_word}
 use Rattle.secs_text.proofs.PrintedWords.{and_true, all_digits, decimal_digits, decimal_word, number_read, octet_word, octet_is_read, written_word, written_read}
 use Rattle.secs_text.proofs.Tokenized.{Prints, is_low, low_both, low_word, end_kinds, word_kinds, prefix_front, take_front, drop_front, prints_none, prints_along, prints_both, prints_word, prints_opening, prints_count, prints_close, prints_space, prints_stop, prints_quoted}

@@ -8,7 +8,7 @@ use Rattle.std.specs.Str.Parse.{AllDigits, digits_value}
 use Rattle.std.proofs.lemmas.Fmt.{decimal_is_IsNumeral, decimal_digit, first_decimal}
 use Rattle.std.proofs.lemmas.Str.Parse.{digit_from_value}
 use Rattle.std.proofs.lemmas.Bool.{false_from_ne_true, leb-true, le-leb, eq-eqb, eqb-true, ltb-true, ltb-false}
-use Rattle.secs_text.specs.CanonicalTokens.{IsWord}
+use Rattle.secs_text.specs.InnerCanonicalTokens.{IsWord}
 use Rattle.secs_text.specs.Octets.{is_digit, is_letter, is_of_word}
 use Rattle.secs_text.specs.Words.{is_numeral, number_below, signed_below, negative_of, hex_digit, octet_from, octet_of_digits, octet_then, hex_octets, octets_of, only, octet_of, sized, float_of, truth_of}
 use Rattle.secs_text.specs.Body.{WordEncoding, hex_octet, truth_letter, signed_number, unsigned_number, hex_float, IsEncoded, encoded_bytes}

@@ -6,14 +6,15 @@ use Rattle.std.specs.Int.{w8, w16, w32, w64}
 use Rattle.std.proofs.Math.Nat.{div-le_self}
 use Rattle.secs_item.specs.declared.format.Format.{Format}
 use Rattle.secs_item.specs.Format.{is_list, value_size}
-use Rattle.secs_item.specs.Item.{Value, list, values, Values, binary, boolean, ascii, jis8, char2, i1, i2, i4, i8, u1, u2, u4, u8, f4, f8, format_of, format_of_values, count_of_values, ValuesInRange, count, view, views}
+use Rattle.secs_item.specs.Item.{Value, list, values, Values, binary, boolean, ascii, jis8, char2, i1, i2, i4, i8, u1, u2, u4, u8, f4, f8, format_of, format_of_values, count_of_values, ValuesInRange, count, view}
+use Rattle.secs_item.specs.InnerItem.{views}
 use Rattle.secs_item.specs.Decoding.{values_of}
 use Rattle.secs_item.specs.ShortestEncoding.{IsBodyOf, short_body}
 use Rattle.secs_item.proofs.Bodies.{body_reads}
 use Rattle.secs_item.proofs.Uniqueness.{body_short}
 use Rattle.secs_text.specs.Body.{signed_number, unsigned_number, hex_float, body_of}
 use Rattle.secs_text.specs.InRange.{Fits, IsOctets, AllHeld, BodyIsHeld, IsHeld}
-use Rattle.secs_text.specs.BlockOutput.{Puts, opening_of}
+use Rattle.secs_text.specs.InnerBlockOutput.{Puts, opening_of}
 use Rattle.secs_text.specs.Printed.{printed_elements, printed_item, printed_values}
 use Rattle.secs_text.proofs.Blocks.{puts_same, puts_then}
 use Rattle.std.proofs.lemmas.List.{take_more, take_all}

@@ -4,12 +4,12 @@ use Rattle.std.proofs.lemmas.List.{take-append-le}
 use Rattle.std.specs.Prelude.{Option, None, Ok, MatchOption}
 use Rattle.std.specs.Fmt.{decimal}
 use Rattle.secs_item.specs.Item.{Value}
-use Rattle.secs_item.specs.Decoding.{item_at}
+use Rattle.secs_item.specs.InnerDecoding.{item_at}
 use Rattle.secs_item.specs.Encoding.{IsTextOf}
 use Rattle.secs_item.proofs.Prefixes.{text_item, text_none, whole_front, front_read}
 use Rattle.secs_text.specs.Content.{Content}
 use Rattle.secs_text.specs.InRange.{IsHeld, IsHeldMessage}
-use Rattle.secs_text.specs.BlockOutput.{Puts}
+use Rattle.secs_text.specs.InnerBlockOutput.{Puts}
 use Rattle.secs_text.specs.Printed.{printed, printed_item, printed_optional}
 use Rattle.secs_text.proofs.Blocks.{puts_then, puts_same}
 

@@ -3,7 +3,7 @@ use Rattle.std.proofs.Common.{◌≡◌, ℕ, ◌+◌, ◌<◌, ◌≤◌, Bool,
 use Rattle.std.proofs.lemmas.List.{drop_all}
 use Rattle.std.proofs.lemmas.Bool.{and_parts}
 use Rattle.std.specs.List.{list_all}
-use Rattle.secs_text.specs.BlockOutput.{AppendsText, Puts}
+use Rattle.secs_text.specs.InnerBlockOutput.{AppendsText, Puts}
 use Rattle.secs_text.specs.Octets.{is_quotable}
 use Rattle.secs_text.specs.Printed.{printed_octet, printed_text}
 use Rattle.secs_text.proofs.Blocks.{appended_then, appended_nothing, appended_same, puts_appended, puts_room, puts_same}

@@ -4,7 +4,7 @@ use Rattle.std.proofs.Math.Nat.{add-div_right, div-eq_of_lt}
 use Rattle.std.proofs.lemmas.List.{length-drop, nil_from_length, take-append-drop, take-append-le, drop-append-le}
 use Rattle.std.proofs.lemmas.List.Concat.{flat_map-cons}
 use Rattle.secs_item.specs.Decoding.{each, unread}
-use Rattle.secs_text.specs.BlockOutput.{AppendsText, Puts, words_of}
+use Rattle.secs_text.specs.InnerBlockOutput.{AppendsText, Puts, words_of}
 use Rattle.secs_text.proofs.Blocks.{puts_appended, puts_room, puts_same}
 
 -- The bytes are fewer than a value has.

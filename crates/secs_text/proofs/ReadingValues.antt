@@ -8,7 +8,7 @@ use Rattle.secs_item.specs.ShortestEncoding.{short_body}
 use Rattle.secs_item.proofs.Bodies.{body_reads}
 use Rattle.secs_item.proofs.Uniqueness.{body_short}
 use Rattle.secs_text.specs.ParserStates.{Count}
-use Rattle.secs_text.specs.EncodedText.{Closed}
+use Rattle.secs_text.specs.InnerEncodedText.{Closed}
 use Rattle.secs_text.specs.Token.{Placed}
 
 module _ {f : Format} {count : Option Count} {before after : List Placed} {old body : List ℕ} where

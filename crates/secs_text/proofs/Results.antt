@@ -10,7 +10,7 @@ use Rattle.secs_text.specs.Token.{Placed, tokens}
 use Rattle.secs_text.specs.Notation.{Notation, Notations}
 use Rattle.secs_text.specs.Fault.{one_message, any_messages, FirstFault, NoteFault, NotesFault}
 use Rattle.secs_text.specs.ParserStates.{Rules, Place, Step, start, finished, walk, step, ◌>>=◌, reading}
-use Rattle.secs_text.specs.ParseSteps.{Reads, Fails}
+use Rattle.secs_text.specs.InnerParseSteps.{Reads, Fails}
 use Rattle.secs_text.specs.View.{content}
 use Rattle.secs_text.proofs.Completeness.{walk_append}
 use Rattle.secs_text.proofs.MessagePrefixes.{let_through, all_let_through}

@@ -8,11 +8,11 @@ use Rattle.std.proofs.lemmas.List.{drop-drop, take_more, length-take-le, get_or-
 use Rattle.secs_item.specs.declared.format.Format.{Format}
 use Rattle.secs_item.specs.Format.{value_size}
 use Rattle.secs_item.specs.ShortestEncoding.{octet_alone, octet_of_truth}
-use Rattle.secs_text.specs.CanonicalTokens.{EndsWord}
+use Rattle.secs_text.specs.InnerCanonicalTokens.{EndsWord}
 use Rattle.secs_text.specs.Octets.{is_of_word, is_digit, is_letter}
 use Rattle.secs_text.specs.ParserStates.{Count}
-use Rattle.secs_text.specs.ByteWord.{IsShortWord, AreShortWords}
-use Rattle.secs_text.specs.EncodedText.{word_octets, AppendsBytes, Collected}
+use Rattle.secs_text.specs.InnerByteWord.{IsShortWord, AreShortWords}
+use Rattle.secs_text.specs.InnerEncodedText.{word_octets, AppendsBytes, Collected}
 use Rattle.secs_text.specs.Token as math
 use Rattle.secs_text.specs.Token.{Placed, tokens_from}
 use Rattle.secs_text.specs.Words.{octet_of, octets_of, octet_of_digits, octet_from, hex_digit, truth_of}

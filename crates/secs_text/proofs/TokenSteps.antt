@@ -4,7 +4,7 @@ use Rattle.std.specs.Prelude.{Option, Err}
 use Rattle.secs_item.specs.Item.{Values, values}
 use Rattle.secs_text.specs.Content.{Content}
 use Rattle.secs_text.specs.Token.{Placed}
-use Rattle.secs_text.specs.TokenView.{seen, then_tokens}
+use Rattle.secs_text.specs.InnerTokenView.{seen, then_tokens}
 use Rattle.secs_text.specs.ParserStates.{Rules, Before, Count, start, after_wait, stop_expected, is_empty, walk, in_item}
 use Rattle.secs_text.specs.declared.fault.TextFault.TheVariants as fault
 use Rattle.secs_text.specs.declared.token.Token.{Token}

@@ -5,7 +5,7 @@ use Rattle.std.specs.List.{list_all, prefix_len}
 use Rattle.std.proofs.lemmas.Bool.{eqb-true}
 use Rattle.std.proofs.lemmas.Bool.Decides.{nat_tests}
 use Rattle.std.proofs.lemmas.List.Folds.{list_all-append}
-use Rattle.secs_text.specs.CanonicalTokens.{IsWord, EndsWord}
+use Rattle.secs_text.specs.InnerCanonicalTokens.{IsWord, EndsWord}
 use Rattle.secs_text.specs.Octets.{is_white, is_of_word, is_quotable}
 use Rattle.secs_text.specs.Token.{Token, word, quoted, less, greater, bracket, bracket_end, stop, end, Front, whole, front, quoted_front, with_front, tokens_after, tokens_from}
 use Rattle.secs_text.proofs.Completeness.{token_of}

@@ -1,7 +1,8 @@
 -- Items as values.
 use Rattle.std.proofs.Common.{◌≡◌, ℕ, suc, List, [], ◌∷◌, length, refl, ap, ◌++◌, ◌∙◌, sym, append_assoc, append-nil, codes, ◌+◌, ◌<◌, get_or, take, subst}
 use Rattle.std.proofs.lemmas.List.{take_more}
-use Rattle.secs_item.specs.Item.{view, views, count, element, with_element}
+use Rattle.secs_item.specs.Item.{view, count, element, with_element}
+use Rattle.secs_item.specs.InnerItem.{views}
 use Rattle.secs_text.specs.InRange.{AllHeld, IsHeld}
 use Rattle.secs_text.specs.Printed.{printed_elements, printed_item}
 use Rattle.secs_text.specs.View.{content, contents}

@@ -8,7 +8,7 @@ use Rattle.std.specs.Int.{w64, cast_unsigned, byte_len}
 use Rattle.std.proofs.lemmas.Bool.{eqb-true}
 use Rattle.byteorder.specs.Endian.{big_bytes, big_number, low_bytes}
 use Rattle.secs_item.specs.ShortestEncoding.{octets_of_signed}
-use Rattle.secs_text.specs.Widths.{is_width, width_of, unsigned, octets_of_unsigned}
+use Rattle.secs_text.specs.InnerWidths.{is_width, width_of, unsigned, octets_of_unsigned}
 use Rattle.secs_text.specs.Words.{signed_below}
 
 module _ (P : ℕ → Type 0) (one : P 1) (two : P 2) (four : P 4) (eight : P 8) where

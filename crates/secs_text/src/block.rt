@@ -1,7 +1,8 @@
 //! A block that buffers bytes for an output.
 
 ghost use Rattle.std.specs.Prelude.{◌≡◌, ◌≤◌, ◌+◌, ◌++◌, ℕ, List, [], length, take, IfOk};
-ghost use Rattle.secs_text.specs.BlockOutput.{IsPlace, AppendsBytes, Puts};
+ghost use Rattle.secs_text.specs.BlockOutput.{AppendsBytes};
+ghost use Rattle.secs_text.specs.InnerBlockOutput.{IsPlace, Puts};
 
 use crate::block_copy::{append_slice, append_word};
 use std::alloc::{AllocError, Global};

@@ -3,7 +3,7 @@
 
 ghost use Rattle.std.specs.Prelude.{◌+◌, ◌≤◌, ◌<◌, ◌++◌, [], ◌∷◌, length, take, codes};
 ghost use Rattle.std.specs.Fmt.{decimal};
-ghost use Rattle.secs_text.specs.BlockOutput.{AppendsText, two_decimals};
+ghost use Rattle.secs_text.specs.InnerBlockOutput.{AppendsText, two_decimals};
 ghost use Rattle.secs_text.specs.Printed.{hexadecimal, two_digits};
 
 use crate::word_tables::{NUMBERS, WORDS};

@@ -2,8 +2,8 @@
 //! them.
 
 ghost use Rattle.std.specs.Prelude.{◌≡◌, ◌≤◌, ◌<◌, ◌+◌, length, true, false, Some, IfSome, IfNone, OnSome};
-ghost use Rattle.secs_text.specs.CanonicalTokens.{IsOpening, IsWait, IsHead, NamesType, IsCounted, IsSmall, IsLettered};
-ghost use Rattle.secs_text.specs.RemainingTokens.{left, octets_left};
+ghost use Rattle.secs_text.specs.InnerCanonicalTokens.{IsOpening, IsWait, IsHead, NamesType, IsCounted, IsSmall, IsLettered};
+ghost use Rattle.secs_text.specs.InnerRemainingTokens.{left, octets_left};
 ghost use Rattle.secs_text.specs.Octets.{is_of_word};
 
 use crate::byte_class::{is_digit, is_of_word};

@@ -4,10 +4,10 @@ ghost use Rattle.std.specs.Prelude.{◌≡◌, ◌≤◌, ◌<◌, ◌-◌, ◌+
 ghost use Rattle.std.specs.Fmt.{decimal, signed_decimal};
 ghost use Rattle.secs_item.specs.Decoding.{octet, truth, signed};
 ghost use Rattle.secs_item.specs.ShortestEncoding.{octet_alone, octet_of_truth, octets_of_signed};
-ghost use Rattle.secs_text.specs.BlockOutput.{AppendsText};
+ghost use Rattle.secs_text.specs.InnerBlockOutput.{AppendsText};
 ghost use Rattle.secs_text.specs.Printed.{hexadecimal, truth_word};
-ghost use Rattle.secs_text.specs.ByteWord.{IsShortWord};
-ghost use Rattle.secs_text.specs.Widths.{is_width, width_of, unsigned, octets_of_unsigned};
+ghost use Rattle.secs_text.specs.InnerByteWord.{IsShortWord};
+ghost use Rattle.secs_text.specs.InnerWidths.{is_width, width_of, unsigned, octets_of_unsigned};
 ghost use Rattle.secs_text.specs.Words.{number_below, signed_below, octet_of, float_of, truth_of};
 
 use crate::block_copy::{

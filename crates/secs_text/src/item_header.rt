@@ -2,10 +2,10 @@
 
 ghost use Rattle.std.specs.Prelude.{◌≡◌, ◌≤◌, ◌<◌, ◌+◌, length, IfOk};
 ghost use Rattle.secs_item.specs.Item.{Value};
-ghost use Rattle.secs_text.specs.RemainingTokens.{left, octets_left};
+ghost use Rattle.secs_text.specs.InnerRemainingTokens.{left, octets_left};
 ghost use Rattle.secs_text.specs.ParserStates.{Rules, Before, walk, type_expected, after_type, in_item};
 ghost use Rattle.secs_text.specs.Body.{nothing_of};
-ghost use Rattle.secs_text.specs.ParseSteps.{Reads, count_seen, Checks};
+ghost use Rattle.secs_text.specs.InnerParseSteps.{Reads, count_seen, Checks};
 ghost use Rattle.secs_item.specs.declared.format.Format.TheVariants as format;
 
 use crate::canonical_tokens::next_opening;

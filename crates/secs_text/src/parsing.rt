@@ -9,11 +9,12 @@ ghost use Rattle.std.specs.Result.{IsErrAnd};
 ghost use Rattle.secs_item.specs.Item.{Value};
 ghost use Rattle.secs_text.specs.Content.{Content, AllWithin};
 ghost use Rattle.secs_text.specs.Fault.{any_messages, NotesFault};
-ghost use Rattle.secs_text.specs.RemainingTokens.{left, octets_left};
+ghost use Rattle.secs_text.specs.InnerRemainingTokens.{left, octets_left};
 ghost use Rattle.secs_text.specs.Notation.{Notations};
 ghost use Rattle.secs_text.specs.ParserStates.{walk, start, after_head};
-ghost use Rattle.secs_text.specs.ParseSteps.{Reads};
-ghost use Rattle.secs_text.specs.EncodedText.{AllGiven, MessageRead, IsEncoded, headed_by, named, named_by};
+ghost use Rattle.secs_text.specs.InnerParseSteps.{Reads};
+ghost use Rattle.secs_text.specs.EncodedText.{IsEncoded, headed_by};
+ghost use Rattle.secs_text.specs.InnerEncodedText.{AllGiven, MessageRead, named, named_by};
 ghost use Rattle.secs_text.specs.declared.fault.TextFault.{TextFault};
 
 use crate::canonical_tokens::next_head;

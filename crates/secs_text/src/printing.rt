@@ -8,7 +8,7 @@ mod values;
 ghost use Rattle.std.specs.Prelude.{◌≡◌, ◌≤◌, ◌++◌, true, length, codes, string_bytes, IfOk, IfErr, OnOk};
 ghost use Rattle.secs_item.specs.Item.{view};
 ghost use Rattle.secs_text.specs.InRange.{IsHeld, IsHeldMessage};
-ghost use Rattle.secs_text.specs.BlockOutput.{IsPlace, Puts};
+ghost use Rattle.secs_text.specs.InnerBlockOutput.{IsPlace, Puts};
 ghost use Rattle.secs_text.specs.Notation.{Notation};
 ghost use Rattle.secs_text.specs.Printed.{printed_item, printed};
 ghost use Rattle.secs_text.specs.View.{content};

@@ -4,15 +4,15 @@ mod items;
 
 ghost use Rattle.std.specs.Prelude.{◌≡◌, ◌≤◌, ◌<◌, ◌+◌, ◌++◌, ◌||◌, [], ◌∷◌, List, true, false, IfOk, IfErr, OnOk, MatchResult, Ok, None, not, ◌⊎◌};
 ghost use Rattle.secs_text.specs.Content.{Content, IsWithin, AllWithin};
-ghost use Rattle.secs_text.specs.TokenView.{placed, seen, is_last, then_tokens};
+ghost use Rattle.secs_text.specs.InnerTokenView.{placed, seen, is_last, then_tokens};
 ghost use Rattle.secs_text.specs.Token as math;
-ghost use Rattle.secs_text.specs.RemainingTokens.{left, octets_left};
+ghost use Rattle.secs_text.specs.InnerRemainingTokens.{left, octets_left};
 ghost use Rattle.secs_text.specs.ParserStates.{Rules, walk, start, after_head, after_wait, finished, is_empty, reading};
 ghost use Rattle.secs_text.specs.Fault.{one_message, any_messages, NoteFault, NotesFault};
 ghost use Rattle.secs_text.specs.Notation.{Notation, Notations};
 ghost use Rattle.secs_text.specs.declared.fault.TextFault.{TextFault};
 ghost use Rattle.std.specs.Result.{IsErrAnd};
-ghost use Rattle.secs_text.specs.ParseSteps.{Reads};
+ghost use Rattle.secs_text.specs.InnerParseSteps.{Reads};
 ghost use Rattle.secs_text.specs.View.{content, contents};
 
 use crate::canonical_tokens::next_wait;

@@ -6,7 +6,7 @@ ghost use Rattle.std.specs.Str.Parse.{digits_value};
 ghost use Rattle.secs_text.specs.Octets.{is_digit};
 ghost use Rattle.std.specs.Int.Signed.{mag};
 ghost use Rattle.secs_text.specs.Words.{is_numeral, number_below, signed_below, octet_of_digits, hex_octets, sized, float_of, head_of_parts, head_word, bad_head, no_head};
-ghost use Rattle.secs_text.specs.HeadWordView.{head_seen, IsStream};
+ghost use Rattle.secs_text.specs.InnerHeadWordView.{head_seen, IsStream};
 
 use crate::byte_class::{all_digits, is_digit};
 

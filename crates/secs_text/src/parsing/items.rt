@@ -2,10 +2,10 @@
 
 ghost use Rattle.std.specs.Prelude.{◌≡◌, ◌≤◌, ◌+◌};
 ghost use Rattle.secs_item.specs.Item.{list, no_elements};
-ghost use Rattle.secs_text.specs.RemainingTokens.{left, octets_left};
+ghost use Rattle.secs_text.specs.InnerRemainingTokens.{left, octets_left};
 ghost use Rattle.secs_text.specs.ParserStates.{type_expected, in_item};
-ghost use Rattle.secs_text.specs.ParseSteps.{count_seen};
-ghost use Rattle.secs_text.specs.EncodedText.{ItemRead, Deep};
+ghost use Rattle.secs_text.specs.InnerParseSteps.{count_seen};
+ghost use Rattle.secs_text.specs.InnerEncodedText.{ItemRead, Deep};
 
 use crate::fault::TextFault;
 use crate::item_header::{check_count, format_and_count};

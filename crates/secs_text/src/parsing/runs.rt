@@ -2,10 +2,10 @@
 
 ghost use Rattle.std.specs.Prelude.{◌≡◌, ◌≤◌, ◌<◌, ◌+◌, ◌*◌, ◌/◌, ℕ, List, length, take, drop, OnOk};
 ghost use Rattle.secs_item.specs.Format.{value_size};
-ghost use Rattle.secs_text.specs.CanonicalTokens.{EndsWord};
-ghost use Rattle.secs_text.specs.RemainingTokens.{left, octets_left};
-ghost use Rattle.secs_text.specs.ByteWord.{AreShortWords};
-ghost use Rattle.secs_text.specs.EncodedText.{CollectsMore, word_octets};
+ghost use Rattle.secs_text.specs.InnerCanonicalTokens.{EndsWord};
+ghost use Rattle.secs_text.specs.InnerRemainingTokens.{left, octets_left};
+ghost use Rattle.secs_text.specs.InnerByteWord.{AreShortWords};
+ghost use Rattle.secs_text.specs.InnerEncodedText.{CollectsMore, word_octets};
 
 use crate::byte_class::is_of_word;
 use crate::formats::ShortWord;

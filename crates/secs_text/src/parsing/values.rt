@@ -2,10 +2,10 @@
 
 ghost use Rattle.std.specs.Prelude.{◌≡◌, ◌≤◌, ◌+◌, true, false, length, IfOk, OnOk};
 ghost use Rattle.secs_item.specs.Format.{is_list, value_size};
-ghost use Rattle.secs_text.specs.RemainingTokens.{left, octets_left};
-ghost use Rattle.secs_text.specs.ParseSteps.{count_seen};
-ghost use Rattle.secs_text.specs.EncodedText.{CollectsMore, AppendsBytes, ValuesRead, word_octets};
-ghost use Rattle.secs_text.specs.Widths.{is_width};
+ghost use Rattle.secs_text.specs.InnerRemainingTokens.{left, octets_left};
+ghost use Rattle.secs_text.specs.InnerParseSteps.{count_seen};
+ghost use Rattle.secs_text.specs.InnerEncodedText.{CollectsMore, AppendsBytes, ValuesRead, word_octets};
+ghost use Rattle.secs_text.specs.InnerWidths.{is_width};
 
 use crate::fault::TextFault;
 use crate::formats::{Floats, Octets, Signed, Truths, Unsigned, WordFormat};

@@ -4,11 +4,12 @@ ghost use Rattle.std.specs.Prelude.{◌≡◌, ◌≤◌, ◌<◌, ◌+◌, ◌-
 ghost use Rattle.secs_item.specs.declared.format.Format.TheVariants.{Ascii};
 ghost use Rattle.secs_item.specs.Format.{is_list, value_size};
 ghost use Rattle.secs_item.specs.Item.{Value, Elements};
-ghost use Rattle.secs_item.specs.Decoding.{item_at, elements_by, values_of};
+ghost use Rattle.secs_item.specs.Decoding.{values_of};
+ghost use Rattle.secs_item.specs.InnerDecoding.{item_at, elements_by};
 ghost use Rattle.secs_text.specs.Body.{body_of};
-ghost use Rattle.secs_text.specs.BlockOutput.{AppendsText, IsPlace, Puts, opening_of, words_of};
+ghost use Rattle.secs_text.specs.InnerBlockOutput.{AppendsText, IsPlace, Puts, opening_of, words_of};
 ghost use Rattle.secs_text.specs.Printed.{printed_elements, printed_item, printed_values};
-ghost use Rattle.secs_text.specs.Widths.{is_width};
+ghost use Rattle.secs_text.specs.InnerWidths.{is_width};
 
 use crate::block::{Output, room};
 use crate::block_copy::{append_byte, append_number, append_small, append_word};

@@ -5,7 +5,7 @@ ghost use Rattle.secs_item.specs.Fault.{TextFaults, IsReported, fault_at};
 ghost use Rattle.secs_item.specs.Header.{Reason};
 ghost use Rattle.secs_item.specs.Item.{Value};
 ghost use Rattle.secs_item.specs.Encoding.{IsText, IsTextOf};
-ghost use Rattle.secs_text.specs.BlockOutput.{IsPlace, Puts};
+ghost use Rattle.secs_text.specs.InnerBlockOutput.{IsPlace, Puts};
 ghost use Rattle.secs_text.specs.Printed.{printed};
 
 use crate::block::{Block, Output, room};

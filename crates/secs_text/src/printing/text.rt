@@ -2,7 +2,7 @@
 
 ghost use Rattle.std.specs.Prelude.{◌≡◌, ◌≤◌, ◌<◌, ◌+◌, ◌*◌, ◌++◌, ℕ, List, [], true, length, codes, if◌then◌else◌};
 ghost use Rattle.std.specs.List.{list_all};
-ghost use Rattle.secs_text.specs.BlockOutput.{AppendsText};
+ghost use Rattle.secs_text.specs.InnerBlockOutput.{AppendsText};
 ghost use Rattle.secs_text.specs.Octets.{is_quotable};
 ghost use Rattle.secs_text.specs.Printed.{printed_octet, printed_text};
 

@@ -1,9 +1,9 @@
 //! Printing of an item's values straight from its body.
 
 ghost use Rattle.std.specs.Prelude.{◌≡◌, ◌≤◌, ◌+◌, ◌*◌, false, true, length};
-ghost use Rattle.secs_text.specs.BlockOutput.{AppendsText, IsPlace, Puts, words_of};
+ghost use Rattle.secs_text.specs.InnerBlockOutput.{AppendsText, IsPlace, Puts, words_of};
 ghost use Rattle.secs_text.specs.Printed.{printed_text};
-ghost use Rattle.secs_text.specs.Widths.{is_width};
+ghost use Rattle.secs_text.specs.InnerWidths.{is_width};
 
 use crate::block::{Output, room};
 use crate::block_copy::append_byte;

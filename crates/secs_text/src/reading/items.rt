@@ -1,10 +1,11 @@
 //! Reading of items: each list by its elements, each item of values by its bytes.
 
 ghost use Rattle.std.specs.Prelude.{◌≡◌, ◌≤◌, ◌+◌, length};
-ghost use Rattle.secs_item.specs.Item.{view, views, list, no_elements};
-ghost use Rattle.secs_text.specs.RemainingTokens.{left, octets_left};
+ghost use Rattle.secs_item.specs.Item.{view, list, no_elements};
+ghost use Rattle.secs_item.specs.InnerItem.{views};
+ghost use Rattle.secs_text.specs.InnerRemainingTokens.{left, octets_left};
 ghost use Rattle.secs_text.specs.ParserStates.{Rules, Before, walk, type_expected, in_item, closed};
-ghost use Rattle.secs_text.specs.ParseSteps.{Reads, count_seen};
+ghost use Rattle.secs_text.specs.InnerParseSteps.{Reads, count_seen};
 
 use crate::fault::TextFault;
 use crate::item_header::{check_count, format_and_count};

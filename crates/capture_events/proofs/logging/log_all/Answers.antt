@@ -2,7 +2,7 @@ use Rattle.std.proofs.Common.{◌≡◌, ◌∷◌, [], None, List, length, vec_
 use Rattle.std.proofs.lemmas.Iterator.Adapters.{YieldsList-from_vec}
 use Rattle.std.proofs.lemmas.Iterator.Consumers.{YieldsList-so_far, YieldsList-turn, YieldsList-end}
 use Rattle.capture_tcp.specs.declared.events.TimedEvent.{TimedEvent}
-use Rattle.capture_events.specs.LoggedEvents.{LogsBy}
+use Rattle.capture_events.specs.InnerLoggedEvents.{LogsBy}
 use Rattle.capture_events.proofs.LoggedMore.{logs_none, logs_more, logs_none_of, logs_stopped}
 use Rattle.capture_events.proofs.Lists.{all_yielded, taken_apart}
 use Rattle.capture_events.proofs.logging.log_all.Goals as goal

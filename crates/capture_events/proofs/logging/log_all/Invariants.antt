@@ -1,5 +1,5 @@
 use Rattle.std.proofs.Common.{None}
-use Rattle.capture_events.specs.LoggedEvents.{LogsBy}
+use Rattle.capture_events.specs.InnerLoggedEvents.{LogsBy}
 use Rattle.capture_events.proofs.logging.log_all.Given as goal
 
 abbrev pub invariant-loop-timed_event : goal.invariant-loop-timed_event

@@ -1,6 +1,6 @@
 use Rattle.std.proofs.Common.{◌≡◌, ◌||◌, ℕ, List, length, nat_lt, vec_len, rules, refl, ap, subst, ◌∙◌}
 use Rattle.capture_tcp.specs.KnownStreams.{seen_of}
-use Rattle.capture_events.specs.LoggedEvents.{LogsBy}
+use Rattle.capture_events.specs.InnerLoggedEvents.{LogsBy}
 use Rattle.capture_events.proofs.NextSegment.{takes_ok}
 use Rattle.capture_events.proofs.tracked_connection.take.Goals as goal
 

@@ -2,7 +2,7 @@ use Rattle.std.proofs.Common.{◌≡◌, length, vec_len, List, ℕ, rules, subs
 use Rattle.std.proofs.lemmas.Iterator.Adapters.{YieldsList-from_vec}
 use Rattle.std.proofs.lemmas.Iterator.Consumers.{YieldsList-so_far, YieldsList-turn, YieldsList-end}
 use Rattle.capture_tcp.specs.KnownStreams.{seen_of}
-use Rattle.capture_events.specs.TrackedConnection.{TakesTracked}
+use Rattle.capture_events.specs.InnerTrackedConnection.{TakesTracked}
 use Rattle.capture_events.proofs.Lists.{all_yielded, taken_apart}
 use Rattle.capture_events.proofs.NextSegment.{all_taken, so_far_none, so_far_tracked, so_far_over}
 use Rattle.capture_events.proofs.tracked_connection.take_all.Goals.{in-Some-left+in_ok-left-in-Some-left, in-None-left}

@@ -1,6 +1,7 @@
 use Rattle.std.proofs.Common.{◌≡◌, ◌≤◌, length, map}
 use Rattle.capture_tcp.specs.declared.packet.Side.{Side}
-use Rattle.capture_midstream.specs.BufferedPacket.{highest, midst, placed_by}
+use Rattle.capture_midstream.specs.BufferedPacket.{highest, midst}
+use Rattle.capture_midstream.specs.InnerBufferedPacket.{placed_by}
 use Rattle.capture_midstream.proofs.chunk_map.highest.Given as goal
 
 abbrev pub invariant-loop-piece : goal.invariant-loop-piece

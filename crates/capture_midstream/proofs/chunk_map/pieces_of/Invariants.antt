@@ -1,5 +1,6 @@
 use Rattle.std.proofs.Common.{◌≡◌, ◌++◌, length, map}
-use Rattle.capture_midstream.specs.BufferedPacket.{pieces_from, placed_by}
+use Rattle.capture_midstream.specs.BufferedPacket.{pieces_from}
+use Rattle.capture_midstream.specs.InnerBufferedPacket.{placed_by}
 use Rattle.capture_midstream.proofs.chunk_map.pieces_of.Given as goal
 
 -- the pieces so far, and those of the packets that are left

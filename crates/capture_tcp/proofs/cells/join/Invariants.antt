@@ -1,5 +1,5 @@
 use Rattle.std.specs.VecDeque.{deque_len}
-use Rattle.capture_tcp.specs.Cells.{Joins}
+use Rattle.capture_tcp.specs.InnerCells.{Joins}
 use Rattle.capture_tcp.proofs.cells.join.Given as goal
 
 abbrev pub invariant-loop-octet : goal.invariant-loop-octet

@@ -1,6 +1,6 @@
 use Rattle.std.proofs.Common.{◌≤◌, ◌⊎◌, ◌-◌}
 use Rattle.std.specs.VecDeque.{deque_len, deque_capacity}
-use Rattle.capture_tcp.specs.Reassembly.{SameCells}
+use Rattle.capture_tcp.specs.InnerReassembly.{SameCells}
 use Rattle.capture_tcp.proofs.cells.widen.Given as goal
 
 abbrev pub invariant-loop-cells : goal.invariant-loop-cells

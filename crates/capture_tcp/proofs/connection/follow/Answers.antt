@@ -1,9 +1,9 @@
 use Rattle.std.proofs.lemmas.Result.{err_from_is_err_and}
 use Rattle.std.proofs.Common.{◌≡◌, List, [], Option, Some, None, refl, sym, subst}
 use Rattle.capture_tcp.specs.declared.ending.Ending.{Ending}
-use Rattle.capture_tcp.specs.ReaderInvariant.{Followed}
+use Rattle.capture_tcp.specs.InnerReaderInvariant.{Followed}
 use Rattle.capture_tcp.specs.declared.packet.Packet.{Packet}
-use Rattle.capture_tcp.specs.PacketArrival.{Reacts}
+use Rattle.capture_tcp.specs.InnerPacketArrival.{Reacts}
 use Rattle.capture_tcp.specs.KnownStreams.{ContinuesWith, seen_of}
 use Rattle.capture_tcp.proofs.Connecting.{followed_none, followed_some}
 use Rattle.capture_tcp.proofs.Stopped.{continues_none, continues_some, stops_full}

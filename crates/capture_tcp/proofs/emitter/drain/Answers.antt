@@ -1,7 +1,7 @@
 use Rattle.std.proofs.Common.{◌≡◌, true, false, List, subst, sym}
 use Rattle.capture_tcp.specs.declared.streams.Due.{Due}
-use Rattle.capture_tcp.specs.Emitted.{Drains}
-use Rattle.capture_tcp.specs.Timestamps.{EmitsInTime}
+use Rattle.capture_tcp.specs.InnerEmitted.{Drains}
+use Rattle.capture_tcp.specs.InnerTimestamps.{EmitsInTime}
 use Rattle.capture_tcp.specs.DeliverySteps.{resets}
 use Rattle.capture_tcp.proofs.LaterEvents.{drained_on}
 use Rattle.capture_tcp.proofs.Timing.{emits_one}

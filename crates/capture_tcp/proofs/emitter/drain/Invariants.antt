@@ -1,7 +1,7 @@
 use Rattle.std.proofs.Common.{false}
 use Rattle.std.specs.VecDeque.{deque_len}
-use Rattle.capture_tcp.specs.Emitted.{Drains}
-use Rattle.capture_tcp.specs.Timestamps.{EmitsInTime}
+use Rattle.capture_tcp.specs.InnerEmitted.{Drains}
+use Rattle.capture_tcp.specs.InnerTimestamps.{EmitsInTime}
 use Rattle.capture_tcp.proofs.emitter.drain.Given as goal
 
 abbrev pub invariant-loop-first : goal.invariant-loop-first

@@ -1,5 +1,5 @@
 use Rattle.std.proofs.Common.{◌≡◌, true, false, Bool, subst}
-use Rattle.capture_tcp.specs.Emitted.{Drains}
+use Rattle.capture_tcp.specs.InnerEmitted.{Drains}
 use Rattle.capture_tcp.proofs.Awaited.{before_emitted, reset_emitted}
 use Rattle.capture_tcp.proofs.emitter.emit_before.Goals as goal
 

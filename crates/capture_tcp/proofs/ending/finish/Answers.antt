@@ -1,6 +1,6 @@
 use Rattle.std.proofs.Common.{◌≡◌, true, false, Bool, subst, sym}
-use Rattle.capture_tcp.specs.ReaderState.{EmitsBefore}
-use Rattle.capture_tcp.specs.EndOfStream.{Finishes}
+use Rattle.capture_tcp.specs.InnerReaderState.{EmitsBefore}
+use Rattle.capture_tcp.specs.InnerEndOfStream.{Finishes}
 use Rattle.capture_tcp.specs.declared.ending.Ending.{Ending}
 use Rattle.capture_tcp.proofs.Finishing.{closed_ends, open_ends}
 use Rattle.capture_tcp.proofs.ending.finish.Goals as goal

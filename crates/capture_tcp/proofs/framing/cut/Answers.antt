@@ -2,7 +2,8 @@ use Rattle.std.proofs.Common.{[], ap, sym, ◌∙◌, arith, take}
 use Rattle.capture_tcp.specs.KnownStreams.{end_at}
 use Rattle.capture_tcp.specs.ConnectionEvents.{entry_of}
 use Rattle.capture_tcp.specs.Reassembly.{piece_from}
-use Rattle.capture_tcp.specs.EventSteps.{processes_input, entries_as}
+use Rattle.capture_tcp.specs.EventSteps.{processes_input}
+use Rattle.capture_tcp.specs.InnerEventSteps.{entries_as}
 use Rattle.capture_tcp.proofs.Slicing.{cut_none, cut_one, processed_as}
 use Rattle.capture_tcp.proofs.Timing.{keeps_both}
 use Rattle.capture_tcp.proofs.framing.cut.Goals as goal

@@ -2,8 +2,8 @@ use Rattle.std.proofs.Common.{◌≤◌, ◌-◌, ℕ, List, max}
 use Rattle.capture_tcp.specs.declared.events.TimedEvent.{TimedEvent}
 use Rattle.capture_tcp.specs.declared.events.EmitterState.{EmitterState}
 use Rattle.capture_tcp.specs.KnownStreams.{end_at}
-use Rattle.capture_tcp.specs.EventSteps.{Cuts}
-use Rattle.capture_tcp.specs.Timestamps.{KeepsTimes}
+use Rattle.capture_tcp.specs.InnerEventSteps.{Cuts}
+use Rattle.capture_tcp.specs.InnerTimestamps.{KeepsTimes}
 use Rattle.capture_tcp.proofs.framing.cut.Given as goal
 
 abbrev pub invariant-loop-count : goal.invariant-loop-count

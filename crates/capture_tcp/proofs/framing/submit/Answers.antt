@@ -1,7 +1,8 @@
 use Rattle.std.proofs.Common.{OnOk, subst, sym}
 use Rattle.std.proofs.lemmas.Result.{on_ok_weaker}
 use Rattle.capture_tcp.specs.KnownStreams.{end_at}
-use Rattle.capture_tcp.specs.EventSteps.{ProcessesInput, processes_input, entries_as}
+use Rattle.capture_tcp.specs.EventSteps.{processes_input}
+use Rattle.capture_tcp.specs.InnerEventSteps.{ProcessesInput, entries_as}
 use Rattle.capture_tcp.specs.declared.reassembly.Piece.{Piece}
 use Rattle.capture_tcp.proofs.Slicing.{down_processed, message_processed, none_processed}
 use Rattle.capture_tcp.proofs.framing.submit.Goals as goal

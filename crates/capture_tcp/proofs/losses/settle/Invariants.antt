@@ -1,6 +1,6 @@
 use Rattle.std.proofs.Common.{◌≡◌}
 use Rattle.std.specs.VecDeque.{deque_len}
-use Rattle.capture_tcp.specs.Losses.{unsettled}
+use Rattle.capture_tcp.specs.InnerLosses.{unsettled}
 use Rattle.capture_tcp.proofs.losses.settle.Given as goal
 
 abbrev pub invariant-loop : goal.invariant-loop

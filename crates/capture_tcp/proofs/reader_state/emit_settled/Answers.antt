@@ -1,7 +1,7 @@
 use Rattle.std.proofs.Common.{◌≡◌, true, false, Bool, refl, subst}
 use Rattle.capture_tcp.specs.declared.reader_state.Reading.{Reading}
 use Rattle.capture_tcp.specs.declared.emitter.Emitter.{Emitter}
-use Rattle.capture_tcp.specs.ReaderState.{EmitsBefore}
+use Rattle.capture_tcp.specs.InnerReaderState.{EmitsBefore}
 use Rattle.capture_tcp.proofs.SettledEvents.{sure_closed, sure_open}
 use Rattle.capture_tcp.proofs.reader_state.emit_settled.Goals as goal
 

@@ -1,5 +1,5 @@
 use Rattle.std.proofs.Common.{◌≡◌, ◌++◌, map, length}
-use Rattle.capture_tcp.specs.PacketArrival.{due_as}
+use Rattle.capture_tcp.specs.InnerPacketArrival.{due_as}
 use Rattle.capture_tcp.proofs.reader_state.queue.Given as goal
 
 abbrev pub invariant-loop-packet : goal.invariant-loop-packet

@@ -1,7 +1,7 @@
 use Rattle.std.proofs.Common.{List, ℕ, sym, ap, ◌∙◌}
 use Rattle.std.proofs.lemmas.List.{nil_from_length}
 use Rattle.capture_tcp.specs.Cells.{all_of}
-use Rattle.capture_tcp.specs.Reassembly.{stored_all, octets_of}
+use Rattle.capture_tcp.specs.InnerReassembly.{stored_all, octets_of}
 use Rattle.capture_tcp.proofs.StoredCells.{appends_all}
 use Rattle.capture_tcp.proofs.reassembly.append_octets.Goals as goal
 

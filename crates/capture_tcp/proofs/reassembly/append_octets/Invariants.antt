@@ -1,6 +1,6 @@
 use Rattle.std.proofs.Common.{◌≡◌, ◌+◌, length}
 use Rattle.capture_tcp.specs.Cells.{all_of}
-use Rattle.capture_tcp.specs.Reassembly.{stored_all, octets_of}
+use Rattle.capture_tcp.specs.InnerReassembly.{stored_all, octets_of}
 use Rattle.capture_tcp.proofs.reassembly.append_octets.Given as goal
 
 abbrev pub invariant-loop-octet : goal.invariant-loop-octet

@@ -1,6 +1,6 @@
 use Rattle.std.proofs.Common.{arith}
 use Rattle.capture_tcp.specs.Cells.{all_of}
-use Rattle.capture_tcp.specs.Reassembly.{held_of}
+use Rattle.capture_tcp.specs.InnerReassembly.{held_of}
 use Rattle.capture_tcp.proofs.StoredCells.{stored_wide}
 use Rattle.capture_tcp.proofs.reassembly.hold.Goals as goal
 

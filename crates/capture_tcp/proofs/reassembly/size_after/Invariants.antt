@@ -1,6 +1,7 @@
 use Rattle.std.proofs.Common.{◌≡◌, ◌≤◌, ◌+◌, drop}
 use Rattle.capture_tcp.specs.Cells.{all_of}
-use Rattle.capture_tcp.specs.Reassembly.{further, in_piece}
+use Rattle.capture_tcp.specs.Reassembly.{in_piece}
+use Rattle.capture_tcp.specs.InnerReassembly.{further}
 use Rattle.capture_tcp.specs.Message.{cells_to}
 use Rattle.capture_tcp.proofs.reassembly.size_after.Given as goal
 

@@ -1,6 +1,6 @@
 use Rattle.std.proofs.Common.{◌≡◌, ◌+◌, length}
 use Rattle.capture_tcp.specs.Cells.{all_of}
-use Rattle.capture_tcp.specs.Reassembly.{differs, octets_of}
+use Rattle.capture_tcp.specs.InnerReassembly.{differs, octets_of}
 use Rattle.capture_tcp.proofs.reassembly.some_differs.Given as goal
 
 abbrev pub invariant-loop-octet : goal.invariant-loop-octet

@@ -1,7 +1,7 @@
 use Rattle.std.proofs.Common.{subst}
 use Rattle.std.proofs.lemmas.Result.{on_ok_weaker}
 use Rattle.capture_tcp.specs.declared.packet.Side.{Side}
-use Rattle.capture_tcp.specs.DeliverySteps.{Delivers}
+use Rattle.capture_tcp.specs.InnerDeliverySteps.{Delivers}
 use Rattle.capture_tcp.proofs.CarriedBytes.{none_acked, some_acked}
 use Rattle.capture_tcp.proofs.streams.acknowledge.Goals as goal
 

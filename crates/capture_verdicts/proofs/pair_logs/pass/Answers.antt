@@ -1,7 +1,7 @@
 use Rattle.std.proofs.Common.{OnOk, refl, subst}
 use Rattle.hsms_machine.specs.declared.entry.Event.{Event}
 use Rattle.capture_log.specs.BothLogs.{Adds}
-use Rattle.capture_verdicts.specs.ReportState.{note_by}
+use Rattle.capture_verdicts.specs.InnerReportState.{note_by}
 use Rattle.capture_verdicts.proofs.pair_logs.pass.Goals as goal
 
 pub returns-clause-taker : goal.returns-clause-taker

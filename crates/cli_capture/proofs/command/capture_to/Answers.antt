@@ -1,6 +1,6 @@
 use Rattle.std.proofs.Common.{Some}
 use Rattle.std.proofs.lemmas.Result.{err_from_is_err_and}
-use Rattle.cli_capture.specs.TableInvariant.{FinishesAsDealt}
+use Rattle.cli_capture.specs.InnerTableInvariant.{FinishesAsDealt}
 use Rattle.cli_capture.proofs.FileRefusals.{file_refused, missing_refuses, refuses_none, refuses_opened, refuses_reading}
 use Rattle.cli_capture.proofs.Passed.{many_in, missing_ends, never_endless}
 use Rattle.cli_capture.proofs.Refusing.{fails_file, missing_fails, ok_file}

@@ -3,7 +3,7 @@ use Rattle.capture_pcap.specs.declared.packet_reader.Step.{Step}
 use Rattle.hsms_frame.specs.Io.{IfRecorded}
 use Rattle.capture_pcap.specs.BlockReader.{CountsOn, TakesOn}
 use Rattle.capture_pcap.specs.File.{State}
-use Rattle.cli_capture.specs.Command.{IsMissingBy}
+use Rattle.cli_capture.specs.InnerCommand.{IsMissingBy}
 use Rattle.std.proofs.lemmas.Result.{err_from_is_err_and}
 use Rattle.cli_capture.proofs.FileRefusals.{missing_refuses, never_reads, reads_refused}
 use Rattle.cli_capture.proofs.Passed.{many_passed, missing_ends, none_passed, one_passed, write_ends}

@@ -1,6 +1,7 @@
 use Rattle.std.proofs.Common.{◌≡◌, ◌≤◌, ◌+◌}
-use Rattle.cli_capture.specs.Command.{GrowsBySome, HasPassed}
-use Rattle.cli_capture.specs.Report.{Writes}
+use Rattle.cli_capture.specs.Command.{GrowsBySome}
+use Rattle.cli_capture.specs.InnerCommand.{HasPassed}
+use Rattle.cli_capture.specs.InnerReport.{Writes}
 use Rattle.cli_capture.proofs.Whole.{IsSoFar}
 use Rattle.cli_capture.proofs.command.read_all.Given as goal
 

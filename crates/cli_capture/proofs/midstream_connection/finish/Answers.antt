@@ -1,7 +1,7 @@
 use Rattle.std.proofs.Common.{◌≡◌, [], subst}
 use Rattle.cli_capture.specs.declared.progress.Progress.{Progress}
 use Rattle.cli_capture.specs.declared.progress.Progress.TheVariants as progress
-use Rattle.cli_capture.specs.MidstreamLog.{Settles}
+use Rattle.cli_capture.specs.InnerMidstreamLog.{Settles}
 use Rattle.cli_capture.proofs.Closing.{finishes_never, finishes_ok}
 use Rattle.std.proofs.lemmas.Result.{err_from_is_err_and}
 use Rattle.cli_capture.proofs.SessionRefusals.{finish_lack_refused, finish_never_refused, finish_settle_refused}

@@ -5,7 +5,7 @@ use Rattle.std.proofs.lemmas.Iterator.Consumers.{YieldsList-so_far, YieldsList-t
 use Rattle.capture_tcp.specs.declared.events.TimedEvent.{TimedEvent}
 use Rattle.cli_capture.specs.declared.progress.Progress.{Progress}
 use Rattle.cli_capture.specs.declared.progress.Progress.TheVariants as progress
-use Rattle.cli_capture.specs.MidstreamLog.{HearsEach, HearsOn}
+use Rattle.cli_capture.specs.InnerMidstreamLog.{HearsEach, HearsOn}
 use Rattle.cli_capture.specs.MidstreamOutput.{in_capture}
 use Rattle.cli_capture.proofs.Connections.{taken_apart}
 use Rattle.cli_capture.proofs.Paging.{all_yielded}

@@ -1,7 +1,7 @@
 use Rattle.std.proofs.Common.{map}
 use Rattle.cli_capture.specs.declared.progress.Progress.TheVariants as progress
-use Rattle.cli_capture.specs.MidstreamLog.{HearsEach, IsQuiet}
-use Rattle.cli_capture.specs.Report.{Emits}
+use Rattle.cli_capture.specs.InnerMidstreamLog.{HearsEach, IsQuiet}
+use Rattle.cli_capture.specs.InnerReport.{Emits}
 use Rattle.cli_capture.specs.MidstreamOutput.{in_capture}
 use Rattle.cli_capture.proofs.midstream_connection.hear_all.Given as goal
 

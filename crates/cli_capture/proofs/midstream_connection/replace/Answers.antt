@@ -1,6 +1,6 @@
 use Rattle.std.proofs.Common.{subst}
 use Rattle.cli_capture.specs.declared.progress.Progress.{Progress}
-use Rattle.cli_capture.specs.MidstreamLog.{Settles}
+use Rattle.cli_capture.specs.InnerMidstreamLog.{Settles}
 use Rattle.cli_capture.proofs.Closing.{replaces_never, replaces_ok}
 use Rattle.std.proofs.lemmas.Result.{err_from_is_err_and}
 use Rattle.cli_capture.proofs.SessionRefusals.{replace_lack_refused, replace_never_refused, replace_settle_refused}

@@ -2,8 +2,10 @@ use Rattle.std.proofs.Common.{◌≡◌, ◌++◌, ◌∷◌, ℕ, [], List, Non
 use Rattle.std.proofs.lemmas.List.{map-append}
 use Rattle.capture_midstream.specs.declared.buffered_packet.BufferedPacket.{BufferedPacket}
 use Rattle.cli_capture.specs.declared.midstream_connection.Within.{Within}
-use Rattle.cli_capture.specs.MidstreamSync.{TakesThrough, brought}
-use Rattle.cli_capture.specs.MidstreamConnection.{Brought, TakesWithin}
+use Rattle.cli_capture.specs.MidstreamSync.{brought}
+use Rattle.cli_capture.specs.InnerMidstreamSync.{TakesThrough}
+use Rattle.cli_capture.specs.MidstreamConnection.{Brought}
+use Rattle.cli_capture.specs.InnerMidstreamConnection.{TakesWithin}
 use Rattle.std.proofs.lemmas.Result.{err_from_is_err_and}
 use Rattle.cli_capture.proofs.PacketRefusals.{packets_refused_at}
 use Rattle.cli_capture.proofs.SessionBegins.{through_none, through_over, through_then}

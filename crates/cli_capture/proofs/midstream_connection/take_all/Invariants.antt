@@ -1,7 +1,8 @@
 use Rattle.std.proofs.Common.{◌≡◌, ◌++◌, List, length, map}
 use Rattle.capture_midstream.specs.declared.buffered_packet.BufferedPacket.{BufferedPacket}
-use Rattle.cli_capture.specs.MidstreamSync.{TakesThrough, brought}
-use Rattle.cli_capture.specs.Report.{Emits}
+use Rattle.cli_capture.specs.MidstreamSync.{brought}
+use Rattle.cli_capture.specs.InnerMidstreamSync.{TakesThrough}
+use Rattle.cli_capture.specs.InnerReport.{Emits}
 use Rattle.cli_capture.proofs.midstream_connection.take_all.Given as goal
 
 -- so far some connections were told, and of this one what those packets tell that were taken

@@ -3,7 +3,7 @@ use Rattle.std.specs.Prelude.{IfSome}
 use Rattle.capture_midstream.specs.declared.session_filter.Session.{Session}
 use Rattle.capture_midstream.specs.PacketBuffer.{AreBeginnings, AreUnsure}
 use Rattle.cli_capture.specs.declared.midstream_connection.Within.{Within}
-use Rattle.cli_capture.specs.MidstreamSync.{TakesFrom}
+use Rattle.cli_capture.specs.InnerMidstreamSync.{TakesFrom}
 use Rattle.cli_capture.specs.Report.{session_of}
 use Rattle.std.proofs.lemmas.Result.{err_from_is_err_and}
 use Rattle.cli_capture.proofs.PacketRefusals.{begin_refused}

@@ -1,9 +1,10 @@
 use Rattle.std.proofs.Common.{◌≡◌, List, false, map, subst}
 use Rattle.capture_midstream.specs.declared.buffered_packet.BufferedPacket.{BufferedPacket}
 use Rattle.capture_midstream.specs.SyntheticHandshake.{IsStart, has_both}
-use Rattle.cli_capture.specs.MidstreamSync.{TakesThrough, brought}
+use Rattle.cli_capture.specs.MidstreamSync.{brought}
+use Rattle.cli_capture.specs.InnerMidstreamSync.{TakesThrough}
 use Rattle.std.proofs.lemmas.Result.{err_from_is_err_and}
-use Rattle.cli_capture.specs.LogRejectionMidstream.{PacketsRefused}
+use Rattle.cli_capture.specs.InnerLogRejectionMidstream.{PacketsRefused}
 use Rattle.cli_capture.proofs.PacketRefusals.{from_refused}
 use Rattle.cli_capture.proofs.Unrefused.{err_map, is_memory_in_log}
 use Rattle.cli_capture.proofs.SessionBegins.{takes_from, takes_none}

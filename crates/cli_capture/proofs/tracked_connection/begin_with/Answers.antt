@@ -2,7 +2,7 @@ use Rattle.std.proofs.Common.{map, ℕ}
 use Rattle.hsms_machine.specs.Settings.{Parameters}
 use Rattle.capture_tcp.specs.KnownStreams.{seen_of}
 use Rattle.cli_capture.specs.declared.tracked_connection.Open.{Open}
-use Rattle.cli_capture.specs.TrackedConnection.{seen_waiting}
+use Rattle.cli_capture.specs.InnerTrackedConnection.{seen_waiting}
 use Rattle.cli_capture.proofs.Connections.{begins_none, begins_some, begun_open}
 use Rattle.cli_capture.proofs.Staging.{page_begins, page_begins_none, page_begun}
 use Rattle.std.proofs.lemmas.Result.{err_from_is_err_and}

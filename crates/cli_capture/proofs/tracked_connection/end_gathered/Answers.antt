@@ -1,6 +1,6 @@
 use Rattle.std.proofs.Common.{true, subst}
 use Rattle.cli_capture.specs.declared.midstream_sync.Joining.{Joining}
-use Rattle.cli_capture.specs.MidstreamSync.{BeginsWith}
+use Rattle.cli_capture.specs.InnerMidstreamSync.{BeginsWith}
 use Rattle.cli_capture.specs.Report.{session_of}
 use Rattle.std.proofs.lemmas.Result.{err_from_is_err_and}
 use Rattle.cli_capture.proofs.PacketRefusals.{end_begin_refused, end_within_it}

@@ -3,9 +3,9 @@ use Rattle.std.proofs.lemmas.Iterator.Adapters.{YieldsList-from_vec}
 use Rattle.std.proofs.lemmas.Iterator.Consumers.{YieldsList-so_far, YieldsList-turn}
 use Rattle.std.proofs.lemmas.Result.{err_from_is_err_and}
 use Rattle.capture_tcp.specs.KnownStreams.{seen_of}
-use Rattle.cli_capture.specs.TrackedConnection.{Follows}
+use Rattle.cli_capture.specs.InnerTrackedConnection.{Follows}
 use Rattle.cli_capture.proofs.Connections.{none_yet, so_far_open, so_far_over, taken_apart}
-use Rattle.cli_capture.specs.LogOutput.{FollowsOnPage}
+use Rattle.cli_capture.specs.InnerLogOutput.{FollowsOnPage}
 use Rattle.cli_capture.proofs.StageRefusals.{all_refused}
 use Rattle.cli_capture.proofs.Staging.{page_nothing, page_open, page_over}
 use Rattle.cli_capture.proofs.Tellings.{tells_nothing, tells_then}

@@ -2,8 +2,8 @@ use Rattle.std.proofs.Common.{◌≡◌, ◌++◌, ℕ, List, map}
 use Rattle.capture_tcp.specs.TcpStreams.{End, Seen}
 use Rattle.capture_tcp.specs.Laws.{AreNumbered}
 use Rattle.cli_capture.specs.declared.report.OutputMode.TheVariants.{Verdicts}
-use Rattle.cli_capture.specs.TrackedConnection.{FollowsThem, IsFollowed, seen_waiting}
-use Rattle.cli_capture.specs.Report.{Emits}
+use Rattle.cli_capture.specs.InnerTrackedConnection.{FollowsThem, IsFollowed, seen_waiting}
+use Rattle.cli_capture.specs.InnerReport.{Emits}
 use Rattle.cli_capture.proofs.Staging.{SoFarOnPage}
 use Rattle.cli_capture.proofs.tracked_connection.follow_all.Given as goal
 

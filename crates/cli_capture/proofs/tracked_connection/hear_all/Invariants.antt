@@ -1,8 +1,8 @@
 use Rattle.std.proofs.Common.{◌≡◌, List, length}
 use Rattle.capture_tcp.specs.declared.events.TimedEvent.{TimedEvent}
 use Rattle.cli_capture.specs.declared.report.OutputMode.TheVariants.{Verdicts}
-use Rattle.cli_capture.specs.TrackedConnection.{EndsHave}
-use Rattle.cli_capture.specs.Report.{Emits}
+use Rattle.cli_capture.specs.InnerTrackedConnection.{EndsHave}
+use Rattle.cli_capture.specs.InnerReport.{Emits}
 use Rattle.cli_capture.proofs.Following.{Hearing}
 use Rattle.cli_capture.proofs.Paging.{LogsSoFar}
 use Rattle.cli_capture.proofs.tracked_connection.hear_all.Given as goal

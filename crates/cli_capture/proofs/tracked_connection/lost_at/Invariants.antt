@@ -1,5 +1,5 @@
 use Rattle.std.proofs.Common.{◌≡◌, drop, map}
-use Rattle.cli_capture.specs.TrackedConnection.{seen_waiting}
+use Rattle.cli_capture.specs.InnerTrackedConnection.{seen_waiting}
 use Rattle.cli_capture.specs.ConnectionState.{first_shown}
 use Rattle.cli_capture.proofs.tracked_connection.lost_at.Given as goal
 

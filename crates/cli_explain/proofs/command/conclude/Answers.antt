@@ -1,6 +1,6 @@
 use Rattle.std.proofs.Common.{sym, subst}
 use Rattle.explain_statistics.specs.declared.failure_counts.Tally.{Tally}
-use Rattle.cli_explain.specs.FirstFailureOutput.{IsOfFirst}
+use Rattle.cli_explain.specs.InnerFirstFailureOutput.{IsOfFirst}
 use Rattle.cli_explain.proofs.Firsts.{first_failure, more_shown}
 use Rattle.cli_explain.proofs.FormattedLines.{front_more, none_more, on_err, some_more, verdict_last}
 use Rattle.cli_explain.proofs.command.conclude.Goals as goal

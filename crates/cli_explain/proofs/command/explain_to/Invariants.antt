@@ -1,6 +1,6 @@
 use Rattle.std.proofs.Common.{◌≡◌, ◌*◌}
 use Rattle.cli_explain.specs.Explain.{GrowsBySome}
-use Rattle.cli_explain.specs.FirstFailureOutput.{IsWritten}
+use Rattle.cli_explain.specs.InnerFirstFailureOutput.{IsWritten}
 use Rattle.cli_explain.proofs.FormattedLines.{HasRead}
 use Rattle.cli_explain.proofs.command.explain_to.Given as goal
 

@@ -1,6 +1,6 @@
 use Rattle.std.proofs.Common.{[], subst, sym}
 use Rattle.std.proofs.lemmas.Result.{err_from_is_err_and}
-use Rattle.cli_filters.specs.Encode.{Frames}
+use Rattle.cli_filters.specs.InnerEncode.{Frames}
 use Rattle.cli_options.specs.declared.request.Encoding.{Encoding}
 use Rattle.cli_filters.proofs.Encodings.{all_framed, none_framed}
 use Rattle.cli_filters.proofs.encoding.encoded.Goals as goal

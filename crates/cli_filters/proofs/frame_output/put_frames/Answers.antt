@@ -1,6 +1,6 @@
 use Rattle.std.proofs.Common.{◌++◌, ap, sym, true, false}
 use Rattle.std.proofs.lemmas.Result.{err_from_is_err_and}
-use Rattle.cli_filters.specs.Encode.{outputs_of}
+use Rattle.cli_filters.specs.InnerEncode.{outputs_of}
 use Rattle.cli_filters.proofs.Encodings.{octets_are}
 use Rattle.cli_filters.proofs.Lines.{front_as, grows_as}
 use Rattle.cli_filters.proofs.frame_output.put_frames.Goals as goal

@@ -1,7 +1,7 @@
 use Rattle.std.proofs.Common.{◌≡◌, ◌∙◌, length, map, take, sym, ap, rules, arith}
 use Rattle.std.proofs.lemmas.List.{length-map, take_all}
 use Rattle.clap.specs.Words.{App, app_of}
-use Rattle.cli_options.specs.ClapCommand.{shape_described, with_subcommands}
+use Rattle.cli_options.specs.InnerClapCommand.{shape_described, with_subcommands}
 use Rattle.cli_options.specs.Request.{command_line}
 use Rattle.cli_options.proofs.Described.{third_fails, with_next_subcommand}
 use Rattle.cli_options.proofs.clap_command.command.Goals as goal

@@ -1,6 +1,6 @@
 use Rattle.std.proofs.Common.{◌≡◌, map, take}
 use Rattle.clap.specs.Words.{app_of}
-use Rattle.cli_options.specs.ClapCommand.{shape_described, with_subcommands}
+use Rattle.cli_options.specs.InnerClapCommand.{shape_described, with_subcommands}
 use Rattle.cli_options.proofs.clap_command.command.Given as goal
 
 -- The subcommands that were passed are described.

@@ -1,7 +1,7 @@
 use Rattle.std.proofs.Common.{◌<◌, ◌^◌, ◌∙◌, sym, ap, Ok, arith}
 use Rattle.std.specs.Str.Parse.{ExplainsUnsignedError, HasUnsignedDigitsIfOk, ParsesUnsigned}
 use Rattle.clap.specs.Words.{found_of}
-use Rattle.cli_options.specs.OptionValues.{described_number}
+use Rattle.cli_options.specs.InnerOptionValues.{described_number}
 use Rattle.cli_options.proofs.RequestedOptions.{made_of, number_read}
 use Rattle.cli_options.proofs.option_values.number_of.Goals as goal
 

@@ -1,6 +1,7 @@
 use Rattle.std.proofs.Common.{◌≡◌, ◌+◌, ◌-◌, length}
 use Rattle.hsms_frame.specs.Io.{IfRecorded}
-use Rattle.cli_show.specs.ShowHex.{IsPlaced, line_limit}
+use Rattle.cli_show.specs.ShowHex.{line_limit}
+use Rattle.cli_show.specs.InnerShowHex.{IsPlaced}
 use Rattle.cli_show.proofs.LineEnds.{EndsSoFar}
 use Rattle.cli_show.proofs.hex_lines.read_to_end.Given as goal
 

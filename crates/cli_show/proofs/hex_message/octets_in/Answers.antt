@@ -1,6 +1,6 @@
 use Rattle.std.proofs.Common.{◌≡◌, List, ◌∷◌, ℕ, Some, sym, ap, ◌∙◌}
 use Rattle.std.proofs.lemmas.List.{nil_from_length, append-nil}
-use Rattle.cli_show.specs.ReadAhead.{subsequent}
+use Rattle.cli_show.specs.InnerReadAhead.{subsequent}
 use Rattle.cli_show.specs.ShowHex.{is_blank, decoded_octets}
 use Rattle.cli_show.proofs.HexEncoding.{after_octet, decodes_end, decodes_none, decodes_octet, decodes_on}
 use Rattle.cli_show.proofs.hex_message.octets_in.Goals as goal

@@ -1,5 +1,5 @@
 use Rattle.std.proofs.Common.{◌≡◌, length}
-use Rattle.cli_show.specs.ReadAhead.{subsequent}
+use Rattle.cli_show.specs.InnerReadAhead.{subsequent}
 use Rattle.cli_show.specs.ShowHex.{decoded_octets}
 use Rattle.cli_show.proofs.hex_message.octets_in.Given as goal
 

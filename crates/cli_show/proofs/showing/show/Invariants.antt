@@ -1,6 +1,6 @@
 use Rattle.std.proofs.Common.{◌≡◌}
 use Rattle.hsms_frame.specs.Io.{IfRecorded}
-use Rattle.cli_show.specs.ReadAhead.{subsequent}
+use Rattle.cli_show.specs.InnerReadAhead.{subsequent}
 use Rattle.cli_show.proofs.Runs.{Begun}
 use Rattle.cli_show.proofs.showing.show.Given as goal
 

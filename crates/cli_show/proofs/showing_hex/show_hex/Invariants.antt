@@ -1,7 +1,7 @@
 use Rattle.std.proofs.Common.{◌≡◌}
 use Rattle.hsms_frame.specs.Io.{IfRecorded}
 use Rattle.cli_options.specs.Request.{is_bare}
-use Rattle.cli_show.specs.ReadAhead.{subsequent}
+use Rattle.cli_show.specs.InnerReadAhead.{subsequent}
 use Rattle.cli_show.proofs.HexRuns.{BegunLines}
 use Rattle.cli_show.proofs.showing_hex.show_hex.Given as goal
 

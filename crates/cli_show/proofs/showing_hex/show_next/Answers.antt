@@ -1,7 +1,7 @@
 use Rattle.std.proofs.Common.{◌+◌, ◌++◌, [], List, ℕ, take, drop, refl, ap, ◌∙◌, inr}
 use Rattle.std.proofs.lemmas.Result.{err_from_is_err_and}
 use Rattle.cli_options.specs.Request.{is_bare}
-use Rattle.cli_show.specs.ReadAhead.{subsequent}
+use Rattle.cli_show.specs.InnerReadAhead.{subsequent}
 use Rattle.cli_show.specs.ShowHex.{BeginsWithLine}
 use Rattle.cli_show.proofs.HexSteps.{far_stops, appended_of, last_shown, last_unwritten, line_at, line_stops, no_end, only_line, unwritten}
 use Rattle.cli_show.proofs.Runs.{holding_then}

@@ -1,4 +1,4 @@
-use Rattle.explain_forms.specs.Visible.{AddsVisible}
+use Rattle.explain_forms.specs.InnerVisible.{AddsVisible}
 use Rattle.explain_forms.proofs.visible.append_text.Given as goal
 
 abbrev pub invariant-loop-at : goal.invariant-loop-at

@@ -1,6 +1,7 @@
 use Rattle.std.proofs.Common.{[], List, subst}
 use Rattle.hsms_log.specs.declared.step.Step.{Step}
-use Rattle.explain_session.specs.RepairSteps.{Notes, entries_of, recorded_with}
+use Rattle.explain_session.specs.RepairSteps.{Notes, recorded_with}
+use Rattle.explain_session.specs.InnerRepairSteps.{entries_of}
 use Rattle.explain_lines.proofs.Results.{on_ok, on_ok_more}
 use Rattle.explain_session.proofs.RepairRows.{broken_steps, valid_steps}
 use Rattle.explain_session.proofs.repair_entry.check_next.Goals as goal

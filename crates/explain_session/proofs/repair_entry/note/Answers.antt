@@ -4,7 +4,7 @@ use Rattle.explain_session.specs.declared.repaired_session.Checked.{Checked}
 use Rattle.explain_session.specs.declared.repaired_session.Checked.TheVariants.{Broken}
 use Rattle.explain_lines.specs.declared.annotation.Note.TheVariants.{Fails}
 use Rattle.explain_lines.specs.AnnotatedFailure.{either, first_why}
-use Rattle.explain_session.specs.EntryFailure.{why_of}
+use Rattle.explain_session.specs.InnerEntryFailure.{why_of}
 use Rattle.explain_session.specs.RepairSteps.{Notes}
 use Rattle.explain_lines.proofs.AnnotatedFailures.{either_none, first_why-push}
 use Rattle.explain_lines.proofs.Results.{on_ok_more}

@@ -1,5 +1,5 @@
 use Rattle.std.proofs.Common.{◌∙◌, ap}
-use Rattle.explain_session.specs.RepairSteps.{entries_of}
+use Rattle.explain_session.specs.InnerRepairSteps.{entries_of}
 use Rattle.explain_session.proofs.RepairRows.{steps_push}
 use Rattle.explain_session.proofs.repair_entry.put.Goals as goal
 

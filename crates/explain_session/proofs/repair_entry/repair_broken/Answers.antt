@@ -2,7 +2,8 @@ use Rattle.std.proofs.Common.{◌≡◌, ◌≤◌, ◌∙◌, List, [], length,
 use Rattle.hsms_machine.specs.declared.entry.Entry.{Entry}
 use Rattle.hsms_machine.specs.Repair.{change_by}
 use Rattle.hsms_machine.specs.View.{waiting_of}
-use Rattle.explain_session.specs.RepairSteps.{changed, entries_of, most_steps}
+use Rattle.explain_session.specs.RepairSteps.{changed}
+use Rattle.explain_session.specs.InnerRepairSteps.{entries_of, most_steps}
 use Rattle.hsms_log.specs.Step.{entry_by}
 use Rattle.explain_session.proofs.RepairRows.{Stepped, none_stepped, stepped_more, stepped_most, stepped_none, no_steps, steps_popped}
 use Rattle.explain_session.proofs.repair_entry.repair_broken.Goals as goal

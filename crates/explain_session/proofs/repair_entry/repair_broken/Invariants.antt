@@ -3,7 +3,8 @@ use Rattle.hsms_log.specs.declared.verdict.Why.{Why}
 use Rattle.hsms_machine.specs.Repair.{change_by}
 use Rattle.hsms_machine.specs.View.{waiting_of}
 use Rattle.explain_lines.specs.AnnotatedFailure.{first_why}
-use Rattle.explain_session.specs.RepairSteps.{changed, entries_of, most_steps}
+use Rattle.explain_session.specs.RepairSteps.{changed}
+use Rattle.explain_session.specs.InnerRepairSteps.{entries_of, most_steps}
 use Rattle.hsms_log.specs.Step.{entry_by}
 use Rattle.explain_session.proofs.RepairRows.{Stepped}
 use Rattle.explain_session.proofs.repair_entry.repair_broken.Given as goal

@@ -1,6 +1,6 @@
 use Rattle.std.proofs.Common.{◌≤◌, List, take}
 use Rattle.hsms_machine.specs.declared.entry.Entry.{Entry}
-use Rattle.hsms_compare.specs.Conversation.{numbered}
+use Rattle.hsms_compare.specs.InnerConversation.{numbered}
 use Rattle.hsms_compare.specs.Merge.{IsMergeOf}
 use Rattle.hsms_compare.proofs.comparison.advance.Given as goal
 

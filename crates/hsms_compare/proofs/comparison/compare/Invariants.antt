@@ -1,6 +1,6 @@
 use Rattle.std.proofs.Common.{◌≤◌, ◌-◌, take, length}
 use Rattle.hsms_machine.specs.declared.settings.Role.TheVariants.{Host}
-use Rattle.hsms_compare.specs.Conversation.{numbered}
+use Rattle.hsms_compare.specs.InnerConversation.{numbered}
 use Rattle.hsms_compare.specs.Merge.{IsMergeOf}
 use Rattle.hsms_compare.proofs.comparison.compare.Given as goal
 

@@ -3,7 +3,7 @@ use Rattle.hsms_machine.specs.declared.entry.Entry.{Entry}
 use Rattle.hsms_endpoint.specs.EndState.{initial_state}
 use Rattle.hsms_endpoint.specs.Turn.{InputEvent}
 use Rattle.hsms_endpoint.specs.Drive.{input_event, IsDriven}
-use Rattle.hsms_endpoint.specs.Driving.{HasDriven}
+use Rattle.hsms_endpoint.specs.InnerDriving.{HasDriven}
 use Rattle.hsms_endpoint.proofs.Drives.{undriven, one_accepted, one_refused, next_passed, inputs_all, driven}
 use Rattle.hsms_endpoint.proofs.driving.drive.Goals.{in-Ok+in_ok-append-in-Ok, in-Err+else-eq}
 use Rattle.hsms_endpoint.proofs.driving.drive.Goals as goal

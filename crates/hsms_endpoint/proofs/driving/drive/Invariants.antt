@@ -1,6 +1,6 @@
 use Rattle.std.proofs.Common.{map, take}
 use Rattle.hsms_endpoint.specs.Drive.{input_event}
-use Rattle.hsms_endpoint.specs.Driving.{HasDriven}
+use Rattle.hsms_endpoint.specs.InnerDriving.{HasDriven}
 use Rattle.hsms_endpoint.proofs.driving.drive.Given as goal
 
 abbrev pub invariant-loop-input : goal.invariant-loop-input

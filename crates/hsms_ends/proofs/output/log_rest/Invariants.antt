@@ -1,5 +1,5 @@
 use Rattle.std.proofs.Common.{length, ◌-◌, ◌≤◌, take, Ok}
-use Rattle.hsms_ends.specs.Output.{LogsAll}
+use Rattle.hsms_ends.specs.InnerOutput.{LogsAll}
 use Rattle.hsms_ends.proofs.output.log_rest.Given as goal
 
 -- The entries processed so far are logged.

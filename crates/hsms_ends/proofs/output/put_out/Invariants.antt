@@ -1,6 +1,6 @@
 use Rattle.std.proofs.Common.{length, ◌-◌, ◌≤◌, take, Ok}
 use Rattle.hsms_ends.specs.Link.{processed_nothing}
-use Rattle.hsms_ends.specs.Output.{PutsOut}
+use Rattle.hsms_ends.specs.InnerOutput.{PutsOut}
 use Rattle.hsms_ends.proofs.output.put_out.Given as goal
 
 -- The entries processed so far are written.

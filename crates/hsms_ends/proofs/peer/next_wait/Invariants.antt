@@ -1,5 +1,6 @@
 use Rattle.std.proofs.Common.{length, ◌-◌, ◌≡◌, ◌≤◌, None, get_or, Vec, Global, ℕ, List}
-use Rattle.hsms_ends.specs.ScriptedLink.{given_of, left_of, pass_over, wait_octets}
+use Rattle.hsms_ends.specs.ScriptedLink.{pass_over}
+use Rattle.hsms_ends.specs.InnerScriptedLink.{given_of, left_of, wait_octets}
 use Rattle.hsms_ends.proofs.peer.next_wait.Given as goal
 
 -- The bytes already returned and the remaining waits are unchanged. The index is at most the number of waits.

@@ -7,8 +7,8 @@ use Rattle.hsms_ends.specs.declared.fault.ServeFault.{ServeFault}
 use Rattle.hsms_ends.specs.declared.fault.ServeFault.TheVariants as serve
 use Rattle.hsms_endpoint.specs.EndState.{EndOf}
 use Rattle.hsms_ends.specs.Reconnect.{ServesAgain}
-use Rattle.hsms_ends.specs.ReconnectSteps.{NextServed}
-use Rattle.hsms_ends.specs.ServeSteps.{IsReady}
+use Rattle.hsms_ends.specs.InnerReconnectSteps.{NextServed}
+use Rattle.hsms_ends.specs.InnerServeSteps.{IsReady}
 use Rattle.hsms_ends.proofs.Readiness.{ready_new}
 use Rattle.hsms_ends.proofs.Reconnections.{none_so_far, one_more, stopped_by, all_done, gone_over, opened_again, unopened_again}
 use Rattle.hsms_ends.proofs.reconnect.serve_again.Goals as goal

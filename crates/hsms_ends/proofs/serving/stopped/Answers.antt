@@ -6,7 +6,7 @@ use Rattle.hsms_log.specs.LineFormat.{IsEntry}
 use Rattle.std.proofs.lemmas.List.Elements.{All-nil}
 use Rattle.hsms_ends.specs.declared.output.Stop.{Stop}
 use Rattle.hsms_ends.specs.declared.fault.ServeFault.TheVariants as serve
-use Rattle.hsms_ends.specs.ServeSteps.{StoppedAs}
+use Rattle.hsms_ends.specs.InnerServeSteps.{StoppedAs}
 use Rattle.hsms_ends.proofs.ReceivedBytes.{grows_none}
 use Rattle.hsms_ends.proofs.Ending.{closed_by, lost_finishes, left_itself}
 use Rattle.hsms_ends.proofs.serving.stopped.Goals as goal

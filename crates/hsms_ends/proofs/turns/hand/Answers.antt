@@ -2,8 +2,8 @@ use Rattle.std.proofs.Common.{[], inr, refl, sym, subst}
 use Rattle.std.specs.Prelude.{List}
 use Rattle.hsms_frame.specs.Io.{SinkState}
 use Rattle.hsms_machine.specs.declared.entry.Entry.{Entry}
-use Rattle.hsms_ends.specs.ServeSteps.{called}
-use Rattle.hsms_ends.specs.Output.{AllFitLengthField}
+use Rattle.hsms_ends.specs.InnerServeSteps.{called}
+use Rattle.hsms_ends.specs.InnerOutput.{AllFitLengthField}
 use Rattle.hsms_ends.specs.Link.{processed_nothing}
 use Rattle.hsms_ends.proofs.Readiness.{fits}
 use Rattle.hsms_ends.proofs.TurnSteps.{takes_by, leads_itself}

@@ -1,7 +1,7 @@
 use Rattle.std.proofs.Common.{sym, ◌∙◌}
 use Rattle.hsms_frame.specs.Io.{SinkState}
 use Rattle.hsms_endpoint.specs.Turn.{tick as ticks}
-use Rattle.hsms_ends.specs.ServeSteps.{called}
+use Rattle.hsms_ends.specs.InnerServeSteps.{called}
 use Rattle.hsms_ends.proofs.Readiness.{ready_handed}
 use Rattle.hsms_ends.proofs.TurnSteps.{followed_gone, followed_cut, followed}
 use Rattle.hsms_ends.proofs.turns.process_input.Goals as goal

@@ -1,5 +1,5 @@
 use Rattle.std.proofs.Common.{◌-◌, ◌<◌, ◌≤◌, drop, length}
-use Rattle.hsms_ends.specs.ServeSteps.{IsReady, TurnsSoFar}
+use Rattle.hsms_ends.specs.InnerServeSteps.{IsReady, TurnsSoFar}
 use Rattle.hsms_ends.proofs.turns.run.Given as goal
 
 -- The turns so far are complete, the endpoint is ready for the next one, and there is space for received bytes.

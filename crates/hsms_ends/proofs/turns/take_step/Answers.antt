@@ -2,7 +2,7 @@ use Rattle.std.proofs.Common.{◌≡◌, true, false, List, ◌∷◌, ◌+◌, 
 use Rattle.hsms_frame.specs.Io.{SinkState}
 use Rattle.hsms_machine.specs.declared.entry.Entry.{Entry}
 use Rattle.hsms_ends.specs.Link.{processed_nothing}
-use Rattle.hsms_ends.specs.Output.{AllFitLengthField}
+use Rattle.hsms_ends.specs.InnerOutput.{AllFitLengthField}
 use Rattle.hsms_ends.specs.Turns.{input_of}
 use Rattle.hsms_ends.proofs.Readiness.{fits}
 use Rattle.hsms_ends.proofs.TurnLists.{drop_next}

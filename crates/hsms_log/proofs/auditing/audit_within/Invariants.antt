@@ -1,5 +1,6 @@
 use Rattle.std.proofs.Common.{◌≡◌, ◌≤◌, ◌+◌, ◌*◌}
-use Rattle.hsms_log.specs.Auditing.{RisesBy, HasRead}
+use Rattle.hsms_log.specs.Auditing.{RisesBy}
+use Rattle.hsms_log.specs.InnerAuditing.{HasRead}
 use Rattle.hsms_log.proofs.auditing.audit_within.Given as goal
 
 -- The reader is in its state after what was read, and each read was counted.

@@ -1,5 +1,5 @@
 use Rattle.std.proofs.Common.{◌≡◌, ◌+◌, ◌-◌, ◌*◌, length, inl, inr, subst, ◌∙◌, arith}
-use Rattle.hsms_log.specs.Digits.{AreRead, HasOther}
+use Rattle.hsms_log.specs.InnerDigits.{AreRead, HasOther}
 use Rattle.hsms_log.proofs.Decoding.{decoded, undecoded, read_on, greater_small, greater_large}
 use Rattle.hsms_log.proofs.digits.decode.Goals as goal
 

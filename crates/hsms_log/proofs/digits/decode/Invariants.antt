@@ -1,5 +1,5 @@
 use Rattle.std.proofs.Common.{◌≡◌, ◌≤◌, ◌<◌, ◌*◌, ℕ, get_or, length}
-use Rattle.hsms_log.specs.Digits.{AreRead, AreSmall, HasOther}
+use Rattle.hsms_log.specs.InnerDigits.{AreRead, AreSmall, HasOther}
 use Rattle.hsms_log.proofs.digits.decode.Given as goal
 
 -- The bytes before this index are read if all values for digits are small; otherwise some byte is not a digit.

@@ -3,7 +3,7 @@ use Rattle.std.proofs.lemmas.Simd.{map-map}
 use Rattle.std.proofs.lemmas.List.{length-map}
 use Rattle.hsms_log.proofs.Decoding.{lanes_of_two, lanes_of_one, lanes_loaded}
 use Rattle.hsms_log.proofs.SixteenDigits.{picked_by_turns, digits_woven, woven}
-use Rattle.hsms_log.specs.Digits.{digit_of}
+use Rattle.hsms_log.specs.InnerDigits.{digit_of}
 use Rattle.hsms_log.proofs.hexadecimal.digits_of_sixteen.Goals as goal
 
 pub returns : goal.returns

@@ -2,7 +2,7 @@ use Rattle.std.proofs.Common.{◌+◌, ◌%◌, ◌^◌, cond, leb, refl}
 use lib.Lanes.{top}
 use Rattle.hsms_log.proofs.Decoding.{lanes_of_two, lanes_of_one, lanes_loaded, lanes_chosen}
 use Rattle.hsms_log.proofs.SixteenDigits.{map_agrees}
-use Rattle.hsms_log.specs.Digits.{digit_of}
+use Rattle.hsms_log.specs.InnerDigits.{digit_of}
 use Rattle.hsms_log.proofs.hexadecimal.digits_of_values.Goals as goal
 
 pub returns : goal.returns

@@ -1,5 +1,5 @@
 use Rattle.std.proofs.Common.{◌≡◌, sym, ◌∙◌, ap, true, rules, subst, List, ℕ}
-use Rattle.hsms_log.specs.Reading.{number_of, is_decimal}
+use Rattle.hsms_log.specs.InnerReading.{number_of, is_decimal}
 use Rattle.hsms_log.proofs.Numbers.{parsed, text_is, text_found}
 use Rattle.hsms_log.proofs.number.number.Goals as goal
 

@@ -1,7 +1,7 @@
 use Rattle.std.proofs.Common.{◌≡◌, Some, None, refl, subst, false, true}
 use Rattle.std.specs.Prelude.{Option}
 use Rattle.hsms_machine.specs.Settings.{Parameters}
-use Rattle.hsms_log.specs.SettingsFields.{IsOf}
+use Rattle.hsms_log.specs.InnerSettingsFields.{IsOf}
 use Rattle.hsms_log.proofs.SettingsLaws.{settings_found, settings_none, settings_unread, parts_within, parts_value, parts_never}
 use Rattle.hsms_log.proofs.settings_line.read_settings.Goals as goal
 

@@ -1,8 +1,8 @@
 use Rattle.std.proofs.Common.{◌≡◌, ℕ, Some, refl, subst, rules}
 use Rattle.std.specs.Prelude.{Option}
 use Rattle.hsms_machine.specs.Settings.{Parameters}
-use Rattle.hsms_log.specs.Reading.{settings_at}
-use Rattle.hsms_log.specs.SettingsFields.{IsOf}
+use Rattle.hsms_log.specs.InnerReading.{settings_at}
+use Rattle.hsms_log.specs.InnerSettingsFields.{IsOf}
 use Rattle.hsms_log.proofs.LineBindings.{some_inj}
 use Rattle.hsms_log.proofs.settings_line.version_and_settings.Goals as goal
 

@@ -2,7 +2,7 @@ use Rattle.std.proofs.Common.{◌++◌, ◌∷◌, [], take, drop, get_or, ◌�
 use Rattle.std.specs.List.{flat_map}
 use Rattle.std.proofs.lemmas.List.{take_all}
 use Rattle.std.proofs.lemmas.Result.{err_from_is_err_and}
-use Rattle.hsms_log.specs.Writing.{spaced}
+use Rattle.hsms_log.specs.InnerWriting.{spaced}
 use Rattle.hsms_log.proofs.Parts.{written_then, written_along, failed_first, failed_second, failed_along, writes_then, writes_err, numbers_next, numbers_parted}
 use Rattle.hsms_log.proofs.writing.put_numbers.Goals as goal
 

@@ -1,6 +1,6 @@
 use Rattle.std.proofs.Common.{take}
 use Rattle.std.specs.List.{flat_map}
-use Rattle.hsms_log.specs.Writing.{HasWritten, spaced}
+use Rattle.hsms_log.specs.InnerWriting.{HasWritten, spaced}
 use Rattle.hsms_log.proofs.writing.put_numbers.Given as goal
 
 -- The numbers that were passed are written.

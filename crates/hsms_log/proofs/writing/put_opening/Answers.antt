@@ -1,6 +1,6 @@
 use Rattle.std.specs.Prelude.{codes}
 use Rattle.std.proofs.lemmas.Result.{err_from_is_err_and}
-use Rattle.hsms_log.specs.Writing.{spaced, version_text, words_of, opening_of}
+use Rattle.hsms_log.specs.InnerWriting.{spaced, version_text, words_of, opening_of}
 use Rattle.hsms_log.proofs.Parts.{written_then, failed_first, failed_second, writes_then, writes_err}
 use Rattle.hsms_log.proofs.writing.put_opening.Goals as goal
 

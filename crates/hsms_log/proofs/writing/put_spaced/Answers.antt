@@ -1,7 +1,7 @@
 use Rattle.std.proofs.Common.{◌∷◌, []}
 use Rattle.std.specs.Prelude.{decimal}
 use Rattle.std.proofs.lemmas.Result.{err_from_is_err_and}
-use Rattle.hsms_log.specs.Writing.{spaced}
+use Rattle.hsms_log.specs.InnerWriting.{spaced}
 use Rattle.hsms_log.proofs.Parts.{failed_first, writes_then, writes_err}
 use Rattle.hsms_log.proofs.writing.put_spaced.Goals as goal
 

@@ -4,7 +4,7 @@ use Rattle.std.proofs.lemmas.Result.{err_from_is_err_and}
 use Rattle.hsms_frame.specs.Io.{SinkState}
 use Rattle.hsms_machine.specs.declared.entry.Entry.{Entry}
 use Rattle.hsms_log.specs.LineFormat.{entry_line, event_text}
-use Rattle.hsms_log.specs.Writing.{HasFailed, HasWritten, Writes}
+use Rattle.hsms_log.specs.InnerWriting.{HasFailed, HasWritten, Writes}
 use Rattle.std.specs.Prelude.{Result}
 use Rattle.hsms_log.proofs.Parts.{failed_first, failed_along, writes_then, writes_along, writes_err, writes_failures, writes_puts}
 use Rattle.hsms_log.proofs.Written.{entry_written}

@@ -5,7 +5,7 @@ use Rattle.std.proofs.lemmas.Result.{err_from_is_err_and}
 use Rattle.hsms_frame.specs.Io.{SinkState}
 use Rattle.hsms_machine.specs.Settings.{Parameters}
 use Rattle.hsms_log.specs.LineFormat.{settings_line}
-use Rattle.hsms_log.specs.Writing.{HasFailed, HasWritten, Writes, spaced, opening_of, numbers_of}
+use Rattle.hsms_log.specs.InnerWriting.{HasFailed, HasWritten, Writes, spaced, opening_of, numbers_of}
 use Rattle.hsms_log.proofs.Parts.{failed_first, failed_along, writes_then, writes_along, writes_err, writes_failures, writes_puts, line_parts}
 use Rattle.hsms_log.proofs.Written.{settings_written}
 use Rattle.hsms_log.proofs.writing.write_settings.Goals as goal

@@ -1,8 +1,10 @@
 use Rattle.std.proofs.Common.{◌≡◌, ℕ, ◌+◌, ◌-◌, ◌%◌, [], ◌∷◌, ◌++◌, true, false, map, length, take, drop, refl, sym, ap, ◌∙◌, rules, arith}
 use Rattle.std.proofs.lemmas.List.{map_push, length-take, length-drop}
 use Rattle.secs_item.specs.Format.{is_list, value_size}
-use Rattle.secs_item.specs.Decoding.{item_at, values_of}
-use Rattle.secs_item.specs.Item.{values, view, views}
+use Rattle.secs_item.specs.Decoding.{values_of}
+use Rattle.secs_item.specs.InnerDecoding.{item_at}
+use Rattle.secs_item.specs.Item.{values, view}
+use Rattle.secs_item.specs.InnerItem.{views}
 use Rattle.secs_item.proofs.Building.{starts_building, next_measured, continues_building, ends_building}
 use Rattle.secs_item.proofs.Lengths.{header_measured, elements_measured, list_is, values_are}
 use Rattle.secs_item.proofs.Views.{view-List}

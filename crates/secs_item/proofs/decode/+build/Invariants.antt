@@ -1,6 +1,6 @@
 use Rattle.std.proofs.Common.{◌*◌, ◌+◌, map}
 use Rattle.secs_item.specs.Item.{view}
-use Rattle.secs_item.specs.Decoding.{item_at}
+use Rattle.secs_item.specs.InnerDecoding.{item_at}
 use Rattle.secs_item.proofs.Building.{IsBuilding}
 use Rattle.secs_item.proofs.decode.+build.Given as goal
 

@@ -2,7 +2,8 @@ use Rattle.std.proofs.Common.{◌≡◌, ◌*◌, ◌<◌, ◌^◌, true, false,
 use Rattle.std.specs.Prelude.{is_some}
 use Rattle.secs_item.specs.declared.item.Item.{the_lemmas}
 use Rattle.secs_item.specs.Format.{is_list, value_size}
-use Rattle.secs_item.specs.Item.{count, count_of, format_of, list, view, views}
+use Rattle.secs_item.specs.Item.{count, count_of, format_of, list, view}
+use Rattle.secs_item.specs.InnerItem.{views}
 use Rattle.secs_item.specs.ShortestEncoding.{short, short_elements}
 use Rattle.secs_item.proofs.Views.{view-List}
 use Rattle.secs_item.proofs.ShortestEncodings.{too_large, values_some, list_not, list_some, next_not, next_some, none_left, says_no, says_yes, not_true, said_no}

@@ -1,6 +1,6 @@
 use Rattle.std.proofs.Common.{◌≡◌, drop}
 use Rattle.std.specs.Prelude.{is_some}
-use Rattle.secs_item.specs.Item.{views}
+use Rattle.secs_item.specs.InnerItem.{views}
 use Rattle.secs_item.specs.ShortestEncoding.{short_elements}
 use Rattle.secs_item.proofs.encoding.+has_encoding.Given as goal
 

@@ -2,7 +2,8 @@ use Rattle.std.proofs.Common.{◌≡◌, ◌++◌, ◌*◌, true, false, drop, l
 use Rattle.std.proofs.lemmas.Result.{on_ok_weaker}
 use Rattle.secs_item.specs.declared.item.Item.{the_lemmas}
 use Rattle.std.specs.Prelude.{is_some}
-use Rattle.secs_item.specs.Item.{list, view, views, InRange, ElementsInRange, format_of, count_of}
+use Rattle.secs_item.specs.Item.{list, view, InRange, ElementsInRange, format_of, count_of}
+use Rattle.secs_item.specs.InnerItem.{views}
 use Rattle.secs_item.specs.declared.format.Format.TheVariants as format
 use Rattle.secs_item.specs.Format.{is_list, value_size}
 use Rattle.secs_item.specs.Encoding.{header}

@@ -1,5 +1,6 @@
 use Rattle.std.proofs.Common.{◌≡◌, max, min, drop}
-use Rattle.secs_item.specs.Item.{nest_of_elements, views}
+use Rattle.secs_item.specs.Item.{nest_of_elements}
+use Rattle.secs_item.specs.InnerItem.{views}
 use Rattle.secs_item.proofs.item.+nesting.Given as goal
 
 abbrev pub invariant-loop-element : goal.invariant-loop-element

@@ -2,7 +2,8 @@ use Rattle.std.proofs.Common.{ap, sym, ◌∙◌, arith}
 use Rattle.std.specs.Cmp.{booleans_Decides}
 use Rattle.std.proofs.lemmas.Bool.Decides.{Decides-eqb, Decides-int_eq}
 use Rattle.secs_item.specs.Equality.{octets_Decides}
-use Rattle.secs_item.specs.Item.{view, views, count, list, binary, boolean, ascii, char2, i1, i2, i4, i8, u1, u2, u4, u8, f4, f8}
+use Rattle.secs_item.specs.Item.{view, count, list, binary, boolean, ascii, char2, i1, i2, i4, i8, u1, u2, u4, u8, f4, f8}
+use Rattle.secs_item.specs.InnerItem.{views}
 use Rattle.secs_item.specs.declared.item.Item.{List as item_list, Binary as item_binary, Boolean as item_boolean, Ascii as item_ascii, Char2 as item_char2, I1 as item_i1, I2 as item_i2, I4 as item_i4, I8 as item_i8, U1 as item_u1, U2 as item_u2, U4 as item_u4, U8 as item_u8, F4 as item_f4, F8 as item_f8}
 use Rattle.secs_item.proofs.Views.{view-List, view-Binary, view-Boolean, view-Ascii, view-Char2, view-I1, view-I2, view-I4, view-I8, view-U1, view-U2, view-U4, view-U8, view-F4, view-F8}
 use Rattle.secs_item.proofs.Variants.{other_variant}

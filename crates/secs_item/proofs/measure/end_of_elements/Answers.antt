@@ -1,7 +1,7 @@
 use Rattle.std.proofs.Common.{◌≤◌, ◌+◌, ◌-◌, ap, ◌∙◌, refl, arith}
 use Rattle.std.proofs.Math.ListN.{length-set, length-replicate}
 use Rattle.std.proofs.lemmas.Result.{err_from_is_err_and}
-use Rattle.secs_item.specs.Measure.{end_of_open}
+use Rattle.secs_item.specs.InnerMeasure.{end_of_open}
 use Rattle.secs_item.proofs.Opened.{list_opened, all_closed, list_closes, element_fails, element_whole, element_opens}
 use Rattle.secs_item.proofs.measure.end_of_elements.Goals as goal
 

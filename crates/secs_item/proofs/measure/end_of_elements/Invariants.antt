@@ -1,6 +1,6 @@
 use Rattle.std.proofs.Common.{◌≡◌, ◌≤◌, ◌-◌, ◌+◌, ◌*◌, length, drop}
-use Rattle.secs_item.specs.Measure.{end_from, end_of_open}
-use Rattle.secs_item.specs.Decoding.{item_at, elements_by}
+use Rattle.secs_item.specs.InnerMeasure.{end_from, end_of_open}
+use Rattle.secs_item.specs.InnerDecoding.{item_at, elements_by}
 use Rattle.secs_item.proofs.measure.end_of_elements.Given as goal
 
 abbrev pub invariant-loop-left : goal.invariant-loop-left

@@ -1,6 +1,6 @@
 use Rattle.std.proofs.Common.{◌≡◌, bit_and, get_or, sym, ap, ◌∙◌, arith}
 use Rattle.secs_item.specs.declared.measure_step.TheConstants.{MASKS}
-use Rattle.secs_item.specs.Measure.{mask_for, short_format}
+use Rattle.secs_item.specs.InnerMeasure.{mask_for, short_format}
 use Rattle.secs_item.proofs.Parts.{list_mask, list_read, masks_right, values_read}
 use Rattle.secs_item.proofs.measure_step.quick_part.Goals as goal
 

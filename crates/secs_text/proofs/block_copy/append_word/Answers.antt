@@ -1,6 +1,6 @@
 use Rattle.std.proofs.Common.{◌≡◌, ◌+◌, length, take, arith, length-take-le, take-take}
 use Rattle.std.proofs.lemmas.Simd.{take_more_put_chunk, length-put_chunk}
-use Rattle.secs_text.specs.BlockOutput.{AppendsText}
+use Rattle.secs_text.specs.InnerBlockOutput.{AppendsText}
 use Rattle.secs_text.proofs.Blocks.{appended_less}
 use Rattle.secs_text.proofs.block_copy.append_word.Goals as goal
 

@@ -1,8 +1,9 @@
 use Rattle.std.proofs.Common.{◌≡◌, ◌∙◌, ◌++◌, ◌∷◌, [], ap, sym, subst, append_assoc, List, refl}
 use Rattle.std.specs.Prelude.{Some, option_map}
 use Rattle.secs_text.specs.Content.{Content}
-use Rattle.secs_text.specs.RemainingTokens.{left}
-use Rattle.secs_text.specs.EncodedText.{appended_text, headed_by, named}
+use Rattle.secs_text.specs.InnerRemainingTokens.{left}
+use Rattle.secs_text.specs.EncodedText.{headed_by}
+use Rattle.secs_text.specs.InnerEncodedText.{appended_text, named}
 use Rattle.secs_text.proofs.ParsingMessages.{is_encoded}
 use Rattle.secs_text.proofs.parsing.encode_several.Goals as goal
 use Rattle.secs_text.proofs.parsing.encode_several.Goals.{then-fits, else-fits}

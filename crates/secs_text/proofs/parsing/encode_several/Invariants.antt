@@ -1,5 +1,5 @@
-use Rattle.secs_text.specs.RemainingTokens.{left, octets_left}
-use Rattle.secs_text.specs.EncodedText.{GivenSoFar}
+use Rattle.secs_text.specs.InnerRemainingTokens.{left, octets_left}
+use Rattle.secs_text.specs.InnerEncodedText.{GivenSoFar}
 use Rattle.secs_text.proofs.parsing.encode_several.Given as goal
 
 abbrev pub invariant-loop-encoded_form : goal.invariant-loop-encoded_form

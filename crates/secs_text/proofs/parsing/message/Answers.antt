@@ -2,10 +2,10 @@ use Rattle.std.proofs.Common.{◌∙◌, ap, refl, arith}
 use Rattle.std.specs.Prelude.{Some}
 use Rattle.secs_text.specs.Content.{Content}
 use Rattle.secs_text.specs.Fault.{any_messages}
-use Rattle.secs_text.specs.RemainingTokens.{left}
+use Rattle.secs_text.specs.InnerRemainingTokens.{left}
 use Rattle.secs_text.specs.ParserStates.{Rules, walk, after_wait, stop_expected, before_item}
-use Rattle.secs_text.specs.TokenView.{seen, then_tokens}
-use Rattle.secs_text.specs.EncodedText.{named_by}
+use Rattle.secs_text.specs.InnerTokenView.{seen, then_tokens}
+use Rattle.secs_text.specs.InnerEncodedText.{named_by}
 use Rattle.secs_text.proofs.parsing.message.Goals as goal
 
 pub returns-in-Stop-token-clause-reads : goal.returns-in-Stop-token-clause-reads

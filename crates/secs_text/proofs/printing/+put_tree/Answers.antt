@@ -2,11 +2,12 @@ use Rattle.std.proofs.Common.{◌≡◌, ◌∙◌, List, ℕ, false, length, sy
 use Rattle.secs_item.specs.declared.format.Format.TheVariants as format
 use Rattle.secs_item.specs.declared.item.Item.{the_lemmas}
 use Rattle.secs_item.specs.Format.{is_list}
-use Rattle.secs_item.specs.Item.{format_of, list, view, views}
+use Rattle.secs_item.specs.Item.{format_of, list, view}
+use Rattle.secs_item.specs.InnerItem.{views}
 use Rattle.secs_item.specs.ShortestEncoding.{IsBodyOf}
 use Rattle.secs_item.proofs.Views.{view-List}
 use Rattle.secs_text.specs.InRange.{IsHeld}
-use Rattle.secs_text.specs.BlockOutput.{opening_of}
+use Rattle.secs_text.specs.InnerBlockOutput.{opening_of}
 use Rattle.secs_text.proofs.PrintingLeaves.{leaf_held, leaf_puts, list_ends, list_continues, list_held}
 use Rattle.secs_text.proofs.Views.{held_continues}
 use Rattle.secs_text.proofs.printing.+put_tree.Goals as goal

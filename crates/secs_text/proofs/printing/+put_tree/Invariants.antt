@@ -1,7 +1,7 @@
 use Rattle.std.proofs.Common.{◌++◌, length, take}
-use Rattle.secs_item.specs.Item.{views}
+use Rattle.secs_item.specs.InnerItem.{views}
 use Rattle.secs_text.specs.InRange.{AllHeld}
-use Rattle.secs_text.specs.BlockOutput.{Puts, opening_of}
+use Rattle.secs_text.specs.InnerBlockOutput.{Puts, opening_of}
 use Rattle.secs_text.specs.Printed.{printed_elements}
 use Rattle.secs_item.specs.declared.format.Format.TheVariants.{List}
 use Rattle.secs_text.proofs.printing.+put_tree.Given as goal

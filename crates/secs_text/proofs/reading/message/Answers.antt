@@ -2,9 +2,9 @@ use Rattle.std.proofs.Common.{◌∙◌, ap, arith, refl, sym, false, [], ◌++�
 use Rattle.std.specs.Prelude.{Some, None}
 use Rattle.secs_item.specs.Item.{view}
 use Rattle.secs_text.specs.Content.{Content}
-use Rattle.secs_text.specs.RemainingTokens.{left}
+use Rattle.secs_text.specs.InnerRemainingTokens.{left}
 use Rattle.secs_text.specs.ParserStates.{walk, start, after_wait, stop_expected, before_item}
-use Rattle.secs_text.specs.TokenView.{seen, then_tokens}
+use Rattle.secs_text.specs.InnerTokenView.{seen, then_tokens}
 use Rattle.secs_text.proofs.TokenSteps.{no_stop, no_text_expected}
 use Rattle.secs_text.proofs.reading.message.Goals as goal
 

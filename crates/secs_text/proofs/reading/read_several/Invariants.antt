@@ -1,6 +1,6 @@
 use Rattle.std.proofs.Common.{◌≡◌, []}
 use Rattle.secs_text.specs.Fault.{any_messages}
-use Rattle.secs_text.specs.RemainingTokens.{left, octets_left}
+use Rattle.secs_text.specs.InnerRemainingTokens.{left, octets_left}
 use Rattle.secs_text.specs.ParserStates.{walk, start}
 use Rattle.secs_text.specs.View.{contents}
 use Rattle.secs_text.proofs.reading.read_several.Given as goal

@@ -2,7 +2,7 @@ use Rattle.std.proofs.Common.{ℕ, List, Err, subst}
 use Rattle.std.proofs.lemmas.Result.{err_from_is_err_and}
 use Rattle.capture_pcap.specs.declared.block_reader.Format.{Format}
 use Rattle.hsms_frame.specs.ReadAhead.{ReadsMore}
-use Rattle.capture_pcap.specs.BlockReader.{OpensFor}
+use Rattle.capture_pcap.specs.InnerBlockReader.{OpensFor}
 use Rattle.capture_pcap.specs.contracts.packet_reader.Packets.{the_view}
 use Rattle.capture_pcap.proofs.ReaderSteps.{opening_is_there}
 use Rattle.capture_pcap.proofs.BlockSteps.{not_opened, opened, takes_header}

@@ -1,7 +1,7 @@
 use Rattle.capture_log.specs.BothLogs.{remark_alone}
 use Rattle.capture_tcp.specs.declared.packet.Side.TheVariants.{Active, Passive}
 use Rattle.capture_verdicts.specs.VerdictReport.{event_at}
-use Rattle.capture_verdicts.specs.ReportState.{note_by}
+use Rattle.capture_verdicts.specs.InnerReportState.{note_by}
 use Rattle.capture_verdicts.proofs.LogNotes.{adds_item, at_ok, note_none, note_some}
 use Rattle.capture_verdicts.proofs.pair_logs.PairLogs.log.Goals as goal
 

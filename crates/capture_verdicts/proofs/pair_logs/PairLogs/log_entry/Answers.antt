@@ -3,7 +3,7 @@ use Rattle.capture_tcp.specs.declared.packet.Side.TheVariants.{Active, Passive}
 use Rattle.capture_log.specs.BothLogs.{Adds}
 use Rattle.capture_events.specs.declared.log_item.EntryKind.{EntryKind}
 use Rattle.capture_verdicts.specs.VerdictReport.{event_at}
-use Rattle.capture_verdicts.specs.ReportState.{note_by}
+use Rattle.capture_verdicts.specs.InnerReportState.{note_by}
 use Rattle.capture_verdicts.proofs.pair_logs.PairLogs.log_entry.Goals as goal
 
 pub returns-in-Up-clause-active : goal.returns-in-Up-clause-active

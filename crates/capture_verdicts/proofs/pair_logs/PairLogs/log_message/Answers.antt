@@ -2,7 +2,7 @@ use Rattle.std.proofs.Common.{OnOk, subst, sym}
 use Rattle.capture_tcp.specs.declared.packet.Side.{Side}
 use Rattle.capture_tcp.specs.declared.packet.Side.TheVariants.{Active, Passive}
 use Rattle.capture_log.specs.BothLogs.{Adds, event_of}
-use Rattle.capture_verdicts.specs.ReportState.{note_by}
+use Rattle.capture_verdicts.specs.InnerReportState.{note_by}
 use Rattle.capture_verdicts.proofs.pair_logs.PairLogs.log_message.Goals as goal
 
 pub returns-in-Active-clause-active : goal.returns-in-Active-clause-active

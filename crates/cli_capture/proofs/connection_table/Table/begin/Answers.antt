@@ -7,9 +7,10 @@ use Rattle.capture_log.specs.declared.socket_pair.Pair.{Pair}
 use Rattle.capture_log.specs.contracts.socket_pair.PairPartialEq.TheImpl as same_pair
 use Rattle.cli_capture.specs.declared.tracked_connection.Flow.{Flow}
 use Rattle.cli_capture.specs.declared.connection_table.Table.{Table}
-use Rattle.cli_capture.specs.ConnectionState.{IsBegun, IsForgotten}
+use Rattle.cli_capture.specs.InnerConnectionState.{IsBegun, IsForgotten}
 use Rattle.cli_capture.proofs.TableRefusals.{starts_other, starts_same}
-use Rattle.cli_capture.specs.ConnectionTable.{KeepsOf, ReplacesFlow}
+use Rattle.cli_capture.specs.ConnectionTable.{KeepsOf}
+use Rattle.cli_capture.specs.InnerConnectionTable.{ReplacesFlow}
 use Rattle.cli_capture.proofs.connection_table.Table.begin.Goals as goal
 
 ok_given : {T E : Type 0} (P : Type 0) (r : Result T E) → is_err r ≡ false → OnOk r P → P

@@ -1,4 +1,4 @@
-use Rattle.cli_capture.specs.Report.{Emits}
+use Rattle.cli_capture.specs.InnerReport.{Emits}
 use Rattle.cli_capture.proofs.Stages.{AreEnded}
 use Rattle.cli_capture.proofs.connection_table.Table.finish.Given as goal
 

@@ -1,8 +1,8 @@
 use Rattle.std.proofs.Common.{Option, refl, sym, subst, ◌∙◌}
 use Rattle.cli_capture.specs.declared.tracked_connection.Flow.{Flow}
 use Rattle.cli_capture.specs.declared.report.Report.{Report}
-use Rattle.cli_capture.specs.Report.{Emits}
-use Rattle.cli_capture.specs.ConnectionTable.{EndsBefore, flow_of}
+use Rattle.cli_capture.specs.InnerReport.{Emits}
+use Rattle.cli_capture.specs.InnerConnectionTable.{EndsBefore, flow_of}
 use Rattle.cli_capture.proofs.Tellings.{tells_nothing}
 use Rattle.cli_capture.proofs.connection_table.Table.replace.Goals as goal
 use Rattle.cli_capture.proofs.connection_table.Table.replace.Goals.{in-Some+in_ok-end, in_default}

@@ -4,7 +4,7 @@ use Rattle.std.proofs.lemmas.Result.{err_from_is_err_and}
 use Rattle.capture_tcp.specs.declared.packet.Segment.{Segment as Taken}
 use Rattle.cli_capture.specs.declared.report.Report.{Report}
 use Rattle.cli_capture.specs.declared.connection_table.Table.{Table}
-use Rattle.cli_capture.specs.ConnectionTable.{FollowsFlow, Joins, TakesIt, brought_by}
+use Rattle.cli_capture.specs.InnerConnectionTable.{FollowsFlow, Joins, TakesIt, brought_by}
 use Rattle.cli_capture.proofs.Beginnings.{Decides, with_syn, without_syn}
 use Rattle.cli_capture.proofs.TableRefusals.{takes_begun, takes_first, takes_later}
 use Rattle.cli_capture.proofs.connection_table.Table.take_of.Goals as goal

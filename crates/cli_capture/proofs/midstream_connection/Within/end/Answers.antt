@@ -5,8 +5,8 @@ use Rattle.capture_tcp.specs.declared.events.TimedEvent.{TimedEvent}
 use Rattle.capture_tcp.specs.ReaderInvariant.{EndsAs}
 use Rattle.cli_capture.specs.declared.progress.Progress.{Progress}
 use Rattle.cli_capture.specs.Progress.{lack_behind}
-use Rattle.cli_capture.specs.MidstreamLog.{HearsEach}
-use Rattle.cli_capture.specs.MidstreamConnection.{EndsWithin}
+use Rattle.cli_capture.specs.InnerMidstreamLog.{HearsEach}
+use Rattle.cli_capture.specs.InnerMidstreamConnection.{EndsWithin}
 use Rattle.cli_capture.specs.MidstreamOutput.{in_capture}
 use Rattle.std.proofs.lemmas.Result.{err_from_is_err_and}
 use Rattle.cli_capture.proofs.PacketRefusals.{end_heard_refused, end_left_refused, end_over_refused, replaced_left}

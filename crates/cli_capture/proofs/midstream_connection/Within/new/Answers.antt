@@ -1,6 +1,6 @@
 use Rattle.std.proofs.Common.{rules, subst}
 use Rattle.capture_midstream.specs.declared.synthetic_handshake.Handshake.{Handshake}
-use Rattle.cli_capture.specs.MidstreamConnection.{Opens}
+use Rattle.cli_capture.specs.InnerMidstreamConnection.{Opens}
 use Rattle.cli_capture.proofs.Opening.{begins_within}
 use Rattle.cli_capture.proofs.midstream_connection.Within.new.Goals as goal
 

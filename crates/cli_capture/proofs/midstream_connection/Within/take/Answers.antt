@@ -1,7 +1,8 @@
 use Rattle.std.proofs.Common.{ℕ, List, [], map, subst, sym, ◌∙◌}
 use Rattle.capture_tcp.specs.declared.events.TimedEvent.{TimedEvent}
-use Rattle.cli_capture.specs.MidstreamLog.{HearsEach}
-use Rattle.cli_capture.specs.MidstreamConnection.{TakesCut, cut_by}
+use Rattle.cli_capture.specs.InnerMidstreamLog.{HearsEach}
+use Rattle.cli_capture.specs.MidstreamConnection.{cut_by}
+use Rattle.cli_capture.specs.InnerMidstreamConnection.{TakesCut}
 use Rattle.cli_capture.specs.MidstreamOutput.{in_capture}
 use Rattle.std.proofs.lemmas.Result.{err_from_is_err_and}
 use Rattle.cli_capture.proofs.PacketRefusals.{take_finish_refused, take_heard_refused}

@@ -1,6 +1,6 @@
 use Rattle.std.proofs.Common.{ℕ, ◌∙◌, ap, subst}
 use Rattle.cli_capture.specs.declared.progress.Progress.{Progress}
-use Rattle.cli_capture.specs.MidstreamLog.{Decides}
+use Rattle.cli_capture.specs.InnerMidstreamLog.{Decides}
 use Rattle.cli_capture.specs.Assumptions.{other_side, said_by}
 use Rattle.capture_tcp.specs.declared.packet.Side.{Side}
 use Rattle.std.proofs.lemmas.Result.{err_from_is_err_and}

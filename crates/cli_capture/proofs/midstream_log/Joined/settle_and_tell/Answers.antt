@@ -1,6 +1,6 @@
 use Rattle.std.proofs.Common.{subst}
 use Rattle.cli_capture.specs.declared.progress.Progress.{Progress}
-use Rattle.cli_capture.specs.MidstreamLog.{Settles}
+use Rattle.cli_capture.specs.InnerMidstreamLog.{Settles}
 use Rattle.std.proofs.lemmas.Result.{err_from_is_err_and}
 use Rattle.cli_capture.proofs.SessionRefusals.{end_settle_refused, end_tell_refused}
 use Rattle.cli_capture.proofs.Unrefused.{err_map}

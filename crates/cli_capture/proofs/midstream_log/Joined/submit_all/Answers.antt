@@ -6,7 +6,7 @@ use Rattle.cli_capture.specs.declared.progress.Progress.{Progress}
 use Rattle.cli_capture.specs.declared.progress.Progress.TheVariants as progress
 use Rattle.capture_tcp.specs.declared.events.TimedEvent.{TimedEvent}
 use Rattle.std.proofs.Common.{List}
-use Rattle.cli_capture.specs.MidstreamLog.{TellsThem}
+use Rattle.cli_capture.specs.InnerMidstreamLog.{TellsThem}
 use Rattle.cli_capture.proofs.Connections.{taken_apart}
 use Rattle.cli_capture.proofs.Quiet.{quiet_nothing, quiet_then}
 use Rattle.cli_capture.proofs.SessionRefusals.{tell_all_refused}

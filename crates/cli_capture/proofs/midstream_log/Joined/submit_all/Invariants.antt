@@ -1,7 +1,7 @@
 use Rattle.std.proofs.Common.{◌≡◌}
 use Rattle.cli_capture.specs.declared.progress.Progress.TheVariants as progress
-use Rattle.cli_capture.specs.MidstreamLog.{IsQuiet, TellsThem}
-use Rattle.cli_capture.specs.Report.{Emits}
+use Rattle.cli_capture.specs.InnerMidstreamLog.{IsQuiet, TellsThem}
+use Rattle.cli_capture.specs.InnerReport.{Emits}
 use Rattle.cli_capture.proofs.midstream_log.Joined.submit_all.Given as goal
 
 -- so far some connections were told, and nothing where this one hasn't come up; and what happens is told

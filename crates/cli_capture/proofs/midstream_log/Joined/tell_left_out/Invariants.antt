@@ -1,8 +1,9 @@
 use Rattle.std.proofs.Common.{◌≡◌, [], map}
 use Rattle.capture_log.specs.declared.socket_pair.Pair.{Pair}
 use Rattle.cli_capture.specs.declared.progress.Progress.TheVariants as progress
-use Rattle.cli_capture.specs.MidstreamItems.{TakesItems, leaves_out}
-use Rattle.cli_capture.specs.Report.{Emits}
+use Rattle.cli_capture.specs.MidstreamItems.{leaves_out}
+use Rattle.cli_capture.specs.InnerMidstreamItems.{TakesItems}
+use Rattle.cli_capture.specs.InnerReport.{Emits}
 use Rattle.cli_capture.proofs.midstream_log.Joined.tell_left_out.Given as goal
 
 -- so far some connections were told, and these packets

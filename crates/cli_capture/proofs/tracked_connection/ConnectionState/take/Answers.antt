@@ -3,8 +3,8 @@ use Rattle.std.specs.Prelude.{IfOk}
 use Rattle.std.proofs.lemmas.Result.{err_from_is_err_and}
 use Rattle.capture_tcp.specs.KnownStreams.{seen_of}
 use Rattle.cli_capture.specs.declared.tracked_connection.ConnectionState.{ConnectionState}
-use Rattle.cli_capture.specs.ConnectionState.{TakesStage, stage_by}
-use Rattle.cli_capture.specs.LogOutput.{TakesOnPage}
+use Rattle.cli_capture.specs.InnerConnectionState.{TakesStage, stage_by}
+use Rattle.cli_capture.specs.InnerLogOutput.{TakesOnPage}
 use Rattle.cli_capture.proofs.StageRefusals.{take_begun_refused, take_joining_refused, take_open_refused, take_waits_refused, take_within_refused}
 use Rattle.cli_capture.proofs.Unrefused.{err_map}
 use Rattle.cli_capture.proofs.Stages.{take_begun, take_open, take_waits}

@@ -1,6 +1,6 @@
 use Rattle.std.proofs.Common.{ℕ, Option, Some, refl, sym, subst}
 use Rattle.cli_capture.specs.declared.tracked_connection.ConnectionState.TheVariants as stage
-use Rattle.cli_capture.specs.ConnectionState.{IsBegun}
+use Rattle.cli_capture.specs.InnerConnectionState.{IsBegun}
 use Rattle.cli_capture.proofs.tracked_connection.Flow.new.Goals as goal
 
 pub returns-in-Some : goal.returns-in-Some

@@ -2,8 +2,8 @@ use Rattle.std.proofs.Common.{◌≡◌, ◌++◌, ◌∷◌, [], ℕ, List, len
 use Rattle.hsms_log.proofs.Parts.{empty_is}
 use Rattle.std.specs.Prelude.{OnOk}
 use Rattle.cli_explain.specs.declared.report.Report.{Report}
-use Rattle.cli_explain.specs.FirstFailureOutput.{KeepsShown}
-use Rattle.cli_explain.specs.LinesProcessed.{HasProcessed}
+use Rattle.cli_explain.specs.InnerFirstFailureOutput.{KeepsShown}
+use Rattle.cli_explain.specs.InnerLinesProcessed.{HasProcessed}
 use Rattle.explain_lines.proofs.Results.{on_ok_more}
 use Rattle.cli_explain.proofs.ProcessedLines.{processed_complete}
 use Rattle.cli_explain.proofs.explainer.Explainer.end_line.Goals as goal

@@ -1,7 +1,7 @@
 use Rattle.std.proofs.Common.{◌≤◌, ◌^◌, length, arith, sym, subst}
 use Rattle.hsms_log.specs.Lines.{lines_of}
 use Rattle.explain_statistics.specs.declared.failure_counts.Tally.{Tally}
-use Rattle.cli_explain.specs.FirstFailureOutput.{IsOfFirst}
+use Rattle.cli_explain.specs.InnerFirstFailureOutput.{IsOfFirst}
 use Rattle.cli_explain.proofs.Firsts.{keeps_then}
 use Rattle.cli_explain.proofs.explainer.Explainer.finish.Goals as goal
 

@@ -1,5 +1,5 @@
 use Rattle.std.proofs.Common.{◌≡◌, ◌∙◌, ◌+◌, ◌-◌, ◌++◌, min, length, take, refl, ap, rules}
-use Rattle.cli_explain.specs.LinesProcessed.{limit_at}
+use Rattle.cli_explain.specs.InnerLinesProcessed.{limit_at}
 use Rattle.explain_lines.proofs.Results.{on_ok_grown, on_ok_more}
 use Rattle.cli_explain.proofs.ProcessedLines.{processed_part}
 use Rattle.cli_explain.proofs.explainer.Explainer.hold.Goals as goal

@@ -1,9 +1,9 @@
 use Rattle.std.proofs.Common.{◌++◌, ◌∷◌, [], ℕ, List, refl, sym, subst, append_assoc}
 use Rattle.std.proofs.lemmas.List.{append-nil}
 use Rattle.hsms_log.proofs.AuditInvariants.{parts_on, rest_whole}
-use Rattle.cli_explain.specs.LinesProcessed.{HasProcessed}
+use Rattle.cli_explain.specs.InnerLinesProcessed.{HasProcessed}
 use Rattle.cli_explain.specs.declared.report.Report.{Report}
-use Rattle.cli_explain.specs.FirstFailureOutput.{KeepsShown}
+use Rattle.cli_explain.specs.InnerFirstFailureOutput.{KeepsShown}
 use Rattle.cli_explain.proofs.Firsts.{keeps_then}
 use Rattle.explain_lines.proofs.Results.{on_ok, on_ok_more}
 use Rattle.cli_explain.proofs.explainer.Explainer.take.Goals as goal

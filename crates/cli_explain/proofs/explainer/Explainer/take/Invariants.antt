@@ -1,6 +1,6 @@
 use Rattle.std.proofs.Common.{◌≡◌, ◌++◌, List, ℕ, length}
-use Rattle.cli_explain.specs.FirstFailureOutput.{KeepsShown}
-use Rattle.cli_explain.specs.LinesProcessed.{HasProcessed}
+use Rattle.cli_explain.specs.InnerFirstFailureOutput.{KeepsShown}
+use Rattle.cli_explain.specs.InnerLinesProcessed.{HasProcessed}
 use Rattle.cli_explain.proofs.explainer.Explainer.take.Given as goal
 
 -- The bytes passed so far were processed.

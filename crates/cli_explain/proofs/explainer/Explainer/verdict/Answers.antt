@@ -2,8 +2,8 @@ use Rattle.std.proofs.Common.{refl, sym, subst}
 use Rattle.hsms_log.specs.declared.verdict.Verdict.{Verdict}
 use Rattle.hsms_log.specs.Verdict.{LinesAudited}
 use Rattle.cli_explain.specs.declared.audit_state.Stage.{Stage}
-use Rattle.cli_explain.specs.FirstFailureOutput.{IsOfFirst}
-use Rattle.cli_explain.specs.LinesProcessed.{ProcessedAfter}
+use Rattle.cli_explain.specs.InnerFirstFailureOutput.{IsOfFirst}
+use Rattle.cli_explain.specs.InnerLinesProcessed.{ProcessedAfter}
 use Rattle.cli_explain.proofs.Firsts.{checked_first, unjudged_first}
 use Rattle.cli_explain.proofs.Verdicts.{checked_verdict, unjudged_verdict}
 use Rattle.cli_explain.proofs.explainer.Explainer.verdict.Goals as goal

@@ -2,10 +2,10 @@ use Rattle.std.proofs.Common.{◌≡◌, List, sym, ap, subst}
 use Rattle.std.specs.Prelude.{OnOk}
 use Rattle.explain_lines.specs.declared.explained_line.Carried.{Carried}
 use Rattle.explain_lines.specs.declared.annotation.Note.{Note}
-use Rattle.explain_session.specs.RepairedLines.{RepairsLine}
-use Rattle.explain_session.specs.EntryFailure.{LineFailsBy}
+use Rattle.explain_session.specs.InnerRepairedLines.{RepairsLine}
+use Rattle.explain_session.specs.InnerEntryFailure.{LineFailsBy}
 use Rattle.explain_lines.specs.AnnotatedFailure.{first_why}
-use Rattle.explain_statistics.specs.EntryCounts.{with_carried}
+use Rattle.explain_statistics.specs.InnerEntryCounts.{with_carried}
 use Rattle.explain_session.specs.RepairSteps.{RepairsEntry}
 use Rattle.hsms_log.specs.Step.{entry_by}
 use Rattle.explain_lines.proofs.Results.{on_ok, on_ok_more}

@@ -1,5 +1,5 @@
 use Rattle.clap.specs.Words.{app_of, rule_of}
-use Rattle.cli_options.specs.ClapCommand.{rule_described}
+use Rattle.cli_options.specs.InnerClapCommand.{rule_described}
 use Rattle.cli_options.proofs.Described.{with_next_rule}
 use Rattle.cli_options.proofs.clap_command.Subcommand.command.Goals as goal
 

@@ -1,6 +1,6 @@
 use Rattle.std.proofs.Common.{◌≡◌, map, take}
 use Rattle.clap.specs.Words.{app_of}
-use Rattle.cli_options.specs.ClapCommand.{rule_described, with_rules}
+use Rattle.cli_options.specs.InnerClapCommand.{rule_described, with_rules}
 use Rattle.cli_options.proofs.clap_command.Subcommand.command.Given as goal
 
 -- The options that were passed are described.

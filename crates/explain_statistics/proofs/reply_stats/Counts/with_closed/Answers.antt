@@ -1,6 +1,6 @@
 use Rattle.std.proofs.Common.{◌∷◌, sym, subst}
 use Rattle.explain_statistics.specs.declared.reply_stats.ReplyOutcome.{ReplyOutcome}
-use Rattle.explain_statistics.specs.ReplyStats.{IsCounts}
+use Rattle.explain_statistics.specs.InnerReplyStats.{IsCounts}
 use Rattle.explain_statistics.proofs.reply_stats.Counts.with_closed.Goals as goal
 
 pub returns-in-Answered : goal.returns-in-Answered

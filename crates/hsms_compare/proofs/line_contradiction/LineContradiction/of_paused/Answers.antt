@@ -1,6 +1,6 @@
 use Rattle.std.proofs.Common.{subst, List}
 use Rattle.hsms_compare.specs.Conversation.{Line}
-use Rattle.hsms_compare.specs.Passes.{HavePaused}
+use Rattle.hsms_compare.specs.InnerPasses.{HavePaused}
 use Rattle.hsms_compare.specs.declared.pass.Pause.TheVariants.{Done, Waits}
 use Rattle.hsms_compare.proofs.LineContradictions.{both_done, equipment_waits, host_waits, paused_as}
 use Rattle.hsms_compare.proofs.line_contradiction.LineContradiction.of_paused.Goals as goal

@@ -1,7 +1,7 @@
 use Rattle.std.proofs.Common.{refl, ◌∙◌}
 use Rattle.hsms_machine.specs.declared.settings.Role.TheVariants.{Host, Equipment}
 use Rattle.hsms_compare.specs.declared.pass.Offered.TheVariants.{Stops}
-use Rattle.hsms_compare.specs.Passes.{IsOffered}
+use Rattle.hsms_compare.specs.InnerPasses.{IsOffered}
 use Rattle.hsms_compare.proofs.Agreements.{is_merge-swap}
 use Rattle.hsms_compare.proofs.LinesRead.{merge_is, offer_is, offers_from, stopped_same, turn_from, turn_of_equipment}
 use Rattle.hsms_compare.proofs.pass.PassEnd.host_first.Goals as goal

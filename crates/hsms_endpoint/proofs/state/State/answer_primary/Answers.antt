@@ -1,7 +1,7 @@
 use Rattle.std.proofs.Common.{◌≡◌, [], ◌++◌, ◌%◌, ◌==◌, ap, refl}
 use Rattle.hsms_endpoint.specs.declared.answer.Answer.TheVariants.{NoStream, NoFunction, Illegal}
 use Rattle.hsms_endpoint.specs.Answer.{answered}
-use Rattle.hsms_endpoint.specs.AwaitingReply.{replies_by}
+use Rattle.hsms_endpoint.specs.InnerAwaitingReply.{replies_by}
 use Rattle.hsms_endpoint.specs.Reaction.{warns, answers_primary}
 use Rattle.hsms_endpoint.proofs.Acts.{then_ok}
 use Rattle.hsms_endpoint.proofs.AwaitingReplies.{awaits_own}

@@ -8,7 +8,7 @@ use Rattle.hsms_frame.specs.Frame.{Frame}
 use Rattle.hsms_endpoint.specs.Answer.{answered}
 use Rattle.hsms_endpoint.specs.PrimaryCounts.{name_in, times}
 use Rattle.hsms_endpoint.specs.Frame.{message_of}
-use Rattle.hsms_endpoint.specs.AwaitingReply.{IsAnsweredBy}
+use Rattle.hsms_endpoint.specs.InnerAwaitingReply.{IsAnsweredBy}
 use Rattle.hsms_endpoint.proofs.state.State.ask.Goals as goal
 
 pub returns-in-Ok : goal.returns-in-Ok

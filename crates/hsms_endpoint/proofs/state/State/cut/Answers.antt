@@ -2,7 +2,7 @@ use Rattle.std.proofs.Common.{[], ◌∷◌, ap, ◌∙◌}
 use Rattle.hsms_machine.specs.declared.entry.Event.TheVariants.{Cut, Down}
 use Rattle.hsms_endpoint.specs.declared.state.State.{State}
 use Rattle.hsms_endpoint.specs.Action.{logs}
-use Rattle.hsms_endpoint.specs.Internals.{after_event}
+use Rattle.hsms_endpoint.specs.InnerInternals.{after_event}
 use Rattle.hsms_endpoint.proofs.Acts.{does_then, then_ok}
 use Rattle.hsms_endpoint.proofs.Requests.{cut_down_valid}
 use Rattle.hsms_endpoint.proofs.Steadiness.{sound_down}

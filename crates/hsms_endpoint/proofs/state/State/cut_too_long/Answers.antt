@@ -2,7 +2,7 @@ use Rattle.std.proofs.Common.{Bool, [], sym, subst, ◌∙◌, ◌++◌, if◌th
 use Rattle.hsms_machine.specs.declared.entry.Cause.TheVariants.{Length}
 use Rattle.hsms_endpoint.specs.Reaction.{warns}
 use Rattle.hsms_endpoint.specs.Turn.{cut_by}
-use Rattle.hsms_endpoint.specs.ActionSteps.{Performs}
+use Rattle.hsms_endpoint.specs.InnerActionSteps.{Performs}
 use Rattle.hsms_endpoint.proofs.Acts.{does_then, then_ok}
 use Rattle.hsms_endpoint.proofs.AwaitingReplies.{sound_awaits, peers_transactions_are_none_between_calls}
 use Rattle.hsms_endpoint.proofs.Requests.{can_cut}

@@ -6,7 +6,7 @@ use Rattle.hsms_machine.specs.ViewRules.{is_selected}
 use Rattle.hsms_endpoint.specs.declared.state.State.{State}
 use Rattle.hsms_endpoint.specs.Action.{logs}
 use Rattle.hsms_endpoint.specs.Reaction.{answers_discarded}
-use Rattle.hsms_endpoint.specs.ActionSteps.{Performs}
+use Rattle.hsms_endpoint.specs.InnerActionSteps.{Performs}
 use Rattle.hsms_endpoint.proofs.Acts.{does_then, then_ok}
 use Rattle.hsms_endpoint.proofs.AwaitingReplies.{peers_transactions_are_none_between_calls}
 use Rattle.hsms_endpoint.proofs.AcceptedFrames.{handled_discarded, discarded_awaits_none, discarded_selected, discarded_readable}

@@ -3,7 +3,7 @@ use Rattle.std.specs.Prelude.{Option}
 use Rattle.hsms_frame.specs.declared.header.Header.{Header}
 use Rattle.hsms_machine.specs.View.{oldest_of}
 use Rattle.hsms_endpoint.specs.declared.state.State.{State}
-use Rattle.hsms_endpoint.specs.Expiring.{HasExpired, overdue_of}
+use Rattle.hsms_endpoint.specs.InnerExpiring.{HasExpired, overdue_of}
 use Rattle.hsms_endpoint.proofs.ExpiredData.{begun_to_expire, first_overdue, data_in_time, fewer_left, one_expired, t3_valid}
 use Rattle.hsms_endpoint.proofs.state.State.expire_data.Goals as goal
 

@@ -1,5 +1,5 @@
 use Rattle.std.proofs.Common.{length}
-use Rattle.hsms_endpoint.specs.Expiring.{HasExpired}
+use Rattle.hsms_endpoint.specs.InnerExpiring.{HasExpired}
 use Rattle.hsms_endpoint.proofs.state.State.expire_data.Given as goal
 
 abbrev pub invariant-oldest : goal.invariant-oldest

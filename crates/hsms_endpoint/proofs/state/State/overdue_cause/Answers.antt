@@ -1,7 +1,7 @@
 use Rattle.std.proofs.Common.{◌≡◌, true, false, Some, refl, sym, ap, ◌∙◌}
 use Rattle.hsms_machine.specs.declared.entry.Cause.TheVariants.{T7}
 use Rattle.hsms_machine.specs.View.{oldest_of}
-use Rattle.hsms_endpoint.specs.Expiring.{overdue_of}
+use Rattle.hsms_endpoint.specs.InnerExpiring.{overdue_of}
 use Rattle.hsms_endpoint.specs.Turn.{is_t6_overdue}
 use Rattle.hsms_endpoint.proofs.Overdue.{cause_after, t6_is_due}
 use Rattle.hsms_endpoint.proofs.state.State.overdue_cause.Goals as goal

@@ -1,4 +1,4 @@
-use Rattle.hsms_endpoint.specs.Internals.{after_octets}
+use Rattle.hsms_endpoint.specs.InnerInternals.{after_octets}
 use Rattle.hsms_endpoint.proofs.Acts.{then_ok}
 use Rattle.hsms_endpoint.proofs.ReceivedFrames.{processed_sound, processed_all}
 use Rattle.hsms_endpoint.proofs.state.State.process_input.Goals as goal

@@ -4,8 +4,8 @@ use Rattle.std.proofs.Common.{◌++◌, Ok, Err, Some, None, ◌≡◌, length, 
 use Rattle.hsms_frame.specs.Framing.{FramerState, FramesAs}
 use Rattle.hsms_endpoint.specs.declared.state.State.{State}
 use Rattle.hsms_endpoint.specs.Turn.{cut_by, warns_too_long}
-use Rattle.hsms_endpoint.specs.Internals.{known}
-use Rattle.hsms_endpoint.specs.Invariant.{Completes}
+use Rattle.hsms_endpoint.specs.InnerInternals.{known}
+use Rattle.hsms_endpoint.specs.InnerInvariant.{Completes}
 use Rattle.hsms_endpoint.proofs.Receptions.{begun, within_max, one_more_at, went_down, waits_for_more, is_too_short, is_too_long, shorter, reframed, off_up, kept}
 use Rattle.hsms_endpoint.proofs.Acts.{then_ok}
 use Rattle.hsms_endpoint.proofs.Requests.{can_cut}

@@ -1,5 +1,5 @@
 use Rattle.std.proofs.Common.{length}
-use Rattle.hsms_endpoint.specs.Receiving.{HasReceived}
+use Rattle.hsms_endpoint.specs.InnerReceiving.{HasReceived}
 use Rattle.hsms_endpoint.proofs.state.State.receive_all.Given as goal
 
 abbrev pub invariant-messages : goal.invariant-messages

@@ -4,7 +4,7 @@ use Rattle.hsms_frame.specs.Frame.{Frame}
 use Rattle.hsms_endpoint.specs.declared.answer.Answer.{Answer}
 use Rattle.hsms_endpoint.specs.Answer.{answered}
 use Rattle.hsms_endpoint.specs.Frame.{reply_of}
-use Rattle.hsms_endpoint.specs.AwaitingReply.{IsReplyTo, reply_by}
+use Rattle.hsms_endpoint.specs.InnerAwaitingReply.{IsReplyTo, reply_by}
 use Rattle.hsms_endpoint.proofs.Acts.{then_ok}
 use Rattle.hsms_endpoint.proofs.Messages.{option_through}
 use Rattle.hsms_endpoint.proofs.Primaries.{not_replied, replied, reply_valid, aborts_by, abort_reply}

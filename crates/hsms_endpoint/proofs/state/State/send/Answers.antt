@@ -3,8 +3,8 @@ use Rattle.secs_text.specs.View.{content}
 use Rattle.hsms_frame.specs.Frame.{Frame}
 use Rattle.hsms_machine.specs.declared.entry.Event.TheVariants.{Sent}
 use Rattle.hsms_endpoint.specs.Frame.{message_frame}
-use Rattle.hsms_endpoint.specs.Internals.{after_number}
-use Rattle.hsms_endpoint.specs.ActionSteps.{IsValidEvent}
+use Rattle.hsms_endpoint.specs.InnerInternals.{after_number}
+use Rattle.hsms_endpoint.specs.InnerActionSteps.{IsValidEvent}
 use Rattle.hsms_endpoint.proofs.Acts.{then_ok}
 use Rattle.hsms_endpoint.proofs.Messages.{message_valid, message_sound}
 use Rattle.hsms_endpoint.proofs.state.State.send.Goals as goal

@@ -3,8 +3,8 @@ use Rattle.hsms_frame.specs.Frame.{Frame}
 use Rattle.hsms_machine.specs.declared.entry.Event.TheVariants.{Sent, Down}
 use Rattle.hsms_endpoint.specs.Frame.{bare, separate_req}
 use Rattle.hsms_endpoint.specs.Action.{logs, asks}
-use Rattle.hsms_endpoint.specs.Internals.{after_number}
-use Rattle.hsms_endpoint.specs.ActionSteps.{IsValidEvent}
+use Rattle.hsms_endpoint.specs.InnerInternals.{after_number}
+use Rattle.hsms_endpoint.specs.InnerActionSteps.{IsValidEvent}
 use Rattle.hsms_endpoint.proofs.Acts.{does_then, then_ok}
 use Rattle.hsms_endpoint.proofs.Requests.{separate_valid, separated_down_valid, separated_sound}
 use Rattle.hsms_endpoint.proofs.state.State.separate.Goals as goal

@@ -7,8 +7,8 @@ use Rattle.hsms_machine.specs.Settings.{Parameters}
 use Rattle.hsms_endpoint.specs.declared.state.State.{State}
 use Rattle.hsms_endpoint.specs.Frame.{bare, select_req}
 use Rattle.hsms_endpoint.specs.Action.{logs, asks}
-use Rattle.hsms_endpoint.specs.Internals.{after_number}
-use Rattle.hsms_endpoint.specs.ActionSteps.{IsValidEvent, Performs}
+use Rattle.hsms_endpoint.specs.InnerInternals.{after_number}
+use Rattle.hsms_endpoint.specs.InnerActionSteps.{IsValidEvent, Performs}
 use Rattle.hsms_endpoint.specs.Invariant.{IsSound}
 use Rattle.hsms_endpoint.specs.Turn.{opening_of}
 use Rattle.hsms_endpoint.proofs.Acts.{does_then, then_ok}

@@ -11,7 +11,7 @@ use Rattle.hsms_endpoint.specs.declared.state.State.{State}
 use Rattle.hsms_endpoint.specs.Answer.{quiet}
 use Rattle.hsms_endpoint.specs.Action.{logs}
 use Rattle.hsms_endpoint.specs.Frame.{bare, select_rsp, linktest_rsp}
-use Rattle.hsms_endpoint.specs.AwaitingReply.{is_silent}
+use Rattle.hsms_endpoint.specs.InnerAwaitingReply.{is_silent}
 use Rattle.hsms_endpoint.proofs.Acts.{does_then, then_ok}
 use Rattle.hsms_endpoint.proofs.Controls.{select_rsp_valid, select_settles, linktest_rsp_valid, linktest_settles, status_of}
 use Rattle.hsms_endpoint.proofs.AwaitingReplies.{peers_transactions_are_none_between_calls}

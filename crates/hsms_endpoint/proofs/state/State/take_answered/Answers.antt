@@ -2,9 +2,9 @@ use Rattle.std.proofs.Common.{◌≡◌, ◌∙◌, ap, subst, sym}
 use Rattle.hsms_frame.specs.Frame.{Frame}
 use Rattle.hsms_endpoint.specs.declared.state.State.{State}
 use Rattle.hsms_endpoint.specs.Answer.{answered}
-use Rattle.hsms_endpoint.specs.Internals.{after_asking}
+use Rattle.hsms_endpoint.specs.InnerInternals.{after_asking}
 use Rattle.hsms_endpoint.specs.Reaction.{answers_primary}
-use Rattle.hsms_endpoint.specs.AwaitingReply.{IsAsked, Settles}
+use Rattle.hsms_endpoint.specs.InnerAwaitingReply.{IsAsked, Settles}
 use Rattle.hsms_endpoint.proofs.Acts.{then_ok}
 use Rattle.hsms_endpoint.proofs.AcceptedFrames.{handled_primary, asked_by_primary, can_take_later, counted}
 use Rattle.hsms_endpoint.proofs.state.State.take_answered.Goals as goal

@@ -2,8 +2,8 @@ use Rattle.std.proofs.Common.{sym, ap, subst, ◌∙◌}
 use Rattle.hsms_frame.specs.Frame.{Frame}
 use Rattle.hsms_machine.specs.declared.entry.Event.TheVariants.{Sent}
 use Rattle.hsms_endpoint.specs.Frame.{bare, linktest_req}
-use Rattle.hsms_endpoint.specs.Internals.{after_number}
-use Rattle.hsms_endpoint.specs.ActionSteps.{IsValidEvent}
+use Rattle.hsms_endpoint.specs.InnerInternals.{after_number}
+use Rattle.hsms_endpoint.specs.InnerActionSteps.{IsValidEvent}
 use Rattle.hsms_endpoint.specs.Invariant.{IsSound}
 use Rattle.hsms_endpoint.proofs.Acts.{then_ok}
 use Rattle.hsms_endpoint.proofs.Requests.{linktest_valid, linktest_sound}

@@ -1,8 +1,8 @@
 use Rattle.std.proofs.Common.{ℕ, List, sym, subst}
 use Rattle.hsms_frame.specs.declared.header.Header.{Header}
-use Rattle.hsms_endpoint.specs.Internals.{at_later}
-use Rattle.hsms_endpoint.specs.ActionSteps.{Performs}
-use Rattle.hsms_endpoint.specs.Expiring.{IsLate, HasExpired, warnings_of, MayWarn}
+use Rattle.hsms_endpoint.specs.InnerInternals.{at_later}
+use Rattle.hsms_endpoint.specs.InnerActionSteps.{Performs}
+use Rattle.hsms_endpoint.specs.InnerExpiring.{IsLate, HasExpired, warnings_of, MayWarn}
 use Rattle.hsms_endpoint.proofs.Overdue.{nothing_is_overdue_after_tick, can_cut_overdue}
 use Rattle.hsms_endpoint.proofs.Acts.{then_ok}
 use Rattle.hsms_endpoint.proofs.Expiries.{late_at, expired_may_warn, expired_then_cut, expired_then_warned}

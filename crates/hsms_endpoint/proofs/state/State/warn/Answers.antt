@@ -3,7 +3,7 @@ use Rattle.hsms_machine.specs.declared.settings.Role.{Role}
 use Rattle.hsms_endpoint.specs.Action.{asks}
 use Rattle.hsms_endpoint.specs.Frame.{warning}
 use Rattle.hsms_endpoint.specs.Reaction.{is_equipment}
-use Rattle.hsms_endpoint.specs.ActionSteps.{Performs}
+use Rattle.hsms_endpoint.specs.InnerActionSteps.{Performs}
 use Rattle.hsms_endpoint.proofs.Acts.{then_ok}
 use Rattle.hsms_endpoint.proofs.AwaitingReplies.{does_nothing}
 use Rattle.hsms_endpoint.proofs.Warned.{warn_valid, warn_awaits, warn_same}

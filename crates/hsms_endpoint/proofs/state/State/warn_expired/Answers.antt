@@ -2,10 +2,10 @@ use Rattle.std.proofs.Common.{List, [], refl, ap, subst, ◌∙◌}
 use Rattle.std.proofs.lemmas.List.{take_all}
 use Rattle.hsms_frame.specs.declared.header.Header.{Header}
 use Rattle.hsms_endpoint.specs.Action.{Act}
-use Rattle.hsms_endpoint.specs.Expiring.{warnings_of}
-use Rattle.hsms_endpoint.specs.ActionSteps.{Performs}
+use Rattle.hsms_endpoint.specs.InnerExpiring.{warnings_of}
+use Rattle.hsms_endpoint.specs.InnerActionSteps.{Performs}
 use Rattle.hsms_endpoint.specs.Reaction.{is_equipment}
-use Rattle.hsms_endpoint.specs.Invariant.{Completes}
+use Rattle.hsms_endpoint.specs.InnerInvariant.{Completes}
 use Rattle.hsms_endpoint.specs.Turn.{is_up}
 use Rattle.hsms_endpoint.proofs.AwaitingReplies.{sound_awaits, peers_transactions_are_none_between_calls, awaits_own, does_nothing}
 use Rattle.hsms_endpoint.proofs.LoggedEntries.{no_warning, one_warned, may_warn, still_may_warn}

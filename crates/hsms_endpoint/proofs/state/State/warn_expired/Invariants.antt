@@ -1,6 +1,6 @@
 use Rattle.std.proofs.Common.{◌≡◌, take}
-use Rattle.hsms_endpoint.specs.Invariant.{Completes}
-use Rattle.hsms_endpoint.specs.Expiring.{MayWarn, warnings_of}
+use Rattle.hsms_endpoint.specs.InnerInvariant.{Completes}
+use Rattle.hsms_endpoint.specs.InnerExpiring.{MayWarn, warnings_of}
 use Rattle.hsms_endpoint.proofs.state.State.warn_expired.Given as goal
 
 abbrev pub invariant-loop-header : goal.invariant-loop-header

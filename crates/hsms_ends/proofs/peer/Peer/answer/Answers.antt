@@ -1,6 +1,7 @@
 use Rattle.std.proofs.Common.{◌≡◌, ◌≤◌, ◌<◌, ◌-◌, ◌++◌, ℕ, List, min, length, take, drop, Vec, Global, sym, ap, ◌∙◌, arith}
 use Rattle.std.proofs.lemmas.List.{append-nil, take_all, length-drop}
-use Rattle.hsms_ends.specs.ScriptedLink.{PeerState, given_of, pass_over}
+use Rattle.hsms_ends.specs.ScriptedLink.{pass_over}
+use Rattle.hsms_ends.specs.InnerScriptedLink.{PeerState, given_of}
 use Rattle.hsms_ends.proofs.Peers.{given_none, given_more, none_at, octets_at, gives_octets, answers_closed, answers_quiet}
 use Rattle.hsms_ends.proofs.peer.Peer.answer.Goals as goal
 

@@ -1,6 +1,7 @@
 use Rattle.std.proofs.Common.{◌≡◌, ◌+◌, ◌∙◌, ◌∷◌, [], false, length, length-append, ap, sym, subst, arith}
 use Rattle.std.specs.Prelude.{Result, Ok, Err, OnOk, OnErr}
-use Rattle.hsms_machine.specs.OpeningOrder.{AreListed, AreUntil, uses}
+use Rattle.hsms_machine.specs.OpeningOrder.{AreUntil}
+use Rattle.hsms_machine.specs.InnerOpeningOrder.{AreListed, uses}
 use Rattle.hsms_machine.proofs.OtherEntries.{listed-push}
 use Rattle.hsms_machine.proofs.open_transactions.Transactions.push.Goals as goal
 

@@ -1,5 +1,5 @@
 use Rattle.std.proofs.Common.{◌≡◌, ◌≤◌, ◌∙◌, ◌++◌, [], not, true, false, length, filter, option_to_list, ap, sym, subst, arith}
-use Rattle.hsms_machine.specs.OpeningOrder.{uses}
+use Rattle.hsms_machine.specs.InnerOpeningOrder.{uses}
 use Rattle.hsms_machine.specs.Transaction.{concludes}
 use Rattle.hsms_machine.proofs.Mapped.{concludes_only}
 use Rattle.hsms_machine.proofs.OtherEntries.{nothing_queued, filter_oldest, filter_later, listed-filter, fewer}

@@ -1,6 +1,6 @@
 use Rattle.std.proofs.Common.{◌≡◌, ◌≤◌, ◌==◌, ◌∙◌, not, true, false, None, length, filter, option_to_list, ap, sym, subst, arith}
 use Rattle.std.proofs.lemmas.Bool.{eqb-true}
-use Rattle.hsms_machine.specs.OpeningOrder.{uses}
+use Rattle.hsms_machine.specs.InnerOpeningOrder.{uses}
 use Rattle.hsms_machine.proofs.OtherEntries.{oldest_out, filter_oldest, filter_later, listed-filter, fewer}
 use Rattle.hsms_machine.proofs.open_transactions.Transactions.remove_system.Goals as goal
 

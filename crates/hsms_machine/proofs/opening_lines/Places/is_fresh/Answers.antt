@@ -2,8 +2,8 @@ use Rattle.std.proofs.Common.{ap, ◌∙◌}
 use Rattle.hsms_machine.specs.declared.entry.Act.TheVariants.{Sent as ActSent, Taken as ActTaken}
 use Rattle.hsms_machine.specs.declared.view.View.{View}
 use Rattle.hsms_machine.specs.Message.{is_request}
-use Rattle.hsms_machine.specs.OpeningOrder.{uses}
-use Rattle.hsms_machine.specs.OpeningLines.{is_fresh}
+use Rattle.hsms_machine.specs.InnerOpeningOrder.{uses}
+use Rattle.hsms_machine.specs.InnerOpeningLines.{is_fresh}
 use Rattle.hsms_machine.proofs.Parts.{fresh_where}
 use Rattle.hsms_machine.proofs.opening_lines.Places.is_fresh.Goals as goal
 

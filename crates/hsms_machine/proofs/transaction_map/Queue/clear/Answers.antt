@@ -1,6 +1,6 @@
 use Rattle.std.proofs.Common.{ap, sym, subst, arith}
 use Rattle.std.specs.Map.{values_of}
-use Rattle.hsms_machine.specs.OpeningOrder.{AreKept}
+use Rattle.hsms_machine.specs.InnerOpeningOrder.{AreKept}
 use Rattle.hsms_machine.proofs.transaction_map.Queue.clear.Goals as goal
 
 pub invariant_of-self : goal.invariant_of-self

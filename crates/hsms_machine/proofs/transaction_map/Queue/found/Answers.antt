@@ -3,7 +3,7 @@ use Rattle.std.specs.List.{find}
 use Rattle.std.specs.Map.{values_of}
 use Rattle.std.proofs.lemmas.Bool.{eq-eqb}
 use Rattle.hsms_machine.specs.declared.open_transactions.Transaction.{Transaction}
-use Rattle.hsms_machine.specs.OpeningOrder.{AreApart, uses}
+use Rattle.hsms_machine.specs.InnerOpeningOrder.{AreApart, uses}
 use Rattle.hsms_machine.proofs.Mapped.{lookup-find, find-some}
 use Rattle.hsms_machine.proofs.KeptTransactions.{value-subsequent, found_passes, found_at, removed_at, unused_following, unused_none, uses-drop, apart-drop}
 use Rattle.hsms_machine.proofs.transaction_map.Queue.found.Goals as goal

@@ -1,6 +1,6 @@
 use Rattle.std.proofs.Common.{◌∙◌, ap, sym, subst}
 use Rattle.std.specs.Map.{values_of}
-use Rattle.hsms_machine.specs.OpeningOrder.{AreKept}
+use Rattle.hsms_machine.specs.InnerOpeningOrder.{AreKept}
 use Rattle.hsms_machine.proofs.KeptTransactions.{kept-dropped, values-drop}
 use Rattle.hsms_machine.proofs.transaction_map.Queue.let_go.Goals as goal
 

@@ -1,7 +1,8 @@
 use Rattle.std.proofs.Common.{◌≡◌, ◌++◌, ◌∷◌, [], ◌∙◌, ap, not, sym, subst, nat_eq, true, false, drop, is_some, None}
 use Rattle.std.specs.Map.{values_of, lookup}
 use Rattle.indexmap.proofs.CallerLemmas.{insert_entry-new}
-use Rattle.hsms_machine.specs.OpeningOrder.{AreKept, AreUntil, uses}
+use Rattle.hsms_machine.specs.OpeningOrder.{AreUntil}
+use Rattle.hsms_machine.specs.InnerOpeningOrder.{AreKept, uses}
 use Rattle.hsms_machine.proofs.Mapped.{lookup-fresh, lookup-uses, is_none_at}
 use Rattle.hsms_machine.proofs.KeptTransactions.{kept-push, open-push, kept-dropped, values-drop, insert-closed, values-push}
 use Rattle.hsms_machine.proofs.Runs.{on_err}

@@ -1,6 +1,6 @@
 use Rattle.std.proofs.Common.{◌≡◌, ◌+◌, ◌-◌, ◌<◌, ◌∙◌, ap, sym, subst, remove, drop, length, arith, refl}
 use Rattle.std.specs.Map.{values_of}
-use Rattle.hsms_machine.specs.OpeningOrder.{AreKept}
+use Rattle.hsms_machine.specs.InnerOpeningOrder.{AreKept}
 use Rattle.hsms_machine.proofs.KeptTransactions.{kept-remove, open-remove, last_removed}
 use Rattle.hsms_machine.proofs.transaction_map.Queue.remove_later.Goals as goal
 

@@ -1,5 +1,5 @@
 use Rattle.std.proofs.Common.{◌≡◌, sym, false}
-use Rattle.hsms_machine.specs.Message.{may_conclude}
+use Rattle.hsms_machine.specs.InnerMessage.{may_conclude}
 use Rattle.hsms_machine.specs.Transaction.{concludes}
 use Rattle.hsms_machine.proofs.Mapped.{filter_none, any_concluded-none}
 use Rattle.hsms_machine.proofs.view.View.close_in.Goals as goal

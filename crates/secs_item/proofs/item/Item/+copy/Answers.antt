@@ -1,5 +1,6 @@
 use Rattle.std.proofs.Common.{rules, sym, ap, ◌∙◌}
-use Rattle.secs_item.specs.Item.{view, views, list}
+use Rattle.secs_item.specs.Item.{view, list}
+use Rattle.secs_item.specs.InnerItem.{views}
 use Rattle.secs_item.proofs.Views.{view-List, next_copied, all_copied}
 use Rattle.secs_item.proofs.Variants.{is_no_list}
 use Rattle.secs_item.proofs.item.Item.+copy.Goals as goal

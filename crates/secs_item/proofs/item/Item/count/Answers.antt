@@ -1,5 +1,6 @@
 use Rattle.std.proofs.Common.{◌≡◌, ap, ◌∙◌, arith}
-use Rattle.secs_item.specs.Item.{list, view, views}
+use Rattle.secs_item.specs.Item.{list, view}
+use Rattle.secs_item.specs.InnerItem.{views}
 use Rattle.secs_item.proofs.Views.{view-List}
 use Rattle.secs_item.proofs.ShortestEncodings.{count-views}
 use Rattle.secs_item.proofs.item.Item.count.Goals as goal

@@ -1,7 +1,7 @@
 use Rattle.std.proofs.Common.{◌≤◌, ◌+◌, ◌*◌, ◌++◌, codes, take}
 use Rattle.std.specs.List.{flat_map}
 use Rattle.secs_text.specs.Printed.{two_digits}
-use Rattle.secs_text.specs.BlockOutput.{AppendsText}
+use Rattle.secs_text.specs.InnerBlockOutput.{AppendsText}
 use Rattle.secs_text.proofs.formats.FloatsWordFormat.append_chunk.Given as goal
 
 abbrev pub invariant-loop-octet : goal.invariant-loop-octet

@@ -1,7 +1,7 @@
 use Rattle.std.proofs.Common.{◌∙◌, ap, arith, rules}
-use Rattle.secs_text.specs.RemainingTokens.{left}
-use Rattle.secs_text.specs.ParseSteps.{count_seen}
-use Rattle.secs_text.specs.TokenView.{seen, then_tokens}
+use Rattle.secs_text.specs.InnerRemainingTokens.{left}
+use Rattle.secs_text.specs.InnerParseSteps.{count_seen}
+use Rattle.secs_text.specs.InnerTokenView.{seen, then_tokens}
 use Rattle.secs_text.proofs.ParsingItems.{none_listed, element_listed, list_unfit, list_patched, two_kept, item_patched}
 use Rattle.secs_text.proofs.parsing.items.+parse_item.Goals as goal
 

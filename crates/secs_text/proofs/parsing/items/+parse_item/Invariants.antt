@@ -1,6 +1,6 @@
 use Rattle.std.proofs.Common.{◌≤◌, ◌+◌, ◌*◌}
-use Rattle.secs_text.specs.RemainingTokens.{left, octets_left}
-use Rattle.secs_text.specs.ParseSteps.{count_seen}
+use Rattle.secs_text.specs.InnerRemainingTokens.{left, octets_left}
+use Rattle.secs_text.specs.InnerParseSteps.{count_seen}
 use Rattle.secs_text.proofs.ParsingItems.{ListedSoFar}
 use Rattle.secs_text.proofs.parsing.items.+parse_item.Given as goal
 

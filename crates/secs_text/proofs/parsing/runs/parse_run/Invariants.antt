@@ -1,6 +1,6 @@
 use Rattle.std.proofs.Common.{◌≤◌}
-use Rattle.secs_text.specs.RemainingTokens.{left, octets_left}
-use Rattle.secs_text.specs.EncodedText.{CollectsMore}
+use Rattle.secs_text.specs.InnerRemainingTokens.{left, octets_left}
+use Rattle.secs_text.specs.InnerEncodedText.{CollectsMore}
 use Rattle.secs_text.proofs.parsing.runs.parse_run.Given as goal
 
 abbrev pub invariant-loop-octets : goal.invariant-loop-octets

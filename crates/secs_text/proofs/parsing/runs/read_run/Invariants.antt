@@ -1,5 +1,5 @@
 use Rattle.std.proofs.Common.{◌≤◌, ◌-◌, ◌*◌, take, drop}
-use Rattle.secs_text.specs.ByteWord.{AreShortWords}
+use Rattle.secs_text.specs.InnerByteWord.{AreShortWords}
 use Rattle.secs_text.proofs.parsing.runs.read_run.Given as goal
 
 abbrev pub invariant-loop-read : goal.invariant-loop-read

@@ -1,6 +1,6 @@
 use Rattle.std.proofs.Common.{◌≡◌, ◌<◌, ◌≤◌, ◌+◌, ◌-◌, ◌*◌, ◌/◌, ◌++◌, length, take, drop, get_or, slice_set, sym, ap, ap₂, ◌∙◌, subst, arith}
 use Rattle.std.proofs.lemmas.List.{drop-drop, get_or-drop, get_or-take, length-drop, length-set, length-take-le, take-append-drop, take_more_set}
-use Rattle.secs_text.specs.ByteWord.{AreShortWords}
+use Rattle.secs_text.specs.InnerByteWord.{AreShortWords}
 use Rattle.secs_text.proofs.ShortWords.{part_at, part_within, parts_within, words_more, times_next}
 use Rattle.secs_text.proofs.parsing.runs.read_words.Goals as goal
 

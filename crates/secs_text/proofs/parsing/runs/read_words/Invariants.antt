@@ -1,5 +1,5 @@
 use Rattle.std.proofs.Common.{◌≡◌, ◌+◌, ◌*◌, length, take, drop}
-use Rattle.secs_text.specs.ByteWord.{AreShortWords}
+use Rattle.secs_text.specs.InnerByteWord.{AreShortWords}
 use Rattle.secs_text.proofs.parsing.runs.read_words.Given as goal
 
 abbrev pub invariant-loop-i : goal.invariant-loop-i

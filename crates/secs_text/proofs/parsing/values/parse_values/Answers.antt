@@ -1,7 +1,7 @@
 use Rattle.std.proofs.Common.{◌∙◌, ap, rules}
-use Rattle.secs_text.specs.RemainingTokens.{left}
-use Rattle.secs_text.specs.ParseSteps.{count_seen}
-use Rattle.secs_text.specs.TokenView.{seen, then_tokens}
+use Rattle.secs_text.specs.InnerRemainingTokens.{left}
+use Rattle.secs_text.specs.InnerParseSteps.{count_seen}
+use Rattle.secs_text.specs.InnerTokenView.{seen, then_tokens}
 use Rattle.secs_text.proofs.ParsingValues.{none_collected, word_collected, quoted_collected, no_word, values_read}
 use Rattle.secs_text.proofs.parsing.values.parse_values.Goals as goal
 

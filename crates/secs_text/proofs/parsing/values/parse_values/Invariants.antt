@@ -1,7 +1,7 @@
 use Rattle.std.proofs.Common.{◌≤◌}
-use Rattle.secs_text.specs.RemainingTokens.{left, octets_left}
-use Rattle.secs_text.specs.ParseSteps.{count_seen}
-use Rattle.secs_text.specs.EncodedText.{Collected}
+use Rattle.secs_text.specs.InnerRemainingTokens.{left, octets_left}
+use Rattle.secs_text.specs.InnerParseSteps.{count_seen}
+use Rattle.secs_text.specs.InnerEncodedText.{Collected}
 use Rattle.secs_text.proofs.parsing.values.parse_values.Given as goal
 
 abbrev pub invariant-loop-word : goal.invariant-loop-word

@@ -1,7 +1,7 @@
 use Rattle.std.proofs.Common.{◌≡◌, ◌≤◌, ◌-◌, ◌+◌, ◌*◌, ◌++◌, ℕ, Ok, length, drop, codes}
 use Rattle.secs_item.specs.Item.{Elements}
-use Rattle.secs_item.specs.Decoding.{item_at, elements_by}
-use Rattle.secs_text.specs.BlockOutput.{IsPlace}
+use Rattle.secs_item.specs.InnerDecoding.{item_at, elements_by}
+use Rattle.secs_text.specs.InnerBlockOutput.{IsPlace}
 use Rattle.secs_text.specs.Printed.{printed_elements}
 use Rattle.secs_text.proofs.PrintingItems.{Putting}
 use Rattle.secs_text.proofs.printing.items.put_elements.Given as goal

@@ -5,7 +5,7 @@ use Rattle.byteorder.specs.Endian.{big_number}
 use Rattle.secs_item.specs.declared.format.Format.TheVariants as format
 use Rattle.secs_item.specs.Decoding.{octet, truth, signed}
 use Rattle.secs_item.proofs.Bodies.{each_octet}
-use Rattle.secs_text.specs.BlockOutput.{opening_of, each_words}
+use Rattle.secs_text.specs.InnerBlockOutput.{opening_of, each_words}
 use Rattle.secs_text.specs.Printed.{hexadecimal, truth_word, printed_text}
 use Rattle.secs_text.proofs.Blocks.{puts_same, puts_then}
 use Rattle.secs_text.proofs.printing.items.put_item_of_values.Goals as goal

@@ -1,5 +1,5 @@
 use Rattle.std.proofs.Common.{◌≡◌, ◌≤◌, ◌+◌, ◌*◌, ◌++◌, ℕ, List, drop}
-use Rattle.secs_text.specs.BlockOutput.{AppendsText}
+use Rattle.secs_text.specs.InnerBlockOutput.{AppendsText}
 use Rattle.secs_text.specs.Printed.{printed_text}
 use Rattle.secs_text.proofs.printing.text.append_octets.Given as goal
 

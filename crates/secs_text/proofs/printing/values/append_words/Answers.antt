@@ -1,6 +1,6 @@
 use Rattle.std.proofs.Common.{◌≡◌, ◌+◌, ◌*◌, ◌≤◌, ◌<◌, length, ap, arith}
 use Rattle.std.proofs.lemmas.List.{length-drop}
-use Rattle.secs_text.specs.BlockOutput.{words_of}
+use Rattle.secs_text.specs.InnerBlockOutput.{words_of}
 use Rattle.secs_text.proofs.Widths.{width_some}
 use Rattle.secs_text.proofs.PrintingValues.{appends_next, appends_all}
 use Rattle.secs_text.proofs.printing.values.append_words.Goals as goal

@@ -1,5 +1,5 @@
 use Rattle.std.proofs.Common.{◌≤◌, ◌+◌, ◌*◌, length}
-use Rattle.secs_text.specs.BlockOutput.{words_of}
+use Rattle.secs_text.specs.InnerBlockOutput.{words_of}
 use Rattle.secs_text.proofs.PrintingValues.{AppendedSoFar}
 use Rattle.secs_text.proofs.printing.values.append_words.Given as goal
 

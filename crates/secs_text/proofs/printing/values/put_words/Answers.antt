@@ -1,6 +1,6 @@
 use Rattle.std.proofs.Common.{length, ap, ◌∙◌, arith}
 use Rattle.std.proofs.lemmas.List.{length-take}
-use Rattle.secs_text.specs.BlockOutput.{words_of}
+use Rattle.secs_text.specs.InnerBlockOutput.{words_of}
 use Rattle.secs_text.proofs.Widths.{width_chunk, width_some}
 use Rattle.secs_text.proofs.PrintingValues.{words_start, words_chunk, words_end, words_of_chunk}
 use Rattle.secs_text.proofs.printing.values.put_words.Goals as goal

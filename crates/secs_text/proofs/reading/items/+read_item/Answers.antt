@@ -1,11 +1,12 @@
 use Rattle.std.proofs.Common.{◌∙◌, ◌%◌, ◌∷◌, List, ℕ, ap, sym, length, arith}
 use Rattle.secs_item.specs.Format.{value_size}
-use Rattle.secs_item.specs.Item.{list, values, views}
+use Rattle.secs_item.specs.Item.{list, values}
+use Rattle.secs_item.specs.InnerItem.{views}
 use Rattle.secs_item.specs.Decoding.{values_of}
-use Rattle.secs_text.specs.RemainingTokens.{left}
+use Rattle.secs_text.specs.InnerRemainingTokens.{left}
 use Rattle.secs_text.specs.ParserStates.{Before, walk, in_item, closed}
-use Rattle.secs_text.specs.ParseSteps.{count_seen}
-use Rattle.secs_text.specs.TokenView.{seen, then_tokens}
+use Rattle.secs_text.specs.InnerParseSteps.{count_seen}
+use Rattle.secs_text.specs.InnerTokenView.{seen, then_tokens}
 use Rattle.secs_text.proofs.ReadingValues.{collected_complete, collected_values}
 use Rattle.secs_text.proofs.Views.{views_push}
 use Rattle.secs_text.proofs.reading.items.+read_item.Goals as goal

@@ -1,8 +1,9 @@
 use Rattle.std.proofs.Common.{◌≡◌, ◌≤◌, ◌+◌, ◌*◌, length}
-use Rattle.secs_item.specs.Item.{views, list, no_elements}
-use Rattle.secs_text.specs.RemainingTokens.{left, octets_left}
+use Rattle.secs_item.specs.Item.{list, no_elements}
+use Rattle.secs_item.specs.InnerItem.{views}
+use Rattle.secs_text.specs.InnerRemainingTokens.{left, octets_left}
 use Rattle.secs_text.specs.ParserStates.{Rules, Before, walk, in_item}
-use Rattle.secs_text.specs.ParseSteps.{count_seen}
+use Rattle.secs_text.specs.InnerParseSteps.{count_seen}
 use Rattle.secs_text.proofs.reading.items.+read_item.Given as goal
 
 abbrev pub decreases-elements : goal.decreases-elements

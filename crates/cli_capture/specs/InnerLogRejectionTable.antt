@@ -10,11 +10,12 @@ use Rattle.cli_capture.specs.declared.report.Report.{Report}
 use Rattle.cli_capture.specs.declared.incomplete.Shortfall.{Shortfall}
 use Rattle.cli_capture.specs.declared.connection_table.Capture.{Capture}
 use Rattle.cli_capture.specs.declared.connection_table.Table.{Table}
-use Rattle.cli_capture.specs.LogRejection.{EndsRefused, TakesRefused}
-use Rattle.cli_capture.specs.StopError.{IsRefused}
-use Rattle.cli_capture.specs.LogRejectionMidstream.{EndsJoinedRefused, TakesJoinedRefused}
+use Rattle.cli_capture.specs.InnerLogRejection.{EndsRefused, TakesRefused}
+use Rattle.cli_capture.specs.InnerStopError.{IsRefused}
+use Rattle.cli_capture.specs.InnerLogRejectionMidstream.{EndsJoinedRefused, TakesJoinedRefused}
 use Rattle.cli_capture.specs.MidstreamConnection.{Brought, seen_brought}
-use Rattle.cli_capture.specs.ConnectionTable.{Begins, BeginsFlow, BeginsWith, EndsFlows, HasTime, IsFollowed, ReplacesFlow, flow_of, brought_by}
+use Rattle.cli_capture.specs.ConnectionTable.{HasTime}
+use Rattle.cli_capture.specs.InnerConnectionTable.{Begins, BeginsFlow, BeginsWith, EndsFlows, IsFollowed, ReplacesFlow, flow_of, brought_by}
 
 -- the one before, which ends since another one replaces it
 abbrev pub ReplacesRefused : Pair → Table → Stop → Report → Report → Type 0

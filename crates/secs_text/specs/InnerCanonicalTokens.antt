@@ -6,7 +6,7 @@ use Rattle.secs_item.specs.declared.format.Format.{Format}
 use Rattle.secs_text.specs.declared.token.Count.{Count}
 use Rattle.secs_text.specs.declared.token.Token.{Token}
 use Rattle.secs_text.specs.Octets.{is_white, is_digit, is_of_word}
-use Rattle.secs_text.specs.TokenView.{seen, is_last}
+use Rattle.secs_text.specs.InnerTokenView.{seen, is_last}
 use Rattle.secs_text.specs.Token as math
 use Rattle.secs_text.specs.Token.{Placed, Front, whole, front}
 use Rattle.secs_text.specs.TypeName.{format_named}

@@ -13,9 +13,10 @@ use Rattle.hsms_ends.specs.declared.serving.ServedScript.{ServedScript}
 use Rattle.hsms_ends.specs.declared.fault.ServeFault.{ServeFault}
 use Rattle.hsms_ends.specs.declared.fault.ServeFault.TheVariants as serve
 use Rattle.hsms_ends.specs.Link.{LinkState}
-use Rattle.hsms_ends.specs.Output.{LogGrows, log_lines}
+use Rattle.hsms_ends.specs.Output.{LogGrows}
+use Rattle.hsms_ends.specs.InnerOutput.{log_lines}
 use Rattle.hsms_ends.specs.Serving.{is_complete}
-use Rattle.hsms_ends.specs.ServeSteps.{ServesEnd}
+use Rattle.hsms_ends.specs.InnerServeSteps.{ServesEnd}
 use Rattle.hsms_ends.specs.Reconnect.{Connection, entries_all, AreServed, AnswersAgain, LogStopsLast}
 
 -- The script of a connection after `done` others.

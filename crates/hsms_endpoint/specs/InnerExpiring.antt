@@ -14,7 +14,7 @@ use Rattle.hsms_endpoint.specs.Action.{Act, asks}
 use Rattle.hsms_endpoint.specs.Reaction.{is_equipment}
 use Rattle.hsms_machine.specs.OpeningOrder.{IsOrdered}
 use Rattle.hsms_endpoint.specs.Turn.{is_up, is_unselected, expired_at, expiry}
-use Rattle.hsms_endpoint.specs.ActionSteps.{Performs}
+use Rattle.hsms_endpoint.specs.InnerActionSteps.{Performs}
 
 -- Holds for a steady endpoint, except that timers may have expired at its current time.
 pub record IsLate (end : State) : Type 0 where

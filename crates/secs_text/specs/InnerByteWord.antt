@@ -1,6 +1,6 @@
 -- Words of values that are single bytes, as they are printed (project-specific notation).
 use Rattle.std.specs.Prelude.{◌≡◌, ℕ, List, [], ◌∷◌, ◌++◌, Option, Some, length}
-use Rattle.secs_text.specs.CanonicalTokens.{IsWord}
+use Rattle.secs_text.specs.InnerCanonicalTokens.{IsWord}
 
 -- Holds if the text is a space and a word that represents this byte.
 pub record IsShortWord (reads : List ℕ → Option (List ℕ)) (octet : ℕ) (text : List ℕ) : Type 0 where

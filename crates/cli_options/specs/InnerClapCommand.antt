@@ -4,7 +4,8 @@ use Rattle.clap.specs.Words.{App, Rule, Shape, new_app, with_subcommand}
 use Rattle.cli_options.specs.declared.clap_command.Subcommand.{Subcommand}
 use Rattle.cli_options.specs.declared.option_tables.Described.{Described}
 use Rattle.cli_options.specs.declared.option_tables.Described.TheVariants.{Flag, Word, Needed, Number}
-use Rattle.cli_options.specs.OptionValues.{flag_option, needed_option, described_number, option_of, text_option}
+use Rattle.cli_options.specs.OptionValues.{flag_option, needed_option, option_of, text_option}
+use Rattle.cli_options.specs.InnerOptionValues.{described_number}
 
 -- The option that is described.
 abbrev pub rule_described : Described → Rule

@@ -21,7 +21,8 @@ use Rattle.hsms_ends.specs.declared.serving.ServedScript.{ServedScript}
 use Rattle.hsms_ends.specs.declared.fault.ServeFault.{ServeFault}
 use Rattle.hsms_ends.specs.declared.fault.ServeFault.TheVariants as serve
 use Rattle.hsms_ends.specs.Link.{LinkState, LinkInput, both, ProcessesInput, processed_nothing, processed_time}
-use Rattle.hsms_ends.specs.Output.{PutsOut, LogGrows, LogStops, LogFailsIn, IsEnding, log_lines, sent_octets}
+use Rattle.hsms_ends.specs.Output.{LogGrows, LogStops, IsEnding, sent_octets}
+use Rattle.hsms_ends.specs.InnerOutput.{PutsOut, LogFailsIn, log_lines}
 use Rattle.hsms_ends.specs.Turns.{After, Rest, Turn, has_gone, Heeds, Continues, IsTurn, AreTurns, entries_after, entries_rest, entries_turn, entries_turns, last_after, last_rest, last_turn, moment_after, processed_rest, processed_turn, processed_turns, refused_rest, refused_turn, refused_turns}
 use Rattle.hsms_ends.specs.Serving.{Story, IsStory, IsLost, IsWhole, IsStarted, has_lost, entries_of, reception_of, refused_of, turns_begun, whole_turns, entries_cut, processed_cut, refused_cut, begun_cut, lost_entries, last_cut, last_call, count_after, steps_of, LeavesSteps, MayHaveFailed, LinkTook, failures_after}
 

@@ -13,8 +13,8 @@ use Rattle.explain_statistics.specs.declared.failure_counts.Tally.{Tally}
 use Rattle.explain_lines.specs.Counted.{counted}
 use Rattle.explain_statistics.specs.EntryCounts.{counts_of}
 use Rattle.explain_session.specs.RepairedSession.{HasProgress}
-use Rattle.explain_statistics.specs.FirstFailure.{FailsFirst}
-use Rattle.explain_session.specs.RepairedLines.{ContinuesWith}
+use Rattle.explain_statistics.specs.InnerFirstFailure.{FailsFirst}
+use Rattle.explain_session.specs.InnerRepairedLines.{ContinuesWith}
 
 -- ---- lines
 

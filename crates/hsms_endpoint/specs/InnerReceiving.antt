@@ -5,7 +5,7 @@ use Rattle.hsms_frame.specs.Frame.{Frame}
 use Rattle.hsms_machine.specs.declared.entry.Entry.{Entry}
 use Rattle.hsms_endpoint.specs.declared.state.State.{State}
 use Rattle.hsms_endpoint.specs.EndState.{EndState}
-use Rattle.hsms_endpoint.specs.Internals.{known}
+use Rattle.hsms_endpoint.specs.InnerInternals.{known}
 use Rattle.hsms_endpoint.specs.Answer.{Answered}
 use Rattle.hsms_endpoint.specs.Turn.{Handles, Receives}
 use Rattle.hsms_endpoint.specs.End.{Extends}

@@ -29,7 +29,8 @@ use Rattle.hsms_machine.specs.Transaction.{SentData, SentControl, opened_as_at, 
 use Rattle.hsms_machine.specs.View.{own_open_of}
 use Rattle.hsms_endpoint.specs.declared.state.State.{State}
 use Rattle.hsms_endpoint.specs.Turn.{is_up, is_unselected, BreaksAsTaken}
-use Rattle.hsms_endpoint.specs.ActionSteps.{IsCalm, IsValidEvent, Performs}
+use Rattle.hsms_endpoint.specs.ActionSteps.{IsCalm}
+use Rattle.hsms_endpoint.specs.InnerActionSteps.{IsValidEvent, Performs}
 
 -- Holds if the connection is up, nothing is overdue, and the peer waits for answers to these requests.
 pub record PeerAwaits (end : State) (primaries controls : List Transaction) : Type 0 where
