@@ -47,28 +47,26 @@ CRATES = {
 }
 
 
-def exported_from(source):
-    """Returns the names that a crate exports from a source."""
-    if source.module == "laws":
-        return None
-    lib = next(it for it in sources_of(source.crate) if it.module == "lib")
-    return {name for name, path in lib.exports.items() if path.split("::")[-1] == source.module.split("/")[-1]}
+def exported_by(crate):
+    """Returns the names that a crate exports, each with the last module of its path."""
+    lib = next(it for it in sources_of(crate) if it.module == "lib")
+    return {name: path.split("::")[-1] for name, path in lib.exports.items()}
 
 
-def is_exported(block, line, names):
-    """Whether a crate exports a function: it is named so, or its type is."""
+def is_exported(source, block, line):
+    """Whether a crate exports a function of a source: it is named so, or its type is. A law is exported."""
     own = re.search(r"\bfn (\w+)", line)[1]
     of_type = re.match(r"impl(?:<.*?>)? (?:[\w<>, ']+ for )?(\w+)", block[0])
-    return names is None or (of_type[1] if of_type else own) in names
+    exported = exported_by(source.crate)
+    return source.module == "laws" or (of_type[1] in exported if of_type else exported.get(own) == source.module.split("/")[-1])
 
 
 def clauses_of(source):
     """Yields the clauses of each public function of a source, and the names that they can use."""
-    exported = exported_from(source)
     for block, indent in [(source.lines, 0), *((block, 4) for block in source.blocks())]:
         names = names_with(block, source.names, indent)
         for at, line in enumerate(block):
-            if re.match(rf"{' ' * indent}pub fn \w", line) and is_exported(block if indent else [""], line, exported):
+            if re.match(rf"{' ' * indent}pub fn \w", line) and is_exported(source, block if indent else [""], line):
                 text = function_at(block, at)
                 clauses = CLAUSES.search(text)
                 if clauses:

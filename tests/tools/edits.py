@@ -137,11 +137,6 @@ LINE_OF_A_PROOF = re.compile(
 )
 A_NAME_IS_GONE = re.compile(r"has no\b|is not in scope|was not admitted")
 
-# Whether the line after counts. By hand it does. In the gate it does not yet: some of its bodies are refused by that
-# alone.
-READS_LINE_AFTER = True
-
-
 class BadEdit(Exception):
     """An edit that cannot be applied."""
 
@@ -703,7 +698,7 @@ def refused_in(output):
         if goal:
             found.setdefault(named(path.split("::")[1:]), []).append(goal[1])
     for path, said, more in LINE_OF_A_PROOF.findall(output):
-        if not A_NAME_IS_GONE.search(re.sub(r"`[^`]*`", "", said + more if READS_LINE_AFTER else said)):
+        if not A_NAME_IS_GONE.search(re.sub(r"`[^`]*`", "", said + more)):
             # a file of a function's proof lies in its folder; a lemma of a file of its own speaks of what is not a
             # function
             *parts, file = path.split("/")
@@ -1080,8 +1075,6 @@ def main():
         crates = [it for it in every if not asked.names or it in asked.names]
         bodies = {it: bodies_of(it, (gate_folder(it),) if asked.beside else ()) for it in crates}
     if asked.beside:
-        global READS_LINE_AFTER
-        READS_LINE_AFTER = False
         os.setpgid(0, 0)
     proofs = Proofs(asked.beside)
     if not asked.beside and not is_built_below(crates, proofs.proved()):

@@ -6,13 +6,14 @@ use Rattle.hsms_machine.specs.declared.settings.Role.{Role}
 use Rattle.hsms_machine.specs.declared.settings.Role.TheVariants.{Host, Equipment}
 use Rattle.hsms_machine.specs.Settings.{Parameters}
 use Rattle.hsms_log.specs.Lines.{HasNone, ended_lines, open_line}
-use Rattle.hsms_log.proofs.LineLemmas.{ended_lines-first, ended_lines-none, open_line-first}
+use Rattle.hsms_log.specs.LineFormat.{EncodesSettings}
+use Rattle.hsms_log.proofs.LineLemmas.{ended_lines-first, ended_lines-none, open_line-first, open_line-none}
 use Rattle.hsms_compare.specs.Conversation.{Line}
 use Rattle.hsms_compare_logs.specs.declared.input.InputLine.{InputLine}
 use Rattle.hsms_compare_logs.specs.declared.input.InputLine.TheVariants.{Last}
 use Rattle.hsms_compare_logs.specs.InnerConnection.{IsFirstLine}
 use Rattle.hsms_compare_logs.specs.Entries.{AreLeft, AreOfText}
-use Rattle.hsms_compare_logs.specs.LogEntries.{HasEntries, HaveEntries}
+use Rattle.hsms_compare_logs.specs.LogEntries.{HasEntries, HasSettings, HaveEntries, HaveSettings}
 use Rattle.hsms_compare_logs.specs.InnerReader.{IsLine}
 
 pub starts : (block octets text line : List ℕ) (left : Option (List ℕ)) (ended : Bool) (s : Parameters) (max : ℕ) (found : List Line) → max ≡ s.max → left ≡ Some octets → IsFirstLine text line (block ++ octets) ended → HasEntries text s found → AreLeft block left max 1 ended found
@@ -29,6 +30,17 @@ starts block octets text line left false s max found e known at h =
     let a : HaveEntries (strip_carriage_return line ∷ ended_lines (block ++ octets)) (open_line (block ++ octets)) s found =
     subst R (open_line-first line (block ++ octets) at.1) (subst Q (ended_lines-first line (block ++ octets) at.1) (subst P at.0 h)) in
     (octets, known, subst S (sym e) a.1)
+
+pub settings_of : (text line left : List ℕ) (ended : Bool) (s : Parameters) → EncodesSettings (strip_carriage_return line) s → IsFirstLine text line left ended → HasSettings text s
+settings_of text line left true s e at =
+    let P : List ℕ → Type 0 = λ x. HasSettings x s in
+    let Q : List (List ℕ) → Type 0 = λ x. HaveSettings x (open_line line) s in
+    let R : List ℕ → Type 0 = λ x. EncodesSettings (strip_carriage_return x) s in
+    subst P (sym at.0) (subst Q (sym (ended_lines-none line at.1)) (subst R (sym (open_line-none line at.1)) e))
+settings_of text line left false s e at =
+    let P : List ℕ → Type 0 = λ x. HasSettings x s in
+    let Q : List (List ℕ) → Type 0 = λ x. HaveSettings x (open_line (line ++ 10 ∷ left)) s in
+    subst P (sym at.0) (subst Q (sym (ended_lines-first line left at.1)) e)
 
 pub opened_as : {T F : Type 0} (result : Result (Option T) F) (P Q : T → Type 0) → ((x : T) → P x → Q x) → IfOk result (λ o. IfSome o P) → IfOk result (λ o. IfSome o Q)
 opened_as (Err e) P Q f h = tt

@@ -6,4 +6,4 @@ pub mod Entries
 pub mod InnerEntries
 pub mod Connection
 pub mod InnerConnection
-pub mod InnerComparison
+pub mod Comparison

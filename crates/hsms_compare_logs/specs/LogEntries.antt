@@ -48,6 +48,15 @@ AreEntries max number (line ∷ lines) last found =
     ⊎ ((carried : Option Entry) × (later : List Line) × Carries max line carried × AreEntries max (number + 1) lines last later
     × (found ≡ at_line number carried ++ later))
 
+-- Holds if the first of a log's lines encodes these settings.
+abbrev pub HaveSettings : List (List ℕ) → List ℕ → Parameters → Type 0
+HaveSettings [] last s = EncodesSettings (strip_carriage_return last) s
+HaveSettings (first ∷ lines) last s = EncodesSettings first s
+
+-- Holds if the first line of the text encodes these settings.
+abbrev pub HasSettings : List ℕ → Parameters → Type 0
+HasSettings text s = HaveSettings (ended_lines text) (open_line text) s
+
 -- The settings and the entries of a log's lines.
 abbrev pub HaveEntries : List (List ℕ) → List ℕ → Parameters → List Line → Type 0
 HaveEntries [] last s found = EncodesSettings (strip_carriage_return last) s × (found ≡ [])

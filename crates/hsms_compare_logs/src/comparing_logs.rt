@@ -39,7 +39,7 @@ impl From<ReadFault> for CompareFault {
 
 impl CompareFault {
     ghost use Rattle.std.specs.Prelude.{◌≡◌, None};
-    ghost use Rattle.hsms_compare_logs.specs.InnerComparison.{CanCompare};
+    ghost use Rattle.hsms_compare_logs.specs.Comparison.{CanCompare};
 
     /// Returns why logs with these settings are not compared, if they are not.
     fn of(first: &Settings, second: &Settings) -> Option<CompareFault>
@@ -63,7 +63,7 @@ impl CompareFault {
 
 impl LogComparison {
     ghost use Rattle.std.specs.Prelude.{◌≡◌, ℕ, List, Some, IfOk};
-    ghost use Rattle.hsms_compare_logs.specs.InnerComparison.{AreCompared};
+    ghost use Rattle.hsms_compare_logs.specs.Comparison.{AreCompared};
 
     /// Compares two logs, the host's and equipment's in either order, each from its first `up` to the next one.
     ///

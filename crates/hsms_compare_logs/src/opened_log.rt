@@ -24,7 +24,7 @@ impl<R: Source + Drop> OpenedLog<R> {
     ghost use Rattle.std.specs.Prelude.{◌≡◌, ◌++◌, ◌∷◌, ℕ, Bool, List, Some, IfOk, IfSome};
     ghost use Rattle.hsms_compare.specs.Conversation.{Line};
     ghost use Rattle.hsms_compare_logs.specs.Audited.{ReadsText};
-    ghost use Rattle.hsms_compare_logs.specs.LogEntries.{HasEntries, connection_of, is_open_connection};
+    ghost use Rattle.hsms_compare_logs.specs.LogEntries.{HasEntries, HasSettings, connection_of, is_open_connection};
     ghost use Rattle.hsms_compare_logs.specs.Connection.{LogLeft};
     ghost use Rattle.hsms_compare_logs.specs.InnerConnection.{IsFirstLine};
 
@@ -34,6 +34,8 @@ impl<R: Source + Drop> OpenedLog<R> {
     ///
     /// Returns `Read` if a read fails, `Endless` after 2^62 bytes, or `Memory` if an allocation fails.
     pub fn open(alloc: Global, source: R) -> Result<Option<OpenedLog<R>>, ReadFault>
+        ensures settings { IfOk result (λ log. IfSome log (λ log. (text : List ℕ)
+            → (R.state source).left ≡ Some text → HasSettings text log.settings)) }
         ensures entries { IfOk result (λ log. IfSome log (λ log. (text : List ℕ) (found : List Line)
             → (R.state source).left ≡ Some text → HasEntries text log.settings found
             → LogLeft log.entries.reader.input.block.items (R.state log.entries.reader.input.source).left log.entries.reader.max
@@ -61,6 +63,8 @@ impl<R: Source + Drop> OpenedLog<R> {
         line: &[u8],
         is_ended: bool,
     ) -> Result<Option<OpenedLog<R>>, ReadFault>
+        ensures settings { IfOk result (λ log. IfSome log (λ log. (text left : List ℕ)
+            → IsFirstLine text line.now left is_ended → HasSettings text log.settings)) }
         ensures entries { IfOk result (λ log. IfSome log (λ log. (text octets : List ℕ) (found : List Line)
             → (R.state input.source).left ≡ Some octets → IsFirstLine text line.now (input.block.items ++ octets) is_ended
             → HasEntries text log.settings found

@@ -6,7 +6,7 @@ use Rattle.hsms_log.specs.Verdict.{HasAuditVerdict}
 use Rattle.hsms_compare.specs.Conversation.{Line}
 use Rattle.hsms_compare.specs.LineContradiction.{FirstByLines}
 use Rattle.hsms_compare_logs.specs.declared.comparing.LogComparison.{LogComparison}
-use Rattle.hsms_compare_logs.specs.LogEntries.{HasEntries, connection_of, is_open_connection}
+use Rattle.hsms_compare_logs.specs.LogEntries.{HasEntries, HasSettings, connection_of, is_open_connection}
 
 -- Holds if logs with these settings can be of both ends of one connection.
 pub record CanCompare (s t : Parameters) : Type 0 where
@@ -16,9 +16,12 @@ pub record CanCompare (s t : Parameters) : Type 0 where
   pub first_version : s.version ≡ 1
   pub second_version : t.version ≡ 1
 
--- Holds if these are the first contradiction of the first connections of both texts, or none, and the verdicts on both.
+-- Holds if the texts begin with these settings, and these are the first contradiction of their first connections, or
+-- none, and the verdicts on both.
 pub record HaveComparison (host : List ℕ) (s : Parameters) (equipment : List ℕ) (t : Parameters) (comparison : LogComparison) : Type 0 where
   pub role : s.role ≡ Host
+  pub host_settings : HasSettings host s
+  pub equipment_settings : HasSettings equipment t
   pub contradiction : (h e : List Line) → HasEntries host s h → HasEntries equipment t e
       → FirstByLines (is_open_connection h) (is_open_connection e) (connection_of h) (connection_of e) comparison.contradiction
   pub host_verdict : HasAuditVerdict host comparison.host
