@@ -36,21 +36,6 @@ fn assert_entries(rt: &impl Abort, alloc: Global, log: &Store, entries: u64) -> 
     Ok(())
 }
 
-/// Returns how this number of connections is served, with a script in the first one.
-fn options_of(settings: Settings, script: &[Step], connections: u64) -> ServeAgainOptions<'_> {
-    ServeAgainOptions {
-        first: ServeOptions {
-            settings,
-            first_system: 1,
-            script,
-            linktest: None,
-            turns: 100,
-        },
-        later_script: &[],
-        connections,
-    }
-}
-
 /// Serves two connections of equipment.
 fn serve_lent<D: TurnDesk>(
     alloc: Global,
@@ -59,8 +44,18 @@ fn serve_lent<D: TurnDesk>(
     settings: Settings,
     desk: &D,
 ) -> Result<ServedAgain, ServeFault> {
-    let lent = Lent { desk };
-    serve_again(alloc, link, log, lent, &options_of(settings, &[], 2))
+    let options = ServeAgainOptions {
+        first: ServeOptions {
+            settings,
+            first_system: 1,
+            script: &[],
+            linktest: None,
+            turns: 100,
+        },
+        later_script: &[],
+        connections: 2,
+    };
+    serve_again(alloc, link, log, Lent { desk }, &options)
 }
 
 /// Checks that two connections of equipment give this text, which passes the audit with this number of entries.
@@ -139,7 +134,18 @@ fn serve_host(
     settings: Settings,
     script: &[Step],
 ) -> Result<ServedAgain, ServeFault> {
-    serve_again(alloc, link, log, HostDesk, &options_of(settings, script, 3))
+    let options = ServeAgainOptions {
+        first: ServeOptions {
+            settings,
+            first_system: 1,
+            script,
+            linktest: None,
+            turns: 100,
+        },
+        later_script: &[],
+        connections: 3,
+    };
+    serve_again(alloc, link, log, HostDesk, &options)
 }
 
 /// Checks that three connections of a host give a log that passes the audit with 15 entries.
