@@ -74,7 +74,8 @@ impl Failure {
 
     /// Returns the status with which the command ends.
     pub fn status(self) -> u8 {
-        match self.fault {
+        let Failure { fault, known: _ } = self;
+        match fault {
             Fault::Command(error) => error.status(),
             Fault::Tool(fault) => exit_status(&Err(fault)),
         }
