@@ -6,9 +6,9 @@ mod texts;
 
 use connections::CONNECTIONS;
 use hsms_compare::{
-    LogContradiction, LogCounts, Outcome, RequestState, first_contradiction, outcome_of,
+    LogContradiction, LogCounts, Outcome, ReadFault, RequestState, first_contradiction, outcome_of,
 };
-use hsms_compare_logs::LogComparison;
+use hsms_compare_logs::{CompareFault, LogComparison};
 use hsms_frame::Feed;
 use hsms_log::{Line, LineFault, read_line};
 use hsms_machine::{Entry, Event};
@@ -187,6 +187,15 @@ fn push_line(text: &mut Vec<u8>, line: &str) -> Result<(), AllocError> {
     Ok(())
 }
 
+/// Returns a comparison. A failed allocation is passed on.
+fn compared(answer: Result<LogComparison, CompareFault>) -> Result<LogComparison, Stop> {
+    match answer {
+        Ok(found) => Ok(found),
+        Err(CompareFault::Log(ReadFault::Memory)) => Err(Stop::Memory),
+        Err(_) => Err(Stop::Line),
+    }
+}
+
 /// Checks the comparison of two texts, in either order. Each read returns seven bytes.
 fn check_texts(rt: &impl Abort, alloc: Global, lines: &str, name: &str) -> Result<(), Stop> {
     let mut host = Vec::new(alloc);
@@ -199,9 +208,7 @@ fn check_texts(rt: &impl Abort, alloc: Global, lines: &str, name: &str) -> Resul
             _ => {
                 let one = Feed::new(Vec::from_slice(alloc, host.as_slice())?, 7, u64::MAX);
                 let other = Feed::new(Vec::from_slice(alloc, equipment.as_slice())?, 7, u64::MAX);
-                let found = LogComparison::of_logs(alloc, other, one)
-                    .ok()
-                    .ok_or(Stop::Line)?;
+                let found = compared(LogComparison::of_logs(alloc, other, one))?;
                 let contradiction = found.contradiction;
                 assert_text(
                     rt,
