@@ -25,7 +25,7 @@ use std::marker::Model;
 const GREATEST: u64 = 1 << 62;
 
 /// The comment above an entry, or in the place of one.
-#[derive(Clone, Copy, Debug, PartialEq, Eq)]
+#[derive(Clone, Copy, PartialEq, Eq)]
 pub enum LogComment {
     /// It happened at the packet with this number.
     Packet(u64),
@@ -322,7 +322,7 @@ fn packet_of(remark: LogComment, before: u64) -> u64
 }
 
 /// What the audit says of a log: the verdict, and where it is a failure the number of the packet of the line.
-#[derive(Clone, Copy, Debug)]
+#[derive(Clone, Copy)]
 pub struct LogVerdict {
     pub verdict: Verdict,
     pub packet: Option<u64>,

@@ -15,7 +15,7 @@ use hsms_machine::{Role, Settings, Side};
 use std::net::IpAddr;
 
 /// What is tracked in a capture, and what is written of it.
-#[derive(Clone, Copy, Debug)]
+#[derive(Clone, Copy)]
 pub struct Capturing {
     /// The TCP port of the listening ends, from 1.
     pub port: u16,

@@ -12,7 +12,7 @@ use crate::option_values::{flag_of, number_of, text_of, text_or};
 use clap::ArgMatches;
 
 /// Which kind of lines is shown.
-#[derive(Clone, Copy, Debug, PartialEq, Eq)]
+#[derive(Clone, Copy, PartialEq, Eq)]
 pub enum Lines {
     /// Each line.
     All,
@@ -21,7 +21,7 @@ pub enum Lines {
 }
 
 /// The format in which a log is shown.
-#[derive(Clone, Copy, Debug, PartialEq, Eq)]
+#[derive(Clone, Copy, PartialEq, Eq)]
 pub enum OutputFormat {
     /// As text, for a reader at a terminal.
     Text,
@@ -32,7 +32,7 @@ pub enum OutputFormat {
 }
 
 /// What is shown of a log, and how.
-#[derive(Clone, Copy, Debug)]
+#[derive(Clone, Copy)]
 pub struct Excerpt {
     /// Which kind of lines is shown.
     pub lines: Lines,

@@ -24,7 +24,7 @@ use clap::{ArgMatches, Error};
 use std::alloc::Global;
 
 /// What the user requests.
-#[derive(Debug, Drop)]
+#[derive(Drop)]
 pub enum Request<'a> {
     /// A task between standard input and standard output.
     Task(Task),
@@ -37,7 +37,7 @@ pub enum Request<'a> {
 }
 
 /// What to do with standard input and standard output.
-#[derive(Debug, Drop)]
+#[derive(Drop)]
 pub enum Task {
     /// Print the text.
     Help(String),
@@ -51,7 +51,7 @@ pub enum Task {
 
 /// How messages are shown: their form, the maximum number of bytes of header and text, and the maximum nesting of lists
 /// in a readable text.
-#[derive(Clone, Copy, Debug)]
+#[derive(Clone, Copy)]
 pub struct Showing {
     pub max: u32,
     pub depth: u8,
@@ -60,7 +60,7 @@ pub struct Showing {
 
 /// How messages are encoded: the device ID, the first system bytes, the maximum number of bytes of header and text, and
 /// the maximum nesting of lists. `hex` selects lines of hexadecimal instead of bytes.
-#[derive(Clone, Copy, Debug)]
+#[derive(Clone, Copy)]
 pub struct Encoding {
     pub device: u16,
     pub system: u32,
@@ -70,7 +70,7 @@ pub struct Encoding {
 }
 
 /// The form of the messages of an input.
-#[derive(Clone, Copy, Debug)]
+#[derive(Clone, Copy)]
 pub enum Form {
     /// As bytes, in consecutive messages.
     Octets,

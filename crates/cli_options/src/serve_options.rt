@@ -18,7 +18,7 @@ use clap::ArgMatches;
 use hsms_machine::{Role, Settings, Side};
 
 /// A connection to serve.
-#[derive(Clone, Copy, Debug)]
+#[derive(Clone, Copy)]
 pub struct Service<'a> {
     /// The settings of the end that serves it. An active one connects, and a passive one listens (SEMI E37, section 6).
     pub settings: Settings,
@@ -47,7 +47,7 @@ pub struct Service<'a> {
 }
 
 /// Whether connections are served one after another, and which.
-#[derive(Clone, Copy, Debug)]
+#[derive(Clone, Copy)]
 pub struct Repeat {
     /// True if further connections follow the first one, in the same log. Otherwise the other fields are ignored.
     pub again: bool,

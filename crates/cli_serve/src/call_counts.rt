@@ -8,7 +8,7 @@ use hsms_ends::{Got, LinkFault};
 
 /// The number of waits that returned, the number of them that returned `Closed`, whether the last one did, and the
 /// number of failures of the link. The counts saturate.
-#[derive(Clone, Copy, Debug, Default)]
+#[derive(Clone, Copy, Default)]
 pub struct Counters {
     pub waits: u64,
     pub closes: u64,

@@ -10,7 +10,7 @@ use secs_text::Message;
 use std::alloc::{AllocError, Global};
 
 /// A host's or equipment's message handler, with the replies of a script.
-#[derive(Debug, Drop)]
+#[derive(Drop)]
 pub enum ChosenHandler {
     Host(ScriptedDesk<HostDesk>),
     Equipment(ScriptedDesk<EquipmentDesk>),

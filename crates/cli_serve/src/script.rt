@@ -15,7 +15,7 @@ use secs_text::{Message, read_all};
 use std::alloc::{AllocError, Global};
 
 /// The content of a script.
-#[derive(Debug, Drop)]
+#[derive(Drop)]
 pub struct Script {
     /// The steps of the end, one after another.
     pub steps: Vec<Step>,

@@ -1,0 +1,10 @@
+pub mod Rows
+pub mod OneFinding
+pub mod Progress
+pub mod Pushes
+pub mod Repairs
+pub mod Straight
+pub mod Keeps
+pub mod OnlyLater
+pub mod LogsAgree
+pub mod NoFacts

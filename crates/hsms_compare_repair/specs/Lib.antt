@@ -1,0 +1,5 @@
+pub mod Findings
+pub mod Facts
+pub mod Connection
+pub mod Laws
+pub mod Logs
