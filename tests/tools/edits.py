@@ -49,6 +49,7 @@ import functools
 import os
 import re
 import shutil
+import signal
 import subprocess
 import sys
 import tempfile
@@ -73,8 +74,10 @@ WRONG_BODY = "-- wrong body: "
 OF_CRATE = "-- crate: "
 ONLY = re.compile(r"(?:-- )?only: (.*)")
 
-# How long a check may take, in seconds.
+# How many seconds of a processor each process of a check may take. Those of the clock say nothing: next to `rt ci` a check
+# waits most of the time.
 LONGEST_CHECK = 3600
+LIMITED = f'ulimit -t {LONGEST_CHECK} && exec "$@"'
 
 # Where checks of a crate keep what they proved of it.
 KEPT = "out/incremental"
@@ -575,7 +578,7 @@ class Room:
         # while `rt ci` runs, it moves what was kept in the crate's own folder
         where = like.folder if like else folder_of(crate) if not is_beside else ""
         self.crate, self.folder = crate, room_with_what_is_kept(crate, home, where)
-        self.words = ["nice", "-n", "19", *check_command(crate, home)]
+        self.words = ["sh", "-c", LIMITED, "sh", "nice", "-n", "19", *check_command(crate, home)]
         self.sources, self.by_hand = sources_of(crate), {}
         for path in like.by_hand if like else functions_in(crate):
             self.make_hole(path)
@@ -692,8 +695,10 @@ class Room:
         writes.
         """
         asked = [word for path in sorted(only) for word in ("--only", path)]
-        how = {"stdout": subprocess.PIPE, "stderr": subprocess.STDOUT, "timeout": LONGEST_CHECK, "check": False}
+        how = {"stdout": subprocess.PIPE, "stderr": subprocess.STDOUT, "check": False}
         ran = subprocess.run([*self.words, *(["--allow-holes", *asked] if asked else [])], cwd=self.folder, **how)
+        if ran.returncode == -signal.SIGXCPU:
+            raise TimeoutError(f"a check took {LONGEST_CHECK} s of a processor: {', '.join(sorted(only))}")
         return ran.returncode, ran.stdout.decode(errors="replace")
 
 
@@ -959,7 +964,7 @@ def tried(crate, bodies, equivalent, is_proved, lanes, is_beside=False, compilin
                 trial.prove(equivalent)
             else:
                 trial.failed = [f"{crate}: it isn't proved without an edit: {first_error(output)}"]
-        except (OSError, subprocess.TimeoutExpired) as error:
+        except OSError as error:
             trial.failed.append(f"{crate}: {error}")
     for it in trial.failed:
         print(it)
