@@ -140,12 +140,9 @@ LINE_OF_A_PROOF = re.compile(
 )
 A_NAME_IS_GONE = re.compile(r"has no\b|is not in scope|was not admitted")
 
-# In the gate the line after does not count for the bodies of these crates: not all of them were tried so. By hand it
-# does.
-NOT_TRIED = {
-    "secs_item", "secs_text", "hsms_machine", "hsms_log", "hsms_endpoint", "hsms_compare", "hsms_compare_ends",
-    "cli_options", "cli_output", "capture_pcap", "capture_midstream", "capture_log", "capture_unjudged", "cli_capture",
-}
+# In the gate the line after does not count for the bodies of a crate with this file in its folder of edits: not all of
+# them were tried so. By hand it does.
+NOT_TRIED = "not-tried"
 FIRST_LINE_ALONE = set()
 
 
@@ -1089,7 +1086,7 @@ def main():
         crates = [it for it in every if not asked.names or it in asked.names]
         bodies = {it: bodies_of(it, (gate_folder(it),) if asked.beside else ()) for it in crates}
     if asked.beside:
-        FIRST_LINE_ALONE.update(NOT_TRIED)
+        FIRST_LINE_ALONE.update(it for it in crates if os.path.exists(f"{EDITS}/{it}/{NOT_TRIED}"))
         os.setpgid(0, 0)
     proofs = Proofs(asked.beside)
     if not asked.beside and not is_built_below(crates, proofs.proved()):
