@@ -5,3 +5,4 @@ pub mod File
 pub mod Laws
 pub mod BlockReader
 pub mod InnerBlockReader
+pub mod Fault
