@@ -6,7 +6,6 @@ use Rattle.hsms_log.specs.declared.verdict.Verdict.{Verdict}
 use Rattle.hsms_log.specs.declared.verdict.Verdict.TheVariants.{Pass, Fail}
 use Rattle.capture_tcp.specs.declared.packet.Side.TheVariants.{Active, Passive}
 use Rattle.cli_capture.specs.VerdictLine.{end_line_of}
-
 use Rattle.capture_errors.specs.declared.capture_error.CaptureError.{CaptureError}
 use Rattle.capture_errors.specs.declared.capture_error.CaptureError.TheVariants as error
 use Rattle.capture_log.specs.AuditedLog.{HasLogged, Note, SaysOf, CurrentState}
