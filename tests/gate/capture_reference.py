@@ -177,6 +177,9 @@ SMALLEST = {
         "pass entries=5 sent=2 taken=2 discarded=0 expired=0 waiting=1", "pass entries=5 sent=2 taken=2", None,
     ),
     "reset-old": ("fail line=11 packet=10 rule=T3Overdue", "pass entries=5 sent=2 taken=2", None),
+    "reset-behind-gap": (
+        "pass entries=4 sent=2 taken=1 discarded=0 expired=0 waiting=1", "pass entries=4 sent=1 taken=2", None,
+    ),
     "reset-with-text": ("pass entries=4 sent=1 taken=1", None, None),
     "gap-at-end": ("incomplete packet=7 pass entries=3 sent=1 taken=1", None, "Lost packet=7"),
     "clock": ("pass entries=5 sent=2 taken=2", None, None),

@@ -95,8 +95,7 @@ class Made:
     def is_lawful(self) -> bool:
         """Whether each session keeps the rules by the options."""
         is_plain = replace(self.options, port=5000, active="host", log=None) == Options()
-        bare = any(session.ends == "bare" and not session.is_exact for session in self.sessions or [])
-        return is_plain and self.sessions is not None and not (bare and self.has_pauses)
+        return is_plain and self.sessions is not None
 
 
 def random_text(rng) -> str:
