@@ -111,10 +111,16 @@ impl Failure {
         if name == "-" || !self.is_of_input() {
             return self;
         }
+        let Failure {
+            fault,
+            known,
+            file: _,
+        } = self;
         match String::from_str(alloc, name) {
             Ok(file) => Failure {
+                fault,
+                known,
                 file: Some(file),
-                ..self
             },
             Err(_) => Failure::from(ToolFault::Memory),
         }
