@@ -1,6 +1,6 @@
 //! The audits of several logs.
 
-use crate::input::{buffered, opened};
+use crate::input::{buffered, open_input};
 use crate::submit;
 use cli_advice::{Failure, KeptLines};
 use cli_filters::AuditReport;
@@ -51,7 +51,7 @@ fn audit_file<R: Eprint + Files + Input, W: Sink>(
     sink: &mut W,
     is_verbose: bool,
 ) -> Result<(), Failure> {
-    match opened(alloc, rt, name, is_verbose) {
+    match open_input(alloc, rt, name, is_verbose) {
         Ok(input) => {
             let label = is_named.then_some(name);
             let done = audit_input(alloc, rt, label, input, report, sink, is_verbose);

@@ -37,7 +37,7 @@ impl<S: Read, F: Read> Read for Opened<S, F> {
 ///
 /// Returns the text `Open file=NAME` if the file cannot be opened or is a directory. If errors are explained, the
 /// failure has the reason.
-pub fn opened<R: Files + Input>(
+pub fn open_input<R: Files + Input>(
     alloc: Global,
     rt: &R,
     name: &str,
