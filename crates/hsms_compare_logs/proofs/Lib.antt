@@ -1,3 +1,4 @@
 pub mod Inputs
 pub mod LineEntries
 pub mod Openings
+pub mod LogSteps
