@@ -177,6 +177,17 @@ pub fn link_words(
     }
 }
 
+/// Returns why a file cannot be opened.
+pub fn open_words(alloc: Global, kind: ErrorKind) -> Result<String, AllocError> {
+    let words = match kind {
+        ErrorKind::NotFound => "no such file: check its name",
+        ErrorKind::PermissionDenied => "no permission to read this file",
+        ErrorKind::IsADirectory => "this is a directory: name the files in it",
+        _ => OPEN,
+    };
+    String::from_str(alloc, words)
+}
+
 // Returns the position of an error in a notation.
 fn position(fault: &Fault) -> Option<usize> {
     match fault {
@@ -284,6 +295,8 @@ fn device_advice(word: &str) -> &'static str {
     }
 }
 
+const OPEN: &str = "this file cannot be opened: check its name and its permissions";
+
 const NO_ADVICE: &str = "see docs/CLI.md";
 
 // Returns what the first word of the text of an error of the command line or of `capture` means, and what to do.
@@ -291,6 +304,7 @@ fn refused_advice(words: &str) -> &'static str {
     let (word, _) = words.split_once(' ').unwrap_or((words, ""));
     match word {
         "command" => "run hsms --help, or hsms COMMAND --help",
+        "Open" => OPEN,
         word => capture_advice(word),
     }
 }
