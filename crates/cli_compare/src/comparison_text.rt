@@ -17,7 +17,12 @@ pub fn comparison_text(alloc: Global, comparison: &LogComparison) -> Result<Stri
     let mut text = String::new(alloc);
     push_pair(&mut text, comparison)?;
     push_audit(alloc, &mut text, "host: ", comparison.host.verdict)?;
-    push_audit(alloc, &mut text, "equipment: ", comparison.equipment.verdict)?;
+    push_audit(
+        alloc,
+        &mut text,
+        "equipment: ",
+        comparison.equipment.verdict,
+    )?;
     push_verdict(&mut text, comparison)?;
     Ok(text)
 }
@@ -32,8 +37,18 @@ fn push_pair(text: &mut String, comparison: &LogComparison) -> Result<(), AllocE
     push_connection(text, "connection ", "host", &comparison.host)?;
     push_connection(text, " ", "equipment", &comparison.equipment)?;
     text.push('\n')?;
-    push_facts(text, "host", "equipment", comparison.facts.to_equipment.as_slice())?;
-    push_facts(text, "equipment", "host", comparison.facts.to_host.as_slice())?;
+    push_facts(
+        text,
+        "host",
+        "equipment",
+        comparison.facts.to_equipment.as_slice(),
+    )?;
+    push_facts(
+        text,
+        "equipment",
+        "host",
+        comparison.facts.to_host.as_slice(),
+    )?;
     push_order(text, &comparison.contradiction)
 }
 
@@ -49,7 +64,10 @@ fn push_connection(
     let line = number_of(&log.up);
     let sent = log.frames.sent.len();
     let received = log.frames.received.len();
-    write!(text, "{before}{end} line={line} sent={sent} received={received}")
+    write!(
+        text,
+        "{before}{end} line={line} sent={sent} received={received}"
+    )
 }
 
 /// Returns a number, or 0 if there is none.

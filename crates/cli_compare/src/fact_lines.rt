@@ -23,12 +23,7 @@ pub fn push_facts(
 }
 
 /// Appends the line of a fact.
-fn push_fact(
-    text: &mut String,
-    sender: &str,
-    receiver: &str,
-    fact: &Fact,
-) -> Result<(), AllocError>
+fn push_fact(text: &mut String, sender: &str, receiver: &str, fact: &Fact) -> Result<(), AllocError>
     ensures { OnOk result (string_bytes text.new ≡ string_bytes text.old ++ fact_line sender.now receiver.now fact.now) }
 {
     match *fact {
@@ -65,12 +60,14 @@ pub fn push_order(
         None => Ok(()),
         Some(LineContradiction::Differs { .. }) => Ok(()),
         Some(LineContradiction::Unsent { .. }) => Ok(()),
-        Some(LineContradiction::Order {
-            host,
-            host_from,
-            equipment,
-            equipment_from,
-        }) => write!(
+        Some(
+            LineContradiction::Order {
+                host,
+                host_from,
+                equipment,
+                equipment_from,
+            },
+        ) => write!(
             text,
             "order host line={host} from={host_from} equipment line={equipment} from={equipment_from}\n"
         ),
