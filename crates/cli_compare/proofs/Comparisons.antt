@@ -1,6 +1,8 @@
 -- What is written of a comparison.
-use Rattle.std.proofs.Common.{◌≡◌, ℕ, List, Bool, true, false, Ok, Err, refl, ◌∙◌, subst}
-use Rattle.std.specs.Prelude.{Option, Result}
+use Rattle.std.proofs.Common.{◌≡◌, ℕ, List, Bool, true, false, Ok, Err, refl, subst}
+use Rattle.std.specs.Prelude.{Option, Result, ◌&&◌}
+use Rattle.cli_output.specs.Verdict.{is_pass}
+use Rattle.hsms_compare_logs.specs.PairVerdicts.{verdict_of}
 use Rattle.hsms_frame.specs.Io.{Grows, GrowsByFront}
 use Rattle.hsms_compare_logs.specs.declared.comparing.LogComparison.{LogComparison}
 use Rattle.hsms_compare_logs.specs.declared.comparing_logs.CompareFault.{CompareFault}
@@ -35,20 +37,21 @@ no_logs fault true Agree is = absurd cc
 no_logs fault true Disagree is = absurd cc
 no_logs fault true Undecided is = absurd cc
 
--- The text was written completely.
-pub written : (one other : List ℕ) (c : LogComparison) (text : List ℕ) (result : Result Bool CompareError) (passes : Bool) (verdict : PairVerdict)
-    (old new : Option (List ℕ)) → AreCompared one other c → text ≡ comparison_text c → Grows old new text → result ≡ outcome_by passes verdict
-    → outcome_by passes verdict ≡ outcome_of c → ComparesTo one other result old new
-written one other c text (Ok passed) passes verdict old new compared is grows by same =
-    let P : List ℕ → Type 0 = λ x. Grows old new x in (c, compared, by ∙ same, subst P is grows)
-written one other c text (Err error.Undecided) passes verdict old new compared is grows by same =
-    let P : List ℕ → Type 0 = λ x. Grows old new x in (c, compared, by ∙ same, subst P is grows)
-written one other c text (Err error.Write) passes verdict old new compared is grows by same = absurd (no_write passes verdict by)
-written one other c text (Err (error.Logs fault)) passes verdict old new compared is grows by same = absurd (no_logs fault passes verdict by)
+abbrev pass_both : LogComparison → Bool
+pass_both c = is_pass c.host.verdict && is_pass c.equipment.verdict
 
-pub counts_written : (result : Result Bool CompareError) (passes : Bool) (verdict : PairVerdict) (n : ℕ) → result ≡ outcome_by passes verdict
-    → n ≡ writes_after result n
-counts_written (Ok passed) passes verdict n by = refl
-counts_written (Err error.Undecided) passes verdict n by = refl
-counts_written (Err error.Write) passes verdict n by = absurd (no_write passes verdict by)
-counts_written (Err (error.Logs fault)) passes verdict n by = refl
+-- The text was written completely.
+pub written : (one other : List ℕ) (c : LogComparison) (text : List ℕ) (result : Result Bool CompareError) (old new : Option (List ℕ))
+    → AreCompared one other c → text ≡ comparison_text c → Grows old new text → result ≡ outcome_of c → ComparesTo one other result old new
+written one other c text (Ok passed) old new compared is grows by =
+    let P : List ℕ → Type 0 = λ x. Grows old new x in (c, compared, by, subst P is grows)
+written one other c text (Err error.Undecided) old new compared is grows by =
+    let P : List ℕ → Type 0 = λ x. Grows old new x in (c, compared, by, subst P is grows)
+written one other c text (Err error.Write) old new compared is grows by = absurd (no_write (pass_both c) (verdict_of c) by)
+written one other c text (Err (error.Logs fault)) old new compared is grows by = absurd (no_logs fault (pass_both c) (verdict_of c) by)
+
+pub counts_written : (result : Result Bool CompareError) (c : LogComparison) (n : ℕ) → result ≡ outcome_of c → n ≡ writes_after result n
+counts_written (Ok passed) c n by = refl
+counts_written (Err error.Undecided) c n by = refl
+counts_written (Err error.Write) c n by = absurd (no_write (pass_both c) (verdict_of c) by)
+counts_written (Err (error.Logs fault)) c n by = refl
