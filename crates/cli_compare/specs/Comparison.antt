@@ -27,13 +27,19 @@ connection_words end log =
     line_words end (number_of log.up) ++ codes " sent=" ++ decimal (length log.frames.sent.items)
     ++ codes " received=" ++ decimal (length log.frames.received.items)
 
--- The line of a pair, those of its facts to equipment and to the host, and that of an order.
-abbrev pub pair_lines : LogComparison → List ℕ
-pair_lines c =
-    if are_paired c
-    then codes "connection " ++ connection_words (codes "host") c.host ++ codes " " ++ connection_words (codes "equipment") c.equipment ++ 10 ∷ fact_lines (codes "host") (codes "equipment") c.facts.to_equipment.items
+abbrev pub connection_line : LogComparison → List ℕ
+connection_line c =
+    codes "connection " ++ connection_words (codes "host") c.host ++ codes " " ++ connection_words (codes "equipment") c.equipment ++ 10 ∷ []
+
+-- The lines of its facts to equipment and to the host, and that of an order.
+abbrev pub told_lines : LogComparison → List ℕ
+told_lines c =
+    fact_lines (codes "host") (codes "equipment") c.facts.to_equipment.items
     ++ fact_lines (codes "equipment") (codes "host") c.facts.to_host.items ++ order_line c.contradiction
-    else []
+
+-- The lines of a pair.
+abbrev pub pair_lines : LogComparison → List ℕ
+pair_lines c = if are_paired c then connection_line c ++ told_lines c else []
 
 -- ---- the verdict
 
@@ -57,9 +63,12 @@ counts_words c =
     ++ count_words (codes "unsent") (told c Unsent) ++ count_words (codes "unfound") (told c Unfound)
     ++ count_words (codes "order") (told c Order)
 
+-- The verdict, and how many pairs are compared.
+abbrev pub verdict_words : LogComparison → List ℕ
+verdict_words c = verdict_word (verdict_of c) ++ codes " connections=" ++ decimal (pair_count (are_paired c))
+
 abbrev pub verdict_line : LogComparison → List ℕ
-verdict_line c =
-    verdict_word (verdict_of c) ++ codes " connections=" ++ decimal (pair_count (are_paired c)) ++ counts_words c ++ 10 ∷ []
+verdict_line c = verdict_words c ++ counts_words c ++ 10 ∷ []
 
 -- ---- all
 

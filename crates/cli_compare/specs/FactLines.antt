@@ -31,10 +31,12 @@ fact_line sender receiver (Unfound i) = one_line (codes "unfound ") receiver i
 abbrev pub fact_lines : List ℕ → List ℕ → List Fact → List ℕ
 fact_lines sender receiver facts = flat_map (fact_line sender receiver) facts
 
+abbrev pub order_words : List ℕ → ℕ → ℕ → List ℕ
+order_words end line from = line_words end line ++ codes " from=" ++ decimal from
+
 -- The line of an order: each end's line, and the other end's line that sent what it receives. No line for another
 -- contradiction.
 abbrev pub order_line : Option LineContradiction → List ℕ
 order_line (Some (Order host host_from equipment equipment_from)) =
-    codes "order " ++ line_words (codes "host") host ++ codes " from=" ++ decimal host_from ++ codes " "
-    ++ line_words (codes "equipment") equipment ++ codes " from=" ++ decimal equipment_from ++ 10 ∷ []
+    codes "order " ++ order_words (codes "host") host host_from ++ codes " " ++ order_words (codes "equipment") equipment equipment_from ++ 10 ∷ []
 order_line contradiction = []

@@ -1,8 +1,8 @@
 //! `hsms compare`: the comparison of two logs, as text.
 
-ghost use Rattle.std.specs.Prelude.{◌≡◌};
+ghost use Rattle.std.specs.Prelude.{◌≡◌, ◌&&◌};
 ghost use Rattle.hsms_frame.specs.Io.{IfRecorded};
-ghost use Rattle.cli_compare.specs.Comparison.{ComparesTo, outcome_by as outcome_for, writes_after};
+ghost use Rattle.cli_compare.specs.Comparison.{ComparesTo, outcome_by as result_by, outcome_of as outcome_for, writes_after};
 ghost use Rattle.cli_output.specs.Verdict.{is_pass};
 
 use crate::compare_error::CompareError;
@@ -34,23 +34,33 @@ pub fn compare_to<R: Source + Drop, S: Source + Drop, W: Sink>(
     let comparison = LogComparison::of_logs(alloc, first, second)?;
     let text = comparison_text(alloc, &comparison)?;
     give_all(sink, text.as_bytes())?;
-    let passes = passes(comparison.host.verdict) && passes(comparison.equipment.verdict);
+    outcome(&comparison)
+}
+
+/// Returns the result for a comparison.
+fn outcome(comparison: &LogComparison) -> Result<bool, CompareError>
+    ensures { result ≡ outcome_for comparison.now }
+{
+    let passes = both_pass(comparison.host.verdict, comparison.equipment.verdict);
     outcome_by(passes, comparison.verdict())
 }
 
-/// Returns whether a verdict is a pass.
-fn passes(verdict: Verdict) -> bool
-    ensures { result ≡ is_pass verdict }
+/// Returns whether both verdicts are passes.
+fn both_pass(one: Verdict, other: Verdict) -> bool
+    ensures { result ≡ (is_pass one && is_pass other) }
 {
-    match verdict {
-        Verdict::Pass(_) => true,
+    match one {
+        Verdict::Pass(_) => match other {
+            Verdict::Pass(_) => true,
+            Verdict::Fail { .. } => false,
+        },
         Verdict::Fail { .. } => false,
     }
 }
 
 /// Returns the result by whether both logs pass, and the verdict on the pair.
 fn outcome_by(passes: bool, verdict: PairVerdict) -> Result<bool, CompareError>
-    ensures { result ≡ outcome_for passes verdict }
+    ensures { result ≡ result_by passes verdict }
 {
     if !passes {
         return Ok(false);

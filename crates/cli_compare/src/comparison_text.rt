@@ -2,7 +2,7 @@
 
 ghost use Rattle.std.specs.Prelude.{◌≡◌, ◌++◌, ◌∷◌, [], OnOk, IfOk, codes, string_bytes};
 ghost use Rattle.cli_output.specs.Verdict.{verdict_line_of};
-ghost use Rattle.cli_compare.specs.Comparison.{comparison_text as text_of, connection_words, count_words, counts_words, number_of as number_or_zero, pair_lines, verdict_line as verdict_line_by, verdict_word as word_of};
+ghost use Rattle.cli_compare.specs.Comparison.{comparison_text as text_of, connection_line, connection_words, count_words, counts_words, number_of as number_or_zero, pair_count as pairs, pair_lines, told_lines, verdict_words, verdict_line as verdict_line_by, verdict_word as word_of};
 
 use crate::fact_lines::{push_facts, push_order};
 use cli_output::verdict_line;
@@ -17,7 +17,12 @@ pub fn comparison_text(alloc: Global, comparison: &LogComparison) -> Result<Stri
     let mut text = String::new(alloc);
     push_pair(&mut text, comparison)?;
     push_audit(alloc, &mut text, "host: ", comparison.host.verdict)?;
-    push_audit(alloc, &mut text, "equipment: ", comparison.equipment.verdict)?;
+    push_audit(
+        alloc,
+        &mut text,
+        "equipment: ",
+        comparison.equipment.verdict,
+    )?;
     push_verdict(&mut text, comparison)?;
     Ok(text)
 }
@@ -29,11 +34,35 @@ fn push_pair(text: &mut String, comparison: &LogComparison) -> Result<(), AllocE
     if !comparison.is_pair() {
         return Ok(());
     }
+    push_connections(text, comparison)?;
+    push_told(text, comparison)
+}
+
+/// Appends the line of both connections.
+fn push_connections(text: &mut String, comparison: &LogComparison) -> Result<(), AllocError>
+    ensures { OnOk result (string_bytes text.new ≡ string_bytes text.old ++ connection_line comparison.now) }
+{
     push_connection(text, "connection ", "host", &comparison.host)?;
     push_connection(text, " ", "equipment", &comparison.equipment)?;
-    text.push('\n')?;
-    push_facts(text, "host", "equipment", comparison.facts.to_equipment.as_slice())?;
-    push_facts(text, "equipment", "host", comparison.facts.to_host.as_slice())?;
+    text.push('\n')
+}
+
+/// Appends the lines of the facts of both directions, and that of an order.
+fn push_told(text: &mut String, comparison: &LogComparison) -> Result<(), AllocError>
+    ensures { OnOk result (string_bytes text.new ≡ string_bytes text.old ++ told_lines comparison.now) }
+{
+    push_facts(
+        text,
+        "host",
+        "equipment",
+        comparison.facts.to_equipment.as_slice(),
+    )?;
+    push_facts(
+        text,
+        "equipment",
+        "host",
+        comparison.facts.to_host.as_slice(),
+    )?;
     push_order(text, &comparison.contradiction)
 }
 
@@ -49,7 +78,10 @@ fn push_connection(
     let line = number_of(&log.up);
     let sent = log.frames.sent.len();
     let received = log.frames.received.len();
-    write!(text, "{before}{end} line={line} sent={sent} received={received}")
+    write!(
+        text,
+        "{before}{end} line={line} sent={sent} received={received}"
+    )
 }
 
 /// Returns a number, or 0 if there is none.
@@ -80,14 +112,28 @@ fn push_audit(
 fn push_verdict(text: &mut String, comparison: &LogComparison) -> Result<(), AllocError>
     ensures { OnOk result (string_bytes text.new ≡ string_bytes text.old ++ verdict_line_by comparison.now) }
 {
-    text.push_str(verdict_word(comparison.verdict()))?;
-    if comparison.is_pair() {
-        text.push_str(" connections=1")?;
-    } else {
-        text.push_str(" connections=0")?;
-    }
+    push_words(text, comparison)?;
     push_counts(text, comparison)?;
     text.push('\n')
+}
+
+/// Appends the word of the verdict, and how many pairs are compared.
+fn push_words(text: &mut String, comparison: &LogComparison) -> Result<(), AllocError>
+    ensures { OnOk result (string_bytes text.new ≡ string_bytes text.old ++ verdict_words comparison.now) }
+{
+    let word = verdict_word(comparison.verdict());
+    let count = pair_count(comparison.is_pair());
+    write!(text, "{word} connections={count}")
+}
+
+/// Returns how many pairs are compared.
+fn pair_count(is_pair: bool) -> u64
+    ensures { result ≡ pairs is_pair }
+{
+    if is_pair {
+        return 1;
+    }
+    0
 }
 
 /// Appends each count that is not 0.

@@ -1,7 +1,7 @@
 //! The lines of the facts of a pair of connections.
 
 ghost use Rattle.std.specs.Prelude.{◌≡◌, ◌++◌, OnOk, string_bytes};
-ghost use Rattle.cli_compare.specs.FactLines.{fact_line, fact_lines, order_line};
+ghost use Rattle.cli_compare.specs.FactLines.{fact_line, fact_lines, order_line, order_words};
 
 use hsms_compare::LineContradiction;
 use hsms_compare_repair::Fact;
@@ -23,12 +23,7 @@ pub fn push_facts(
 }
 
 /// Appends the line of a fact.
-fn push_fact(
-    text: &mut String,
-    sender: &str,
-    receiver: &str,
-    fact: &Fact,
-) -> Result<(), AllocError>
+fn push_fact(text: &mut String, sender: &str, receiver: &str, fact: &Fact) -> Result<(), AllocError>
     ensures { OnOk result (string_bytes text.new ≡ string_bytes text.old ++ fact_line sender.now receiver.now fact.now) }
 {
     match *fact {
@@ -65,14 +60,30 @@ pub fn push_order(
         None => Ok(()),
         Some(LineContradiction::Differs { .. }) => Ok(()),
         Some(LineContradiction::Unsent { .. }) => Ok(()),
-        Some(LineContradiction::Order {
-            host,
-            host_from,
-            equipment,
-            equipment_from,
-        }) => write!(
-            text,
-            "order host line={host} from={host_from} equipment line={equipment} from={equipment_from}\n"
-        ),
+        Some(
+            LineContradiction::Order {
+                host,
+                host_from,
+                equipment,
+                equipment_from,
+            },
+        ) => {
+            push_end(text, "order ", "host", host, host_from)?;
+            push_end(text, " ", "equipment", equipment, equipment_from)?;
+            text.push('\n')
+        }
     }
+}
+
+/// Appends an end's line of an order, and the other end's line that sends what it receives, after a text before it.
+fn push_end(
+    text: &mut String,
+    before: &str,
+    end: &str,
+    line: u64,
+    from: u64,
+) -> Result<(), AllocError>
+    ensures { OnOk result (string_bytes text.new ≡ string_bytes text.old ++ before.now ++ order_words end.now line from) }
+{
+    write!(text, "{before}{end} line={line} from={from}")
 }

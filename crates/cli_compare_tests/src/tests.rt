@@ -125,7 +125,10 @@ fn check_failing(
     let mut sink = Store::new(vec![in alloc; 0u8; 2048]?, 11, writes);
     let found = result_text(compare_to(alloc, one, other, &mut sink))?;
     assert!(rt; found.as_str() == answer, "{answer}");
-    assert!(rt; sink.written().len() as u64 == writes.saturating_mul(11), "the output");
+    assert!(rt;
+        sink.written().len() as u64 == writes.saturating_mul(11),
+        "the output"
+    );
     Ok(())
 }
 

@@ -2,3 +2,4 @@ pub mod Inputs
 pub mod LineEntries
 pub mod Openings
 pub mod LogSteps
+pub mod Refusals

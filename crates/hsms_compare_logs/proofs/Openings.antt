@@ -13,7 +13,7 @@ use Rattle.hsms_log.proofs.SettingsLaws.{EncodesSettings-unique}
 use Rattle.hsms_log.proofs.LineLemmas.{ended_lines-first, ended_lines-none, open_line-first, open_line-none}
 use Rattle.hsms_compare.specs.Conversation.{Line}
 use Rattle.hsms_compare_logs.specs.declared.input.InputLine.{InputLine}
-use Rattle.hsms_compare_logs.specs.declared.input.InputLine.TheVariants.{Last}
+use Rattle.hsms_compare_logs.specs.declared.input.InputLine.TheVariants.{Last, TooLong}
 use Rattle.hsms_compare_logs.specs.InnerConnection.{IsFirstLine}
 use Rattle.hsms_compare_logs.specs.Entries.{AreLeft, AreOfText}
 use Rattle.hsms_compare_logs.specs.LogEntries.{HasEntries, HasSettings, HaveEntries, HaveSettings}
@@ -104,6 +104,12 @@ last_is limit items text line left a last none is same h =
     let Q : List ℕ → Type 0 = λ x. HasNone 10 x in
     let b = subst P is h in
     (sym (ap (λ x. x ++ text) none) ∙ b.0 ∙ sym same, subst Q (sym same) b.1)
+
+pub too_long_first : (items text left : List ℕ) (a : InputLine) (s : Parameters) → items ≡ [] → a ≡ TooLong → IsLine 256 (items ++ text) a left → HasSettings text s → ⊥
+too_long_first items text left a s none is h has =
+    let P : InputLine → Type 0 = λ x. IsLine 256 (items ++ text) x left in
+    let b = subst P is h in
+    no_settings text b.0 b.1 s (sym (ap (λ x. x ++ text) none) ∙ b.2) b.3 b.4 has
 
 -- ---- roles
 

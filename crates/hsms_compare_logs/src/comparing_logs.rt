@@ -1,5 +1,7 @@
 //! The comparison of two logs of version 1, in either order.
 
+ghost use Rattle.std.specs.Prelude.{◌≡◌, ◌==◌, ◌&&◌};
+
 use crate::comparing::LogComparison;
 use crate::opened_log::OpenedLog;
 use hsms_compare::ReadFault;
@@ -86,14 +88,9 @@ impl LogComparison {
             return Err(fault);
         }
         let role = first.settings.role();
-        let is_in_order = first.settings.version() == 1 && second.settings.version() == 1;
+        let is_in_order = are_in_order(&first.settings, &second.settings);
         match role {
-            Role::Host => Ok(LogComparison::of(
-                alloc,
-                first.entries,
-                second.entries,
-                is_in_order,
-            )?),
+            Role::Host => Ok(LogComparison::of(alloc, first.entries, second.entries, is_in_order)?),
             Role::Equipment => Ok(LogComparison::of(
                 alloc,
                 second.entries,
@@ -102,4 +99,11 @@ impl LogComparison {
             )?),
         }
     }
+}
+
+/// Returns whether both logs are of version 1, so that their connections are paired in order.
+fn are_in_order(first: &Settings, second: &Settings) -> bool
+    ensures { result ≡ ((first.now.version == 1) && (second.now.version == 1)) }
+{
+    first.version() == 1 && second.version() == 1
 }

@@ -25,7 +25,7 @@ pub struct LogEntries<R> {
 }
 
 impl<R: Source + Drop> LogEntries<R> {
-    ghost use Rattle.std.specs.Prelude.{◌≡◌, ◌≤◌, ◌+◌, ◌++◌, [], ◌∷◌, None, false, ℕ, List, IfOk, OnOk, length};
+    ghost use Rattle.std.specs.Prelude.{◌≡◌, ◌≤◌, ◌+◌, ◌++◌, ◌&&◌, not, [], ◌∷◌, None, false, ℕ, List, IfOk, OnOk, length};
     ghost use Rattle.hsms_machine.specs.Entry.{is_down as ends};
     ghost use Rattle.hsms_compare.specs.Conversation.{Line};
     ghost use Rattle.hsms_compare.specs.Readings.{line_of, pending};
@@ -88,6 +88,13 @@ impl<R: Source + Drop> LogEntries<R> {
         self.advance(alloc)
     }
 
+    /// Returns at the end whether the connection may have more entries.
+    fn may_have_more(&self) -> bool
+        ensures { result ≡ (not self.now.is_followed && not self.now.is_down) }
+    {
+        !self.is_followed && !self.is_down
+    }
+
     /// Reads the connection to its end.
     fn drain(&mut self, alloc: Global) -> Result<(), ReadFault>
         ensures text { OnOk result ((text : List ℕ) → ReadsText text self.old.reader.input.audit (R.state self.old.reader.input.source).left
@@ -118,12 +125,13 @@ impl<R: Source + Drop> LogEntries<R> {
     {
         let mut log = self;
         log.drain(alloc)?;
+        let is_open = log.may_have_more();
         let LogEntries {
             reader,
             up,
             frames,
             next,
-            is_down,
+            is_down: _,
             is_followed,
         } = log;
         drop(next);
@@ -138,7 +146,7 @@ impl<R: Source + Drop> LogEntries<R> {
             frames: LogFrames {
                 sent,
                 received,
-                is_open: !is_followed && !is_down,
+                is_open,
             },
             is_followed,
             verdict,
@@ -173,6 +181,6 @@ impl<R: Source + Drop> Entries for LogEntries<R> {
     }
 
     fn is_open(&self) -> bool {
-        !self.is_followed && !self.is_down
+        self.may_have_more()
     }
 }

@@ -1,6 +1,7 @@
 use Rattle.std.proofs.Common.{◌∙◌, sym, inl, inr}
 use Rattle.hsms_compare_logs.specs.LogEntries.{connection_of, has_later_connections, is_open_connection}
 use Rattle.hsms_compare_logs.proofs.Openings.{other_role}
+use Rattle.hsms_compare_logs.proofs.Refusals.{not_compared}
 use Rattle.hsms_compare_logs.proofs.comparing.LogComparison.of_logs.Goals as goal
 
 pub returns-in_ok-of-in-Host-clause-ok : goal.returns-in_ok-of-in-Host-clause-ok
@@ -19,7 +20,7 @@ returns-in_ok-of-in-Host-clause-ok g c one other known known' =
       s,
       t,
       c.of.ensures.none c.in_default-of.is,
-      search auto,
+      compared.order ∙ c.are_in_order-is_in_order.ensures,
       inl (record {
         role = sym c.role-role.ensures ∙ c.in-Host.is;
         host_settings = begins one known;
@@ -49,7 +50,7 @@ returns-in_ok-of-in-Equipment-clause-ok g c one other known known' =
       s,
       t,
       can,
-      search auto,
+      compared.order ∙ c.are_in_order-is_in_order.ensures,
       inr (record {
         role = other_role s.role t.role can.roles (sym c.role-role.ensures ∙ c.in-Equipment.is);
         host_settings = begins' other known';
@@ -61,3 +62,15 @@ returns-in_ok-of-in-Equipment-clause-ok g c one other known known' =
         of_equipment = compared.equipment one (reads one known) (entries one known);
       }),
     )
+
+pub returns-in_default-2-clause-err : goal.returns-in_default-2-clause-err
+returns-in_default-2-clause-err g c one other known known' =
+    let begins = rw c.in-Some.is at c.in_ok-first.ensures.settings in
+    (c.in-Some.first.settings, begins one known, λ s has. c.in_ok-second.ensures.none c.in_default-2.is other s known' has)
+
+pub returns-in-Some-of-clause-err : goal.returns-in-Some-of-clause-err
+returns-in-Some-of-clause-err g c one other known known' =
+    let begins = rw c.in-Some.is at c.in_ok-first.ensures.settings in
+    let begins' = rw c.in-Some-2.is at c.in_ok-second.ensures.settings in
+    let why = rw c.in-Some-of.is at c.of.ensures.some in
+    not_compared one other c.in-Some.first.settings c.in-Some-2.second.settings c.in-Some-of.fault (begins one known) (begins' other known') why

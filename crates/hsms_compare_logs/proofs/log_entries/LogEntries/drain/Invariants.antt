@@ -5,8 +5,8 @@ use Rattle.hsms_compare_logs.specs.Entries.{most_left}
 use Rattle.hsms_compare_logs.specs.Connection.{ReadsConnection}
 use Rattle.hsms_compare_logs.proofs.log_entries.LogEntries.drain.Given as goal
 
-abbrev pub invariant-loop-self : goal.invariant-loop-self
-invariant-loop-self g l =
+abbrev pub invariant-loop-next : goal.invariant-loop-next
+invariant-loop-next g l =
     ((text : List ℕ) → ReadsText text l.fn.self.reader.input.audit (g.R.Source.state l.fn.self.reader.input.source).left
     → ReadsText text l.self.reader.input.audit (g.R.Source.state l.self.reader.input.source).left)
     × ((text : List ℕ)
@@ -15,5 +15,5 @@ invariant-loop-self g l =
     → ReadsConnection text l.self.reader.input.block.items (g.R.Source.state l.self.reader.input.source).left l.self.reader.max
     l.self.reader.lines l.self.reader.is_ended l.self.next l.self.is_down l.self.is_followed l.self.up l.self.frames)
 
-abbrev pub decreases-loop-self : goal.decreases-loop-self
-decreases-loop-self g l = length (pending l.self.next) + most_left l.self.reader.input.block.items l.self.reader.input.audit l.self.reader.is_ended
+abbrev pub decreases-loop-next : goal.decreases-loop-next
+decreases-loop-next g l = length (pending l.self.next) + most_left l.self.reader.input.block.items l.self.reader.input.audit l.self.reader.is_ended

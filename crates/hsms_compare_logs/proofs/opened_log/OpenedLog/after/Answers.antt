@@ -38,7 +38,7 @@ returns-clause-connection g c text octets known first s found entries =
       c.in_ok-advance.ensures.entry (after_up found) refl skipped.1,
     )
 
-pub returns-in-None-clause-none : goal.returns-in-None-clause-none
-returns-in-None-clause-none g c none text left s first has =
+pub returns-in_default-clause-none : goal.returns-in_default-clause-none
+returns-in_default-clause-none g c none text left s first has =
     let P : List ℕ → Type 0 = λ x. EncodesSettings x s in
-    c.in-None.ensures.none s (subst P (sym c.without_carriage_return.ensures) (settings_in text c.args.line.now left c.args.is_ended s has first))
+    c.in_default.ensures.none s (subst P (sym c.without_carriage_return.ensures) (settings_in text c.args.line.now left c.args.is_ended s has first))
