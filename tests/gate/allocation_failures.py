@@ -95,6 +95,8 @@ EXAMPLES = [
     (["encode"], "examples/session.txt"),
     (["encode", "--max", "256"], "examples/long.txt"),
     (["audit"], "examples/expired.log"),
+    (["compare", "-", f"{TOP}/tests/compare/skipped-equipment.log"], "tests/compare/skipped-host.log"),
+    (["compare", f"{TOP}/tests/compare/order-host.log", "-"], "tests/compare/order-equipment.log"),
     (["explain"], "examples/late-reply.log"),
     (["explain", "--utc"], "examples/late-reply.log"),
     (["explain", "--format", "json"], "examples/late-reply.log"),
