@@ -56,9 +56,9 @@ pub const AROUND: Numbered = Numbered("around", 0, 1_000, Some(5));
 /// The name of the operands that are names of files.
 pub const FILE: &str = "FILE";
 
-const FILE_HELP: &str = "File to read; - is standard input, and so is no FILE";
+const FILE_HELP: &str = "File to read; - is standard input [default: -]";
 
-const FILES_HELP: &str = "Files to read, one after another; - is standard input, and so is no FILE";
+const FILES_HELP: &str = "Files to read, one after another; - is standard input [default: -]";
 
 /// The number that represents the last line of a log.
 pub const LAST_LINE: u32 = u32::MAX;

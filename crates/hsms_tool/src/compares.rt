@@ -1,17 +1,16 @@
 //! `hsms compare`: the logs in two files.
 
-use crate::buffered;
-use crate::input::opened;
+use crate::input::{buffered, open_input};
 use cli_advice::Failure;
 use cli_compare::{compare_to, fault_of};
-use cli_options::{ToolFault, no_request};
+use cli_options::{ToolFault, exit_status, no_request};
 use hsms_frame::{Reader, Sink, Writer};
 use std::alloc::Global;
 use std::fs::Files;
 use std::io;
 use std::io::Read;
 
-/// Compares the logs in two files, and writes the comparison. Returns true if both pass and agree.
+/// Compares the logs in two files, and writes the comparison. Returns the status.
 ///
 /// # Errors
 ///
@@ -22,13 +21,14 @@ pub fn compare_files<R: Files + Input + Print>(
     rt: &R,
     files: &[&str],
     is_verbose: bool,
-) -> Result<bool, Failure> {
+) -> Result<u8, Failure> {
     let [first, second] = files else {
         return Err(Failure::from(no_request(alloc)));
     };
-    let one = opened(alloc, rt, first, is_verbose)?;
-    let other = opened(alloc, rt, second, is_verbose)?;
-    Ok(compare_inputs(alloc, one, other, &mut Writer::new(io::writer(rt)))?)
+    let one = open_input(alloc, rt, first, is_verbose)?;
+    let other = open_input(alloc, rt, second, is_verbose)?;
+    let agree = compare_inputs(alloc, one, other, &mut Writer::new(io::writer(rt)))?;
+    Ok(exit_status(&Ok(agree)))
 }
 
 // Compares the logs of two inputs. Returns true if both pass and agree.

@@ -1,11 +1,17 @@
 //! The input of a command: standard input, or a file.
 
 use cli_advice::{Failure, open_words};
-use cli_options::{ToolFault, no_request, refusal};
+use cli_options::{ToolFault, refusal};
 use std::alloc::Global;
 use std::fs::{File, Files, OpenFile};
 use std::io;
-use std::io::{ErrorKind, Read};
+use std::io::{BufReader, ErrorKind, Read};
+
+// The number of bytes that are buffered between the command and its input.
+const BUFFER: usize = 65536;
+
+/// The name of standard input.
+pub const STANDARD: &str = "-";
 
 /// Standard input, or an open file.
 #[derive(Drop)]
@@ -25,32 +31,19 @@ impl<S: Read, F: Read> Read for Opened<S, F> {
     }
 }
 
-/// Returns the name of the only file. Without a file it is `-`.
-///
-/// # Errors
-///
-/// Returns the error of an invalid command line if there are several files.
-pub fn single_name<'a>(alloc: Global, files: &[&'a str]) -> Result<&'a str, ToolFault> {
-    match files {
-        [] => Ok("-"),
-        [name] => Ok(*name),
-        _ => Err(no_request(alloc)),
-    }
-}
-
 /// Opens the file with this name. The name `-` is standard input.
 ///
 /// # Errors
 ///
 /// Returns the text `Open file=NAME` if the file cannot be opened or is a directory. If errors are explained, the
 /// failure has the reason.
-pub fn opened<R: Files + Input>(
+pub fn open_input<R: Files + Input>(
     alloc: Global,
     rt: &R,
     name: &str,
     is_verbose: bool,
 ) -> Result<Opened<R::Reader, R::File>, Failure> {
-    if name == "-" {
+    if name == STANDARD {
         return Ok(Opened::Standard(rt.reader()));
     }
     match opened_file(rt, name) {
@@ -75,4 +68,9 @@ fn open_failure(alloc: Global, name: &str, kind: ErrorKind, is_verbose: bool) ->
         return Failure::said(fault, open_words(alloc, kind));
     }
     Failure::from(fault)
+}
+
+/// Returns an input that is read in blocks.
+pub fn buffered<I: Read + Drop>(alloc: Global, input: I) -> Result<BufReader<I>, ToolFault> {
+    BufReader::with_capacity(alloc, BUFFER, input).map_err(|_| ToolFault::Memory)
 }
