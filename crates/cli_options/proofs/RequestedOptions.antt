@@ -22,7 +22,7 @@ use Rattle.cli_options.specs.declared.request.Task.TheVariants as asked
 use Rattle.cli_options.specs.OptionValues.{Number, number_between, number_in}
 use Rattle.cli_options.specs.Request.{Operands, AsksBy, EncodesTo, HasOperands, ParsesNothing, ParsesWork, command_line, no_operands, operands_by, operands_for, operands_of}
 use Rattle.cli_options.specs.InnerRequest.{CallsForText, IsHelp}
-use Rattle.cli_options.specs.Status.{IsRefusedFor}
+use Rattle.cli_options.specs.Status.{IsRefusedAs, IsRefusedFor}
 
 -- ---- numbers and flags
 
@@ -89,6 +89,12 @@ pub names_copied : {A E : Type 0} (items : A → List (Bor Text)) (names : List 
 names_copied items names given (Ok copied) same is = ap (map (λ name. name.now)) same ∙ ap (λ o. unwrap_or o []) is
 names_copied items names given (Err error) same is = tt
 
+-- The names were counted.
+pub counted : (names : List (Bor Text)) (given : Option (List Text)) → Some (map (λ name. name.now) names) ≡ given
+    → nat_eq (length names) 2 ≡ nat_eq (length (unwrap_or given [])) 2
+counted names given is =
+    ap (λ (n : ℕ). nat_eq n 2) (sym (length-map names (λ name. name.now)) ∙ ap (λ o. length (unwrap_or o [])) is)
+
 -- Operands with these names and this flag.
 pub same_operands : {names others : List Text} {quiet is_quiet : Bool} → names ≡ others → quiet ≡ is_quiet
     → ◌≡◌ {A = Operands} (record { names = names; quiet = quiet }) (record { names = others; quiet = is_quiet })
@@ -105,6 +111,28 @@ entered_as f (Some c) name rows is_name is_rows =
     let named : (f c).0 ≡ name = cc in
     let same : (f c).1 ≡ rows = cc in
     ap₂ (λ (a : Text) (b : List Row). Some (a, b)) named same
+
+-- No subcommand requests anything.
+asks_for_entered : (name other : Text) (rows others : List Row) (request : Request) → ◌≡◌ {A = Option (Text × List Row)} (Some (name, rows)) (Some (other, others))
+    → AsksFor other others request → AsksFor name rows request
+asks_for_entered name other rows others request both asks =
+    let named : name ≡ other = cc in
+    let same : rows ≡ others = cc in
+    let P : Text → Type 0 = λ x. AsksFor x others request in
+    let Q : List Row → Type 0 = λ x. AsksFor name x request in
+    subst Q (sym same) (subst P (sym named) asks)
+
+asks_nothing : (entered : Option (Text × List Row)) (name : Text) (rows : List Row) → entered ≡ Some (name, rows)
+    → ((request : Request) → AsksFor name rows request → ⊥) → (request : Request) → AsksBy entered request → ⊥
+asks_nothing entered name rows is none request (other, others, e, asks) =
+    none request (asks_for_entered name other rows others request (sym is ∙ e) asks)
+
+pub none_asked : (entered : Option (Text × List Row)) (name : Text) (rows : List Row) (text : List ℕ) (fault : ToolFault) → entered ≡ Some (name, rows)
+    → ((request : Request) → AsksFor name rows request → ⊥) → IsRefusedAs text fault
+    → IsRefusedFor ((request : Request) → AsksBy entered request → ⊥) text fault
+none_asked entered name rows text (Refused given) is none told = (told, asks_nothing entered name rows is none)
+none_asked entered name rows text (Device word) is none told = told
+none_asked entered name rows text Memory is none told = tt
 
 command_is_simple : is_simple command_line ≡ true
 unfolding clap_on_literals

@@ -1,5 +1,5 @@
 -- What the words of a command line request, as `clap` reads them.
-use Rattle.std.specs.Prelude.{◌≡◌, ◌≢◌, ◌≤◌, ◌⊎◌, true, false, List, [], ◌∷◌, codes, map, Bool, Option, Some, None, unwrap_or}
+use Rattle.std.specs.Prelude.{◌≡◌, ◌≢◌, ◌≤◌, ◌⊎◌, true, false, List, [], ◌∷◌, codes, map, Bool, IsTrue, Option, Some, None, unwrap_or}
 use Rattle.clap.specs.Words.{App, IsAmong, Row, Shape, Text, all_of, fault_of, new_app, subcommand_of}
 use Rattle.clap.specs.declared.error.kind.ErrorKind.TheVariants.{DisplayHelp, DisplayVersion}
 use Rattle.cli_options.specs.declared.request.CommandLine.{CommandLine}
@@ -11,7 +11,7 @@ use Rattle.cli_options.specs.declared.request.Task.{Task}
 use Rattle.cli_options.specs.declared.request.Task.TheVariants as asked
 use Rattle.cli_options.specs.CaptureOptions.{HasCapturing, IsCapturingWithinLimits, capture_rules}
 use Rattle.cli_options.specs.OptionValues.{IsFlag, depth_number, device_number, flag_in, flag_option, max_number, number_in, operands, option_of, system_number}
-use Rattle.cli_options.specs.CompareOptions.{HasTwoFiles, compare_rules}
+use Rattle.cli_options.specs.CompareOptions.{compare_rules, has_two_files}
 use Rattle.cli_options.specs.ExplainOptions.{HasExcerpt, IsExcerptWithinLimits, explain_rules}
 use Rattle.cli_options.specs.ServeOptions.{AsksToServe, serve_rules}
 
@@ -92,7 +92,7 @@ AsksForTask name rows (asked.Encode e) =
 abbrev pub AsksFor : Text → List Row → Request → Type 0
 AsksFor name rows (request.Task task) = AsksForTask name rows task
 AsksFor name rows (request.Explain excerpt) = (name ≡ codes "explain") × HasExcerpt rows excerpt
-AsksFor name rows request.Compare = (name ≡ codes "compare") × HasTwoFiles rows
+AsksFor name rows request.Compare = (name ≡ codes "compare") × IsTrue (has_two_files rows)
 AsksFor name rows (request.Capture capturing) = (name ≡ codes "capture") × HasCapturing rows capturing
 AsksFor name rows (request.Serve service) = (name ≡ codes "serve") × AsksToServe rows service
 

@@ -1,9 +1,9 @@
 //! What the command line requests. It is checked before anything is read.
 
-ghost use Rattle.std.specs.Prelude.{◌≡◌, ◌≢◌, IfOk, IfErr, IfSome, None, [], codes, map, string_bytes, unwrap_or};
+ghost use Rattle.std.specs.Prelude.{◌≡◌, ◌≢◌, IsTrue, IfOk, IfErr, IfSome, None, [], codes, map, string_bytes, unwrap_or};
 ghost use Rattle.clap.specs.Words.{all_of, found_of, kind_of, rows_of, subcommand_rows_of};
 ghost use Rattle.clap.specs.declared.error.kind.ErrorKind.TheVariants.{OutOfMemory};
-ghost use Rattle.cli_options.specs.CompareOptions.{HasTwoFiles};
+ghost use Rattle.cli_options.specs.CompareOptions.{has_two_files};
 ghost use Rattle.cli_options.specs.Request.{AsksBy, AsksFor, AsksForTask, HasOperands, IsTaskWithinLimits, IsWithinLimits, EncodesTo, ParsesNothing, form_in, no_operands, operands_by, operands_in, operands_of};
 ghost use Rattle.cli_options.specs.InnerRequest.{CallsForText, IsHelp};
 ghost use Rattle.cli_options.specs.Status.{IsRefusedFor};
@@ -168,7 +168,7 @@ fn asked_by<'a>(name: &str, options: &ArgMatches<'a>) -> Option<Request<'a>>
 fn compare_of<'a>(options: &ArgMatches<'_>) -> Option<Request<'a>>
     ensures asks { IfSome result (AsksFor (codes "compare") (rows_of (found_of options.now))) }
     ensures limits { IfSome result IsWithinLimits }
-    ensures none { result ≡ None → HasTwoFiles (rows_of (found_of options.now)) → ⊥ }
+    ensures none { result ≡ None → IsTrue (has_two_files (rows_of (found_of options.now))) → ⊥ }
 {
     if names_two_files(options) {
         return Some(Request::Compare);
