@@ -21,7 +21,7 @@ use Rattle.cli_options.specs.declared.request.Request.{Request}
 use Rattle.cli_options.specs.declared.request.Request.TheVariants as request
 use Rattle.cli_options.specs.declared.request.Task.TheVariants as asked
 use Rattle.cli_options.specs.OptionValues.{Number, number_between, number_in}
-use Rattle.cli_options.specs.Request.{Operands, AsksBy, EncodesTo, HasOperands, ParsesNothing, ParsesWork, command_line, no_operands, operands_by, operands_for, operands_of}
+use Rattle.cli_options.specs.Request.{Operands, AsksBy, AsksFor, EncodesTo, HasOperands, ParsesNothing, ParsesWork, command_line, no_operands, operands_by, operands_for, operands_of}
 use Rattle.cli_options.specs.InnerRequest.{CallsForText, IsHelp}
 use Rattle.cli_options.specs.Status.{IsRefusedAs, IsRefusedFor}
 
