@@ -21,15 +21,16 @@ abbrev pub number_of : Option ℕ → ℕ
 number_of None = 0
 number_of (Some number) = number
 
--- A log's first connection: the line of its `up`, and the numbers of messages.
-abbrev pub connection_words : List ℕ → ReadLog → List ℕ
-connection_words end log =
-    line_words end (number_of log.up) ++ codes " sent=" ++ decimal (length log.frames.sent.items)
-    ++ codes " received=" ++ decimal (length log.frames.received.items)
+-- A log's first connection: the line of its `up`, and the numbers of messages, between two texts.
+unfoldable pub connection_words : List ℕ → List ℕ → ReadLog → List ℕ → List ℕ
+connection_words before end log after =
+    before ++ line_words end (number_of log.up) ++ codes " sent=" ++ decimal (length log.frames.sent.items)
+    ++ codes " received=" ++ decimal (length log.frames.received.items) ++ after
 
 abbrev pub connection_line : LogComparison → List ℕ
 connection_line c =
-    codes "connection " ++ connection_words (codes "host") c.host ++ codes " " ++ connection_words (codes "equipment") c.equipment ++ 10 ∷ []
+    connection_words (codes "connection ") (codes "host") c.host (codes " ")
+    ++ connection_words (codes "") (codes "equipment") c.equipment (10 ∷ [])
 
 -- The lines of its facts to equipment and to the host, and that of an order.
 abbrev pub told_lines : LogComparison → List ℕ
@@ -56,7 +57,7 @@ abbrev pub pair_count : Bool → ℕ
 pair_count true = 1
 pair_count false = 0
 
-abbrev pub counts_words : LogComparison → List ℕ
+unfoldable pub counts_words : LogComparison → List ℕ
 counts_words c =
     count_words (codes "skipped") (told c Skipped) ++ count_words (codes "swapped") (told c Swapped)
     ++ count_words (codes "again") (told c Again) ++ count_words (codes "differs") (told c Differs)
@@ -64,11 +65,11 @@ counts_words c =
     ++ count_words (codes "order") (told c Order)
 
 -- The verdict, and how many pairs are compared.
-abbrev pub verdict_words : LogComparison → List ℕ
-verdict_words c = verdict_word (verdict_of c) ++ codes " connections=" ++ decimal (pair_count (are_paired c))
+unfoldable pub verdict_words : PairVerdict → Bool → List ℕ
+verdict_words verdict paired = verdict_word verdict ++ codes " connections=" ++ decimal (pair_count paired)
 
 abbrev pub verdict_line : LogComparison → List ℕ
-verdict_line c = verdict_words c ++ counts_words c ++ 10 ∷ []
+verdict_line c = verdict_words (verdict_of c) (are_paired c) ++ counts_words c ++ 10 ∷ []
 
 -- ---- all
 

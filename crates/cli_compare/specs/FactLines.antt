@@ -31,12 +31,13 @@ fact_line sender receiver (Unfound i) = one_line (codes "unfound ") receiver i
 abbrev pub fact_lines : List ℕ → List ℕ → List Fact → List ℕ
 fact_lines sender receiver facts = flat_map (fact_line sender receiver) facts
 
-abbrev pub order_words : List ℕ → ℕ → ℕ → List ℕ
-order_words end line from = line_words end line ++ codes " from=" ++ decimal from
+-- An end's line of an order, and the other end's line that sent what it receives, between two texts.
+unfoldable pub order_words : List ℕ → List ℕ → ℕ → ℕ → List ℕ → List ℕ
+order_words before end line from after = before ++ line_words end line ++ codes " from=" ++ decimal from ++ after
 
--- The line of an order: each end's line, and the other end's line that sent what it receives. No line for another
--- contradiction.
+-- The line of an order. No line for another contradiction.
 abbrev pub order_line : Option LineContradiction → List ℕ
 order_line (Some (Order host host_from equipment equipment_from)) =
-    codes "order " ++ order_words (codes "host") host host_from ++ codes " " ++ order_words (codes "equipment") equipment equipment_from ++ 10 ∷ []
+    order_words (codes "order ") (codes "host") host host_from (codes " ")
+    ++ order_words (codes "") (codes "equipment") equipment equipment_from (10 ∷ [])
 order_line contradiction = []

@@ -42,9 +42,8 @@ fn push_pair(text: &mut String, comparison: &LogComparison) -> Result<(), AllocE
 fn push_connections(text: &mut String, comparison: &LogComparison) -> Result<(), AllocError>
     ensures { OnOk result (string_bytes text.new ≡ string_bytes text.old ++ connection_line comparison.now) }
 {
-    push_connection(text, "connection ", "host", &comparison.host)?;
-    push_connection(text, " ", "equipment", &comparison.equipment)?;
-    text.push('\n')
+    push_connection(text, "connection ", "host", &comparison.host, " ")?;
+    push_connection(text, "", "equipment", &comparison.equipment, "\n")
 }
 
 /// Appends the lines of the facts of both directions, and that of an order.
@@ -66,21 +65,24 @@ fn push_told(text: &mut String, comparison: &LogComparison) -> Result<(), AllocE
     push_order(text, &comparison.contradiction)
 }
 
-/// Appends a log's first connection, after a text before it.
+/// Appends a log's first connection, between two texts.
+#[tactic(auto, unfolding(crate::specs::Comparison::connection_words))]
 fn push_connection(
     text: &mut String,
     before: &str,
     end: &str,
     log: &ReadLog,
+    after: &str,
 ) -> Result<(), AllocError>
-    ensures { OnOk result (string_bytes text.new ≡ string_bytes text.old ++ before.now ++ connection_words end.now log.now) }
+    ensures { OnOk result (string_bytes text.new
+        ≡ string_bytes text.old ++ connection_words before.now end.now log.now after.now) }
 {
     let line = number_of(&log.up);
     let sent = log.frames.sent.len();
     let received = log.frames.received.len();
     write!(
         text,
-        "{before}{end} line={line} sent={sent} received={received}"
+        "{before}{end} line={line} sent={sent} received={received}{after}"
     )
 }
 
@@ -112,17 +114,18 @@ fn push_audit(
 fn push_verdict(text: &mut String, comparison: &LogComparison) -> Result<(), AllocError>
     ensures { OnOk result (string_bytes text.new ≡ string_bytes text.old ++ verdict_line_by comparison.now) }
 {
-    push_words(text, comparison)?;
+    push_words(text, comparison.verdict(), comparison.is_pair())?;
     push_counts(text, comparison)?;
     text.push('\n')
 }
 
 /// Appends the word of the verdict, and how many pairs are compared.
-fn push_words(text: &mut String, comparison: &LogComparison) -> Result<(), AllocError>
-    ensures { OnOk result (string_bytes text.new ≡ string_bytes text.old ++ verdict_words comparison.now) }
+#[tactic(auto, unfolding(crate::specs::Comparison::verdict_words))]
+fn push_words(text: &mut String, verdict: PairVerdict, is_pair: bool) -> Result<(), AllocError>
+    ensures { OnOk result (string_bytes text.new ≡ string_bytes text.old ++ verdict_words verdict is_pair) }
 {
-    let word = verdict_word(comparison.verdict());
-    let count = pair_count(comparison.is_pair());
+    let word = verdict_word(verdict);
+    let count = pair_count(is_pair);
     write!(text, "{word} connections={count}")
 }
 
@@ -137,6 +140,7 @@ fn pair_count(is_pair: bool) -> u64
 }
 
 /// Appends each count that is not 0.
+#[tactic(auto, unfolding(crate::specs::Comparison::counts_words))]
 fn push_counts(text: &mut String, comparison: &LogComparison) -> Result<(), AllocError>
     ensures { OnOk result (string_bytes text.new ≡ string_bytes text.old ++ counts_words comparison.now) }
 {

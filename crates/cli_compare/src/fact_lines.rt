@@ -68,22 +68,24 @@ pub fn push_order(
                 equipment_from,
             },
         ) => {
-            push_end(text, "order ", "host", host, host_from)?;
-            push_end(text, " ", "equipment", equipment, equipment_from)?;
-            text.push('\n')
+            push_end(text, "order ", "host", host, host_from, " ")?;
+            push_end(text, "", "equipment", equipment, equipment_from, "\n")
         }
     }
 }
 
-/// Appends an end's line of an order, and the other end's line that sends what it receives, after a text before it.
+/// Appends an end's line of an order, and the other end's line that sends what it receives, between two texts.
+#[tactic(auto, unfolding(crate::specs::FactLines::order_words))]
 fn push_end(
     text: &mut String,
     before: &str,
     end: &str,
     line: u64,
     from: u64,
+    after: &str,
 ) -> Result<(), AllocError>
-    ensures { OnOk result (string_bytes text.new ≡ string_bytes text.old ++ before.now ++ order_words end.now line from) }
+    ensures { OnOk result (string_bytes text.new
+        ≡ string_bytes text.old ++ order_words before.now end.now line from after.now) }
 {
-    write!(text, "{before}{end} line={line} from={from}")
+    write!(text, "{before}{end} line={line} from={from}{after}")
 }
