@@ -117,8 +117,9 @@ entered_as f (Some c) name rows is_name is_rows =
 asks_for_entered : (name other : Text) (rows others : List Row) (request : Request) → ◌≡◌ {A = Option (Text × List Row)} (Some (name, rows)) (Some (other, others))
     → AsksFor other others request → AsksFor name rows request
 asks_for_entered name other rows others request both asks =
-    let named : name ≡ other = cc in
-    let same : rows ≡ others = cc in
+    let pair : ◌≡◌ {A = Text × List Row} (name, rows) (other, others) = cc in
+    let named : name ≡ other = ap (λ (p : Text × List Row). p.0) pair in
+    let same : rows ≡ others = ap (λ (p : Text × List Row). p.1) pair in
     let P : Text → Type 0 = λ x. AsksFor x others request in
     let Q : List Row → Type 0 = λ x. AsksFor name x request in
     subst Q (sym same) (subst P (sym named) asks)
