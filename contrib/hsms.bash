@@ -14,8 +14,11 @@ _hsms() {
     words='show audit explain capture encode serve help --help --verbose --version'
   else
     case ${COMP_WORDS[1]} in
+      show | audit | explain | capture | encode) [[ $word == -* ]] || return ;;
+    esac
+    case ${COMP_WORDS[1]} in
       show) words='--max --depth --hex --bare --help --verbose' ;;
-      audit) words='--help --verbose' ;;
+      audit) words='--quiet --help --verbose' ;;
       explain) words='--only --around --from --to --format --utc --help --verbose' ;;
       capture) words='--port --peer --active --log --midstream --device --t3 --t6 --t7 --t8 --max --depth --help --verbose' ;;
       encode) words='--device --system --max --depth --hex --help --verbose' ;;

@@ -5,8 +5,8 @@
 _hsms() {
   if (( CURRENT == 2 )); then
     local -a commands=(
-      'show:Decode the HSMS messages on standard input, one line each'
-      'audit:Audit the session log on standard input'
+      'show:Decode HSMS messages, one line each'
+      'audit:Audit session logs'
       'explain:Show a session log line by line, with its transactions and failures'
       'capture:Audit the connections in a packet capture, or extract the log of one end'
       'encode:Encode messages from notation to HSMS bytes'
@@ -25,12 +25,15 @@ _hsms() {
         '--hex[Read one message per line, in hexadecimal]' \
         '--bare[With --hex\: lines have no length bytes, as in session logs]' \
         '--help[Print help]' \
-        '--verbose[Explain errors\: what happened, and what to do]'
+        '--verbose[Explain errors\: what happened, and what to do]' \
+        '*:FILE:_files'
       ;;
     audit)
       _arguments \
+        '--quiet[Write only the lines of failing logs]' \
         '--help[Print help]' \
-        '--verbose[Explain errors\: what happened, and what to do]'
+        '--verbose[Explain errors\: what happened, and what to do]' \
+        '*:FILE:_files'
       ;;
     explain)
       _arguments \
@@ -41,7 +44,8 @@ _hsms() {
         '--format[Output format\: text, json (one object per line) or html (a page) \[default\: text\]]:FORMAT:(text json html)' \
         '--utc[Show times as UTC dates, if the log has ms since 1970]' \
         '--help[Print help]' \
-        '--verbose[Explain errors\: what happened, and what to do]'
+        '--verbose[Explain errors\: what happened, and what to do]' \
+        ':FILE:_files'
       ;;
     capture)
       _arguments \
@@ -58,7 +62,8 @@ _hsms() {
         '--max[Maximum length of header and text in bytes\: 256 to 33554432 \[default\: 1048576\]]:N:' \
         '--depth[Maximum nesting of lists\: 1 to 100 \[default\: 32\]]:N:' \
         '--help[Print help]' \
-        '--verbose[Explain errors\: what happened, and what to do]'
+        '--verbose[Explain errors\: what happened, and what to do]' \
+        ':FILE:_files'
       ;;
     encode)
       _arguments \
@@ -68,7 +73,8 @@ _hsms() {
         '--depth[Maximum nesting of lists\: 1 to 100 \[default\: 32\]]:N:' \
         '--hex[Write one message per line, in hexadecimal]' \
         '--help[Print help]' \
-        '--verbose[Explain errors\: what happened, and what to do]'
+        '--verbose[Explain errors\: what happened, and what to do]' \
+        '*:FILE:_files'
       ;;
     serve)
       _arguments \

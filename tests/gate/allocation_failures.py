@@ -95,6 +95,11 @@ EXAMPLES = [
     (["encode"], "examples/session.txt"),
     (["encode", "--max", "256"], "examples/long.txt"),
     (["audit"], "examples/expired.log"),
+    (["audit", f"{TOP}/examples/expired.log"], "examples/select.bin"),
+    (["audit", f"{TOP}/examples/expired.log", f"{TOP}/missing", f"{TOP}/examples/session.log"], "examples/select.bin"),
+    (["audit", "--quiet", f"{TOP}/examples/unreadable.log"], "examples/select.bin"),
+    (["show", f"{TOP}/examples/session.bin", f"{TOP}/examples/cut-off.bin"], "examples/select.bin"),
+    (["encode", f"{TOP}/missing"], "examples/select.bin"),
     (["explain"], "examples/late-reply.log"),
     (["explain", "--utc"], "examples/late-reply.log"),
     (["explain", "--format", "json"], "examples/late-reply.log"),
@@ -235,7 +240,7 @@ def judge_of(row, collections):
     to ask the environment for HSMS_VERBOSE, no texts are written. So often the command may answer as ever although
     memory was refused.
     """
-    tells_lines = row.words[:1] in (("show",), ("explain",), ("capture",))
+    tells_lines = row.words[:1] in (("show",), ("explain",), ("capture",)) or row.words[:1] == ("audit",) and len(row.words) > 2
     parts = fronts(row.answer.output) if tells_lines else {b""}
     done_without = []
 

@@ -177,6 +177,9 @@ SMALLEST = {
         "pass entries=5 sent=2 taken=2 discarded=0 expired=0 waiting=1", "pass entries=5 sent=2 taken=2", None,
     ),
     "reset-old": ("fail line=11 packet=10 rule=T3Overdue", "pass entries=5 sent=2 taken=2", None),
+    "reset-behind-gap": (
+        "pass entries=4 sent=2 taken=1 discarded=0 expired=0 waiting=1", "pass entries=4 sent=1 taken=2", None,
+    ),
     "reset-with-text": ("pass entries=4 sent=1 taken=1", None, None),
     "gap-at-end": ("incomplete packet=7 pass entries=3 sent=1 taken=1", None, "Lost packet=7"),
     "clock": ("pass entries=5 sent=2 taken=2", None, None),
@@ -477,6 +480,34 @@ def left_out_cases() -> Iterator[Case]:
     one = selected()
     one.capture.packet(one.when, b"")
     yield "one that is left out", one.capture.octets, Options(), [*pass_lines, "# 1 packet skipped: short 1"], None, 0
+    yield from checksum_cases(pass_lines)
+
+
+def checksum_cases(pass_lines: List[str]) -> Iterator[Case]:
+    """Wrong checksums, and those that are not computed."""
+    copy = contents(f"{TOP}/tests/captures/damaged.pcap")
+    yield "a damaged copy", copy, Options(), [
+        *lines_of("pass entries=4 sent=1 taken=2", "pass entries=4 sent=2 taken=1"), "# 1 packet skipped: damaged 1"], None, 0
+    for kind in ("right", "partial", "large"):
+        yield f"checksums {kind}", with_checksums(kind).capture.octets, Options(), pass_lines, None, 0
+    talk = with_checksums("right")
+    for bit in (32, 8 * 16, 8 * 45):
+        talk.capture.segment(talk.when, PASSIVE, talk.next[PASSIVE], PUSH | ACK, bytes(14), talk.next[ACTIVE], flipped=bit)
+    lines = [*pass_lines, "# 3 packets skipped: damaged 3"]
+    yield "damaged packets", talk.capture.octets, Options(), lines, None, 0
+    odd = with_checksums("right")
+    odd.segment(ACTIVE, 0, PUSH | ACK, b"\0\0\0")
+    yield "checksums of an odd length", odd.capture.octets, Options(), pass_lines, None, 0
+    wide = Capture(is_ipv6=True)
+    wide.checksums = ["right", "right"]
+    names = [line.replace("10.0.0.1", "[fe80::1]").replace("10.0.0.2", "[fe80::2]") for line in pass_lines]
+    yield "checksums over IPv6", selected(wide).capture.octets, Options(), names, None, 0
+
+
+def with_checksums(kind: str) -> Talk:
+    capture = Capture()
+    capture.checksums = [kind, kind]
+    return selected(capture)
 
 
 def worked_cases() -> Iterator[Case]:

@@ -59,24 +59,26 @@ def cases_of_words():
     needed = "the following required arguments were not provided: --port <P>"
     yield Case([*END, "--address", HERE], 2, "command line", [f"{needed}. Usage: hsms serve {OPTIONS}"])
     value = "invalid value '1' for '--max <N>': 1 is not in 256..=33554432"
-    yield Case(["audit", "--max"], 2, "command line", ["unexpected argument '--max' found. Usage: hsms audit [OPTIONS] < LOG"])
+    yield Case(["audit", "--max"], 2, "command line", ["unexpected argument '--max' found. Usage: hsms audit [OPTIONS] [FILE]..."])
     yield Case(["show", "--max", "1"], 2, "command line", [value])
-    own = "--role, --active and --log take host or equipment; --link active or passive; --peer an IP address; "
-    own += "--only failures; --format text, json or html; --bare needs --hex; "
-    own += "--once, --connections and --t5 need --reconnect"
-    yield Case(["show", "--bare"], 2, "command line", [own])
-    yield Case(["explain", "--only", "all"], 2, "command line", [own])
+    yield Case(["show", "--bare"], 2, "command line", ["--bare needs --hex"])
+    yield Case(["explain", "--only", "all"], 2, "command line", ["--only all: expected failures"])
     for form in ("xml", "HTML", "JSON", ""):
-        yield Case(["explain", "--format", form], 2, "command line", [own])
+        expected = f"--format {form}: expected text, json or html"
+        yield Case(["explain", "--format", form], 2, "command line", [expected])
+        yield Case(["explain", f"--format={form}", "--utc"], 2, "command line", [expected])
     for option in ("--active", "--log"):
-        yield Case(["capture", option, "both"], 2, "command line", [own])
+        yield Case(["capture", option, "both"], 2, "command line", [f"{option} both: expected host or equipment"])
     for address in ("", "10.0.0", "10.0.0.256", "010.0.0.1", "::1%lo", "[::1]", "10.0.0.1:5000", "localhost"):
-        yield Case(["capture", "--peer", address], 2, "command line", [own])
+        yield Case(["capture", "--peer", address], 2, "command line", [f"--peer {address}: expected an IP address"])
     for options in (["--once"], ["--connections", "2"], ["--t5", "10000"]):
-        yield Case([*HERE_AT, "1", *options], 2, "command line", [own])
+        yield Case([*HERE_AT, "1", *options], 2, "command line", [f"{options[0]} needs --reconnect"])
     port = "invalid value '0' for '--port <N>': 0 is not in 1..=65535"
     yield Case(["capture", "--port", "0"], 2, "command line", [port])
-    yield Case([*HERE_AT, "1", "--role", "both"][:2] + ["both", *HERE_AT[3:], "1"], 2, "command line", [own])
+    role = "--role both: expected host or equipment"
+    yield Case(["serve", "--role", "both", *HERE_AT[3:], "1"], 2, "command line", [role])
+    link = "--link both: expected active or passive"
+    yield Case([*HERE_AT[:3], "--link", "both", *HERE_AT[5:], "1"], 2, "command line", [link])
 
 
 def cases_of_inputs():

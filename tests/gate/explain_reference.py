@@ -49,12 +49,12 @@ def many_sorts() -> bytes:
     """More kinds of failures than are distinguished, five of each kind."""
     kinds = [(stream, function) for function in range(16) for stream in range(17)]
     frames = [b"2 < 0001%02x%02x0000%08x\n" % (stream, function, at) for at, (stream, function) in enumerate(kinds)]
-    return EMPTY + b"0 up\n0 > ffff0000000100000001\n1 < ffff0000000200000001\n" + b"".join(frames) * 5
+    return EMPTY + SELECTED + b"".join(frames) * 5
 
 
 def many_kinds() -> bytes:
     """More kinds of primaries than are distinguished, in both directions, some with slow replies."""
-    lines, now = [b"0 up\n0 > ffff0000000100000001\n1 < ffff0000000200000001\n"], 1
+    lines, now = [SELECTED], 1
     for at in range(200):
         mark, reply = (b">", b"<") if at % 3 else (b"<", b">")
         stream, function, after = at % 40, at // 80 * 2 + 1, 2 ** (at % (16 if at % 3 else 40)) * 11 // 8
@@ -67,6 +67,28 @@ def many_kinds() -> bytes:
     return EMPTY + b"".join(lines)
 
 
+SELECTED = b"0 up\n0 > ffff0000000100000001\n1 < ffff0000000200000001\n"
+
+
+def overdue() -> bytes:
+    """Primaries of two functions that expire at other messages, several at one, and late replies."""
+    lines = [b"%d > 00008%d%02x0000%08x\n" % (1000 * at, at % 2 + 1, 1, at + 2) for at in range(12)]
+    lines += [b"%d < 0000060b0000%08x\n" % (47000 + 1000 * (at // 3), 100 + at) for at in range(9)]
+    lines += [b"%d < 0000%02x020000%08x\n" % (60000, at % 2 + 1, at + 2) for at in range(12)]
+    lines += [b"60100 > 000081010000%08x\n" % (200 + at) for at in range(3)]
+    return EMPTY + SELECTED + b"".join(lines) + b"110000 down\n"
+
+
+def reconnected() -> List[bytes]:
+    """Logs of both versions in which a connection starts while transactions are open, and Select.req is left out."""
+    first, wrong = b"0 > ffff0000000100000001\n", b"5 > 00010000000100000003\n6 > 0001000000010000000a\n"
+    primaries = b"10 > 00008101000000000002\n11 < 0000860b000000000009\n12 > 00008103000000000004\n"
+    again = SELECTED.replace(b"0 ", b"20 ").replace(b"1 <", b"20 <") + primaries.replace(b"1", b"2", 1)
+    bodies = [SELECTED + primaries + again, SELECTED + primaries + b"19 down\n" + again, b"0 up\n" + wrong + primaries]
+    bodies += [b"0 up\n" + wrong + first + primaries, SELECTED + primaries + b"20 up\n" + wrong + primaries]
+    return [settings + body for settings in (EMPTY, EMPTY.replace(b"log 1", b"log 2")) for body in bodies]
+
+
 def markup() -> List[bytes]:
     """Logs whose lines would be markup in a page, or end it, or have a meaning of their own there."""
     words = [b"<script>alert(1)</script>", b"</pre></details></div></main><h1>", b"<!-- ", b"-->", b"<![CDATA["]
@@ -77,9 +99,8 @@ def markup() -> List[bytes]:
     frames = [b"%d > 00008b01%04x%08x%s\n" % (at, 0, at + 2, it) for at, it in enumerate(items)]
     comments = [b"# %s\n" % it for it in words]
     lines = b"".join(it for both in zip(comments, frames) for it in both)
-    selected = b"0 up\n0 > ffff0000000100000001\n0 < ffff0000000200000001\n"
     unreadable = b"".join(b"%s\n" % it for it in words)
-    return [EMPTY + selected + lines, EMPTY + unreadable, unreadable, *words, EMPTY + lines + unreadable]
+    return [EMPTY + SELECTED.replace(b"1 <", b"0 <") + lines, EMPTY + unreadable, unreadable, *words, EMPTY + lines + unreadable]
 
 
 def excerpt_of(log: bytes) -> Excerpt:
@@ -104,7 +125,8 @@ def difference(log: bytes) -> Optional[str]:
         if not (are_answers and is_text and objects_of(in_json.output) == [list(it.items()) for it in wanted.objects]):
             shown = f"log: {log[:LONGEST_SHOWN].hex()}\nreference: {wanted}"
             return f"{' '.join(words)}\n{shown}\ncommand: {told}\nin JSON: {in_json}\naudit: {audited}"
-        fault = html_check.fault_of(in_html.output, wanted.unescaped, excerpt.is_utc)
+        ends = html_check.Ends(wanted.ladder.gaps, wanted.ladder.open)
+        fault = html_check.fault_of(in_html.output, wanted.unescaped, ends, excerpt.is_utc)
         if fault:
             return f"{' '.join(words)} --format html\nlog: {log[:LONGEST_SHOWN].hex()}\n{fault}\npage: {in_html}"
     return None
@@ -119,6 +141,26 @@ def objects_of(output: bytes) -> Optional[List[object]]:
         return None
 
 
+def memory_of_closed() -> Optional[str]:
+    """The hints for second replies, if others are written: for the first of 4,096 requests that were answered within T3,
+    for the same after one more, and for the second; after T3, for the first and for those before and in the last 256.
+    """
+    pair = "%d > 000081010000%08x\n%d < 000001020000%08x\n"
+    count, late = 4096, 120000
+    log = EMPTY.decode() + SELECTED.decode() + "".join(pair % (at, at + 2, at, at + 2) for at in range(1, count + 1))
+    second = "%d < 000001%02x0000%08x\n"
+    log += second % (count, 2, 3) + pair % (count, count + 3, count, count + 3)
+    log += second % (count, 2, 3) + second % (count, 2, 4)
+    log += "".join(second % (late, 0, system) for system in (3, count - 253, count - 252))
+    told = answer_of(["explain", "--only", "failures", "--around", "0", "--format", "json"], log.encode()).output
+    hints = [it["failures"][0].get("expected") for it in map(json.loads, told.splitlines()) if "line" in it and "failures" in it]
+    closed = "line %d has the same system bytes, but was already answered by line %d"
+    full = f"the memory of closed transactions is full: more than {count} were closed within T3"
+    last = 2 * (count - 254) + 3
+    wanted = [closed % (5, 6), full, closed % (7, 8), None, None, closed % (last, last + 1)]
+    return None if hints == wanted else f"hints {hints}, expected {wanted}"
+
+
 def help_of_rules() -> Optional[str]:
     """The help of the audit, where a rule has other words there."""
     told = answer_of(["audit", "--help"], b"").output.decode()
@@ -129,18 +171,17 @@ def help_of_rules() -> Optional[str]:
 def main() -> int:
     count, seed = int(sys.argv[1]) if len(sys.argv) > 1 else 500, sys.argv[2] if len(sys.argv) > 2 else "1"
     random = [random_logs.random_log(Chance(f"{seed} explain {number}")) for number in range(count)]
-    fixed = [*example_logs(), *random_logs.logs_at_edges(), *edge_cases.logs(), *markup()]
+    fixed = [*example_logs(), *random_logs.logs_at_edges(), *edge_cases.logs(), *markup(), overdue(), *reconnected()]
     logs = [*fixed, *random, *reasons.damaged_logs(seed, 2 * count)]
     logs += [many_sorts(), many_kinds(), *(repeated(log) for log in random + example_logs())]
     with ProcessPoolExecutor() as pool:
         differences = [(len(log), told) for log, told in zip(logs, pool.map(difference, logs)) if told]
     if differences:
         print(min(differences)[1])
-    words = help_of_rules()
-    if words:
-        print(words)
-    failed = len(differences) + bool(words)
-    print(f"{len(logs) + 1 - failed} passed, {failed} failed")
+    others = [words for words in (help_of_rules(), memory_of_closed()) if words]
+    print(*others, sep="\n", end="\n" * bool(others))
+    failed = len(differences) + len(others)
+    print(f"{len(logs) + 2 - failed} passed, {failed} failed")
     return 1 if failed else 0
 
 

@@ -23,9 +23,10 @@ sys.path.insert(0, os.path.abspath(f"{__file__}/../../.."))
 
 from tests.support.command import PROGRAM, TOP
 from tests.support.documents import LINK, commands
+from tests.support.serve_peers import free_port
 
 # What the commands of the pages call besides.
-SHELL = "sh cat head tail sed sleep cut tr sort uniq grep wc awk printf seq env od".split()
+SHELL = "sh cat head tail sed sleep cut tr sort uniq grep wc awk printf seq env od mktemp".split()
 
 PAGES = ["README.md", "examples/README.md"]
 
@@ -52,9 +53,9 @@ def unpacked(room, folder, names):
     return of_archive, of_package
 
 
-def wrote(root, words, command):
-    """What a command of a page writes, from the folder of the pages."""
-    env = {"PATH": f"{root}/usr/bin:{words}", "LC_ALL": "C.UTF-8"}
+def wrote(root, words, command, room):
+    """What a command of a page writes, from the folder of the pages. Its variables are as for transcripts.py."""
+    env = {"PATH": f"{root}/usr/bin:{words}", "LC_ALL": "C.UTF-8", "d": room, "p": str(free_port())}
     ended = subprocess.run(
         ["sh", "-c", command], cwd=f"{root}/usr/share/doc/hsms", env=env,
         stdin=subprocess.DEVNULL, stdout=subprocess.PIPE, stderr=subprocess.STDOUT, timeout=120, check=False,
@@ -91,10 +92,10 @@ def links(folder):
                 yield f"{page}: ({link})", is_packed
 
 
-def completed(line):
-    """What bash completes for a line, of which the last word is begun."""
+def completed(line, begun=""):
+    """What bash completes for a line and the beginning of its last word."""
     words = line.split(" ")
-    script = f'. contrib/hsms.bash; COMP_WORDS=({line} "") COMP_CWORD={len(words)}; _hsms; echo "${{COMPREPLY[@]}}"'
+    script = f'. contrib/hsms.bash; COMP_WORDS=({line} "{begun}") COMP_CWORD={len(words)}; _hsms; echo "${{COMPREPLY[@]}}"'
     ended = subprocess.run(["bash", "-c", script], cwd=TOP, capture_output=True, text=True, check=True)
     return set(ended.stdout.split())
 
@@ -106,7 +107,9 @@ def completions():
     for command in sorted(it for it in completed("hsms") if not it.startswith("-") and it != "help"):
         shown = subprocess.run([PROGRAM, command, "--help"], capture_output=True, text=True, check=True).stdout
         options = set(re.findall(r"^ +(?:-\w, )?(--[\w-]+)", shown, re.M))
-        yield f"completion of hsms {command}: {sorted(options)}", completed(f"hsms {command}") == options
+        yield f"completion of hsms {command}: {sorted(options)}", completed(f"hsms {command}", "--") == options
+        takes_files = "[FILE]" in shown
+        yield f"completion of hsms {command}: files", (completed(f"hsms {command}") == set()) == takes_files
 
 
 def checks(room):
@@ -132,7 +135,7 @@ def checks(room):
             with open(f"{root}/usr/share/doc/hsms/{page}") as file:
                 shown = list(commands(file.read()))
             for command, wanted in shown:
-                answer = wrote(root, words, command)
+                answer = wrote(root, words, command, room)
                 yield f"{root}, {page}: $ {command}\nwanted:\n{wanted}\nwrote:\n{answer}", answer == wanted
 
 

@@ -1,8 +1,8 @@
 """Checks of a page of `hsms explain --format html`, by the text output for the same log.
 
-`fault_of(page, text, is_utc)` reads the page with `html.parser` and returns what is wrong with it, or nothing:
-unbalanced tags, an unknown tag or attribute, a repeated id, a link without a target, or a text of a line, of a failure
-or of the head that differs from the text output.
+`fault_of(page, text, ends, is_utc)` reads the page with `html.parser` and returns what is wrong with it, or nothing:
+unbalanced tags, an unknown tag or attribute, a repeated id, a link without a target, a text of a line, of a failure
+or of the head that differs from the text output, or other transactions that end in a gap, or are open.
 """
 import re
 from html.parser import HTMLParser
@@ -36,6 +36,13 @@ class Told(NamedTuple):
 
     lines: List[Optional[Line]]
     end: List[str]
+
+
+class Ends(NamedTuple):
+    """What ends in each gap of a page, and the lines of the transactions that it lists as open, where it lists some."""
+
+    gaps: List[List[str]]
+    open: List[List[int]]
 
 
 class Fault(Exception):
@@ -206,23 +213,33 @@ def check_lines(main: Node, told: Told):
         raise Fault(f"{len(rows)} rows, and the text has {len(told.lines)}")
 
 
+def check_ends(top: Node, ends: Ends):
+    """The gaps and the lists of open transactions say what ends where."""
+    gaps = [[it.text() for it in gap.all("p")] for gap in top.all("div", "gap")]
+    lists = [[int(it.text()) for it in node.all("a")] for node in top.all("p", "open")]
+    if (gaps, lists) != (ends.gaps, ends.open):
+        raise Fault(f"the gaps {gaps} with {lists} open, expected {ends}")
+    for link in (link for gap in top.all("div", "gap") for link in gap.all("a")):
+        check_link(link)
+
+
 def check_groups(section: Node, told: Told):
     """Each group begins at a line that fails so, each rest is of one, and each failure where the log is audited."""
     failing = {(line.number, it[0].split(":")[0][5:]) for line in told.lines if line for it in line.failures}
-    groups = {}
+    groups: Dict[Tuple[str, int, int], List[int]] = {}
     for item in section.all("li"):
         match = re.match(r"(\w+) line (\d+): .*?(?:; (\d+) more like it, the last at line (\d+))?\Z", item.text())
         check_link(item.one("a"))
         rule, first, more, last = match[1], int(match[2]), int(match[3] or 0), int(match[4] or match[2])
         if (first, rule) not in failing or (last, rule) not in failing and more < 3:
             raise Fault(f"group {item.text()}")
-        groups[rule, first, last] = more
+        groups.setdefault((rule, first, last), []).append(more)
     is_judged = any(it.startswith("failures=") for it in told.end)
     if is_judged and not {rule for _, rule in failing} <= {rule for rule, _, _ in groups} and len(groups) < 256:
         raise Fault(f"groups {groups}, failures {failing}")
     for words in told.end:
         rest = re.match(r"(\w+): (\d+) more like line (\d+), the last at line (\d+)\Z", words)
-        if rest and groups.get((rest[1], int(rest[3]), int(rest[4]))) != int(rest[2]) + 2:
+        if rest and int(rest[2]) + 2 not in groups.get((rest[1], int(rest[3]), int(rest[4])), []):
             raise Fault(f"{words}, and {groups}")
 
 
@@ -252,7 +269,7 @@ def check_end(section: Node, told: Told):
         raise Fault(f"verdict {verdict.text()}")
 
 
-def fault_of(page: bytes, text: bytes, is_utc: bool = False) -> Optional[str]:
+def fault_of(page: bytes, text: bytes, ends: Ends, is_utc: bool = False) -> Optional[str]:
     """What is wrong with a page of the log that has this text, if anything is. The text has control characters as they
     are in the log."""
     told = told_by(text, is_utc)
@@ -263,6 +280,7 @@ def fault_of(page: bytes, text: bytes, is_utc: bool = False) -> Optional[str]:
             raise Fault("the style refers to something else")
         check_links([node for tag in sorted(TAGS) for node in top.all(tag)])
         check_lines(top.one("main"), told)
+        check_ends(top, ends)
         check_groups(top.one("section"), told)
         check_end(top.one("section"), told)
     except (Fault, UnicodeDecodeError) as fault:

@@ -26,7 +26,7 @@ class Capture:
 
     def __init__(self, form="pcap<", link="ethernet", is_ipv6=False, ports=(40000, 5000)):
         self.form, self.order, self.link, self.is_ipv6, self.ports = form[:-1], form[-1], link, is_ipv6, ports
-        self.count = 0
+        self.count, self.checksums = 0, ["none", "none"]
         if self.form.startswith("pcapng"):
             self.octets = self.section()
             self.octets += self.block(5, self.pack("III", 0, 0, 0))  # statistics, which are passed over
@@ -71,14 +71,17 @@ class Capture:
             self.octets += self.pack("IIII", when // 10**6, part, *counts) + kept
 
     def segment(self, when, way, sequence, flags, data=b"", acknowledged=0, kept=None, **how):
-        """Adds a segment that one end sends to the other."""
+        """Adds a segment that one end sends to the other. A bit of it, counted from its first one, may be `flipped`."""
         ports = how.pop("ports", self.ports)
+        checksum, flipped = how.pop("checksum", self.checksums[way]), how.pop("flipped", None)
         hosts = how.pop("hosts", (1, 2))
         window = how.pop("window", 65535)
         if way != ACTIVE:
             ports, hosts = ports[::-1], hosts[::-1]
         tcp = struct.pack(">HHIIBBHHH", *ports, sequence % 2**32, acknowledged % 2**32, 8 << 4, flags, window, 0, 0)
-        tcp += bytes([1] * 12) + data
+        tcp = checked(tcp + bytes([1] * 12) + data, addresses(self.is_ipv6, hosts), checksum)
+        if flipped is not None:
+            tcp = (int.from_bytes(tcp, "big") ^ 1 << 8 * len(tcp) - 1 - flipped).to_bytes(len(tcp), "big")
         shape = how.pop("shape", None)
         ip = ipv6(hosts, tcp, shape) if self.is_ipv6 else ipv4(hosts, tcp, shape)
         filling = bytes(6) if self.link == "ethernet" and shape != "offload" else b""
@@ -97,13 +100,26 @@ class Capture:
         }.get(self.link, b"")
 
 
+def addresses(is_ipv6, hosts):
+    return b"".join(bytes([0xFE, 0x80]) + bytes(13) + bytes([host]) if is_ipv6 else bytes([10, 0, 0, host]) for host in hosts)
+
+
+def checked(tcp, ends, kind):
+    """A segment with its checksum: the `right` one; the `partial` sum of the pseudo header, or that with a length of 0, as
+    of a `large` segment, which a network card completes; or `none`."""
+    pseudo = ends + struct.pack(">II", 6, 0 if kind == "large" else len(tcp))
+    summed = pseudo + tcp + bytes(len(tcp) % 2) if kind == "right" else pseudo
+    total = sum(struct.unpack(f">{len(summed) // 2}H", summed)) % 0xFFFF or 0xFFFF
+    number = {"right": 0xFFFF - total, "none": 0}.get(kind, total)
+    return tcp[:16] + struct.pack(">H", number) + tcp[18:]
+
+
 def ipv4(hosts, tcp, shape=None):
     """A packet of IPv4; `options` has some, and `offload` leaves its length out, as a network card is given it."""
     options = bytes([1, 1, 1, 0]) if shape == "options" else b""
     length = 0 if shape == "offload" else 20 + len(options) + len(tcp)
-    addresses = b"".join(bytes([10, 0, 0, host]) for host in hosts)
     front = 0x45 + len(options) // 4
-    return struct.pack(">BBHHHBBH", front, 0, length, 0, 0x4000, 64, 6, 0) + addresses + options + tcp
+    return struct.pack(">BBHHHBBH", front, 0, length, 0, 0x4000, 64, 6, 0) + addresses(False, hosts) + options + tcp
 
 
 def ipv6(hosts, tcp, shape=None):
@@ -113,8 +129,7 @@ def ipv6(hosts, tcp, shape=None):
     kinds = [60] * shape if isinstance(shape, int) else named.get(shape, [])
     options = b"".join(bytes([after, 0, 1, 4, 0, 0, 0, 0]) for after in [*kinds[1:], 6][:len(kinds)])
     length = 0 if shape == "offload" else len(options) + len(tcp)
-    addresses = b"".join(bytes([0xFE, 0x80]) + bytes(13) + bytes([host]) for host in hosts)
-    return struct.pack(">IHBB", 6 << 28, length, kinds[0] if kinds else 6, 64) + addresses + options + tcp
+    return struct.pack(">IHBB", 6 << 28, length, kinds[0] if kinds else 6, 64) + addresses(True, hosts) + options + tcp
 
 
 class Talk:

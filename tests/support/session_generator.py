@@ -1,7 +1,8 @@
 """Captures of random sessions whose messages are known, whatever the capture shows of them.
 
 One to three connections are split into segments anywhere, retransmitted, overlapping or out of order. The capture may
-swap the directions, as mirror ports do, and lose packets. Each session is valid, so no verdict on it may be a failure.
+swap the directions, as mirror ports do, and lose packets; a copy with a wrong checksum may come before a packet. Each
+session is valid, so no verdict on it may be a failure.
 Some captures also have messages of sessions that are not audited.
 """
 import random
@@ -94,8 +95,7 @@ class Made:
     def is_lawful(self) -> bool:
         """Whether each session keeps the rules by the options."""
         is_plain = replace(self.options, port=5000, active="host", log=None) == Options()
-        bare = any(session.ends == "bare" and not session.is_exact for session in self.sessions or [])
-        return is_plain and self.sessions is not None and not (bare and self.has_pauses)
+        return is_plain and self.sessions is not None
 
 
 def random_text(rng) -> str:
@@ -343,6 +343,9 @@ def made(seed) -> Made:
     when = BEGIN + rng.randrange(10**6)
     other = random.Random(f"strangers {seed}")
     strangers, has_unjudged = other.choice([0, 0, 0, 0.02, 0.2]), False
+    summing = random.Random(f"checksums {seed}")
+    capture.checksums = [summing.choice(["none", "right", "right", "partial", "large"]) for _ in range(2)]
+    flips = summing.choice([0, 0, 0.05, 0.2])
     for number, packet in merged(rng, captured, is_in_turn):
         session = sessions[number]
         when += packet.pause
@@ -350,6 +353,12 @@ def made(seed) -> Made:
             noise(rng, capture, when)
         if other.random() < strangers:
             has_unjudged |= stranger(other, capture, when)
+        if capture.checksums[packet.way] == "right" and summing.random() < flips:
+            flipped = summing.randrange(32, 8 * (32 + len(packet.data)))
+            capture.segment(
+                when, packet.way, packet.number, packet.flags, packet.data, packet.acknowledged, ports=session.ports,
+                hosts=session.hosts, shape=shape, flipped=flipped,
+            )
         capture.segment(
             when - (rng.randrange(50_000) if rng.random() < backwards else 0), packet.way, packet.number,
             packet.flags, packet.data, packet.acknowledged, ports=session.ports, hosts=session.hosts, shape=shape,

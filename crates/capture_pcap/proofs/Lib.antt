@@ -1,3 +1,4 @@
+mod Checksums
 mod Options
 mod AfterPackets
 mod UniqueReading

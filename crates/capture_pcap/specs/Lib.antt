@@ -1,5 +1,6 @@
 pub mod ByteOrder
 pub mod NextBlock
+pub mod Checksum
 pub mod Segment
 pub mod File
 pub mod Laws

@@ -1,6 +1,7 @@
 -- The TCP segment in a packet, by its link layer, or why no segment is read.
-use Rattle.std.specs.Prelude.{ℕ, zero, suc, ◌+◌, ◌-◌, ◌*◌, ◌/◌, ◌%◌, ◌==◌, ◌||◌, Bool, nat_lt, not, if◌then◌else◌, List, length, slice_index, Some, None}
+use Rattle.std.specs.Prelude.{ℕ, zero, suc, ◌+◌, ◌-◌, ◌*◌, ◌/◌, ◌%◌, ◌==◌, ◌||◌, Bool, nat_lt, not, if◌then◌else◌, List, length, take, drop, slice_index, Some, None}
 use Rattle.capture_pcap.specs.ByteOrder.{big_at}
+use Rattle.capture_pcap.specs.Checksum.{is_damaged}
 use Rattle.capture_pcap.specs.declared.segment.Shown.{Shown}
 use Rattle.capture_pcap.specs.declared.segment.Shown.TheVariants as shown
 use Rattle.capture_pcap.specs.declared.segment.Reason.TheVariants as reason
@@ -16,6 +17,7 @@ tcp_at source target octets from end =
     (if nat_lt end (from + 20) then shown.LeftOut reason.Header else
     (if nat_lt (slice_index octets (from + 12) / 16) 5 then shown.LeftOut reason.Header else
     (if nat_lt end (from + slice_index octets (from + 12) / 16 * 4) then shown.LeftOut reason.Header else
+    (if is_damaged source target (take (end - from) (drop from octets)) then shown.LeftOut reason.Damaged else
     shown.Segment (record {
       source = source;
       source_port = big_at 2 from octets;
@@ -26,7 +28,7 @@ tcp_at source target octets from end =
       flags = slice_index octets (from + 13) % 16;
       body = from + slice_index octets (from + 12) / 16 * 4;
       end = end;
-    }))))
+    })))))
 
 -- ---- IPv4
 

@@ -18,6 +18,7 @@
 
 mod block_reader;
 mod byte_order;
+mod checksum;
 mod fault;
 pub mod laws;
 mod next_block;

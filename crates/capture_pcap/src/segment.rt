@@ -5,6 +5,7 @@ ghost use Rattle.capture_pcap.specs.ByteOrder.{big_at};
 ghost use Rattle.capture_pcap.specs.Segment.{segment_at, raw_at, framed_at, tagged_at, untagged_at, v4_at, v4_end, v6_at, v6_end, extended_at, inside_at, tcp_at, is_tag, is_extension, is_raw, is_null};
 
 use crate::byte_order::{Order, short_at, word_at};
+use crate::checksum::is_damaged;
 use byteorder::{BigEndian, ByteOrder};
 
 /// An IPv4 or IPv6 address.
@@ -27,6 +28,8 @@ pub enum Reason {
     Cut,
     /// A header has an impossible value.
     Header,
+    /// The checksum is wrong.
+    Damaged,
 }
 
 /// A TCP segment. Its payload is in the packet from `body` to `end`.
@@ -304,6 +307,11 @@ fn tcp(source: Address, target: Address, packet: &[u8], from: usize, end: usize)
     let body = from + usize::from(words) * 4;
     if end < body {
         return Shown::LeftOut(Reason::Header);
+    }
+    let (_, rest) = packet.split_at(from);
+    let (segment, _) = rest.split_at(end - from);
+    if is_damaged(source, target, segment) {
+        return Shown::LeftOut(Reason::Damaged);
     }
     let bits = packet[from + 13];
     let number = word_at(Order::Big, packet, from + 8);

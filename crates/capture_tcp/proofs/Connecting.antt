@@ -45,11 +45,11 @@ pub side_back : (s : Side) → s ≡ side_of (end_at s)
 side_back side.Active = refl
 side_back side.Passive = refl
 
-pub placed_one : (acked : ℕ) (s : Seen) (o ack : Option ℕ) (packet : Packet) → option_to_list (Some packet) ≡ map packet_of (placed_at acked s o ack)
-    → (p : Placed) × (placed_at acked s o ack ≡ p ∷ []) × (packet ≡ packet_of p) × (p.from ≡ s.from) × BringsCells p s.cells × (p.time ≡ s.time)
-placed_one acked s None ack packet e = absurd cc
-placed_one acked s (Some place) ack packet e =
-    let p = placed_as acked s place ack in
+pub placed_one : (end acked : ℕ) (s : Seen) (o ack : Option ℕ) (packet : Packet) → option_to_list (Some packet) ≡ map packet_of (placed_at end acked s o ack)
+    → (p : Placed) × (placed_at end acked s o ack ≡ p ∷ []) × (packet ≡ packet_of p) × (p.from ≡ s.from) × BringsCells p s.cells × (p.time ≡ s.time)
+placed_one end acked s None ack packet e = absurd cc
+placed_one end acked s (Some place) ack packet e =
+    let p = placed_as end acked s place ack in
     let same : packet ≡ packet_of p = cc in
     (p, refl, same, refl, by_test (s.reset || asks_only acked place s.pushed s.cells), refl)
   where
@@ -57,9 +57,9 @@ placed_one acked s (Some place) ack packet e =
     by_test true = inl refl
     by_test false = inr refl
 
-placed_none : (acked : ℕ) (s : Seen) (o ack : Option ℕ) → [] ≡ map packet_of (placed_at acked s o ack) → placed_at acked s o ack ≡ []
-placed_none acked s None ack e = refl
-placed_none acked s (Some place) ack e = absurd cc
+placed_none : (end acked : ℕ) (s : Seen) (o ack : Option ℕ) → [] ≡ map packet_of (placed_at end acked s o ack) → placed_at end acked s o ack ≡ []
+placed_none end acked s None ack e = refl
+placed_none end acked s (Some place) ack e = absurd cc
 
 pub all_rise : (base : End → ℕ) (seen : List Seen) → AreNumbered 0 seen → AreRising 0 (places base [] seen)
 all_rise base seen h = let r = places_rise base [] 0 seen h in subst (AreRising 0) (sym r.1) r.2
@@ -82,7 +82,7 @@ followed_none old new r segment octets emitted freed proceeds base before away n
     let ps = places base [] before in
     let g = proceeds base before consistent.0 in
     let none : placed_after base ps s ≡ [] =
-    placed_none (confirmed ps s.from) (timed ps s) (place_of (end_of ps s.from) (base s.from) s.number) (ack_place ps base (other s.from) s.acknowledged) g.2 in
+    placed_none (end_of ps s.from) (confirmed ps s.from) (timed ps s) (place_of (end_of ps s.from) (base s.from) s.number) (ack_place ps base (other s.from) s.acknowledged) g.2 in
     let now : places base [] (before ++ s ∷ []) ≡ ps = one_more base before s ∙ ap (λ (z : List Placed). ps ++ z) none ∙ append-nil ps in
     (g.0, subst (λ (z : List Placed). IsReading r z (away ++ emitted)) (sym now) consistent.1)
 
@@ -105,7 +105,7 @@ followed_some old new r next segment octets emitted later freed packet acked bef
     let s = seen_of segment octets in
     let ps = places base [] before in
     let g = proceeds base before consistent.0 in
-    let one = placed_one (confirmed ps s.from) (timed ps s) (place_of (end_of ps s.from) (base s.from) s.number) (ack_place ps base (other s.from) s.acknowledged) packet g.2 in
+    let one = placed_one (end_of ps s.from) (confirmed ps s.from) (timed ps s) (place_of (end_of ps s.from) (base s.from) s.number) (ack_place ps base (other s.from) s.acknowledged) packet g.2 in
     let p = one.0 in
     let now : places base [] (before ++ s ∷ []) ≡ ps ++ p ∷ [] = one_more base before s ∙ ap (λ (z : List Placed). ps ++ z) one.1 in
     let knows : new ≡ known base (ps ++ p ∷ []) = g.0 ∙ ap (known base) now in

@@ -221,13 +221,13 @@ step_one base before p =
 abbrev StepAt : (End → ℕ) → List Placed → Seen → Option ℕ → Type 0
 StepAt base before s o =
     ((step_at (flow_of base before s.from) (flow_of base before (other s.from)) s o).own
-    ≡ flow_of base (before ++ placed_at (confirmed before s.from) s o (ack_place before base (other s.from) s.acknowledged)) s.from)
+    ≡ flow_of base (before ++ placed_at (end_of before s.from) (confirmed before s.from) s o (ack_place before base (other s.from) s.acknowledged)) s.from)
     × ((step_at (flow_of base before s.from) (flow_of base before (other s.from)) s o).peer
-    ≡ flow_of base (before ++ placed_at (confirmed before s.from) s o (ack_place before base (other s.from) s.acknowledged)) (other s.from))
+    ≡ flow_of base (before ++ placed_at (end_of before s.from) (confirmed before s.from) s o (ack_place before base (other s.from) s.acknowledged)) (other s.from))
     × ((step_at (flow_of base before s.from) (flow_of base before (other s.from)) s o).emitted
-    ≡ map own_of (turns before (placed_at (confirmed before s.from) s o (ack_place before base (other s.from) s.acknowledged))))
+    ≡ map own_of (turns before (placed_at (end_of before s.from) (confirmed before s.from) s o (ack_place before base (other s.from) s.acknowledged))))
     × (option_to_list (step_at (flow_of base before s.from) (flow_of base before (other s.from)) s o).placed
-    ≡ map packet_of (placed_at (confirmed before s.from) s o (ack_place before base (other s.from) s.acknowledged)))
+    ≡ map packet_of (placed_at (end_of before s.from) (confirmed before s.from) s o (ack_place before base (other s.from) s.acknowledged)))
 
 turns_none : (before : List Placed) → [] ≡ map own_of (turns before [])
 unfolding turns
@@ -238,7 +238,7 @@ step_by_place base before s None =
     let same = sym (append-nil before) in
     (ap (λ (qs : List Placed). flow_of base qs s.from) same, ap (λ (qs : List Placed). flow_of base qs (other s.from)) same, turns_none before, refl)
 step_by_place base before s (Some place) =
-    let one = step_one base before (placed_as (confirmed before s.from) s place (acknowledged_at (end_of before (other s.from)) (base (other s.from)) s.acknowledged)) in
+    let one = step_one base before (placed_as (end_of before s.from) (confirmed before s.from) s place (acknowledged_at (end_of before (other s.from)) (base (other s.from)) s.acknowledged)) in
     (one.0, one.1, one.2, refl)
 
 step_is : (base : End → ℕ) (before : List Placed) (s : Seen)
@@ -276,13 +276,13 @@ latest_more : (xs ys : List Placed) → latest (xs ++ ys) ≡ max (latest xs) (l
 latest_more [] ys = omega arith
 latest_more (x ∷ xs) ys = let later = latest_more xs ys in rw later (omega arith)
 
-latest_by : (before : List Placed) (acked : ℕ) (s : Seen) (o ack : Option ℕ) (placed : Option Packet)
-    → option_to_list placed ≡ map packet_of (placed_at acked (timed before s) o ack) → latest_after (latest before) placed ≡ latest (before ++ placed_at acked (timed before s) o ack)
-latest_by before acked s None ack None e = ap latest (sym (append-nil before))
-latest_by before acked s None ack (Some p) e = absurd cc
-latest_by before acked s (Some place) ack None e = absurd cc
-latest_by before acked s (Some place) ack (Some p) e =
-    let q = placed_as acked (timed before s) place ack in
+latest_by : (before : List Placed) (end acked : ℕ) (s : Seen) (o ack : Option ℕ) (placed : Option Packet)
+    → option_to_list placed ≡ map packet_of (placed_at end acked (timed before s) o ack) → latest_after (latest before) placed ≡ latest (before ++ placed_at end acked (timed before s) o ack)
+latest_by before end acked s None ack None e = ap latest (sym (append-nil before))
+latest_by before end acked s None ack (Some p) e = absurd cc
+latest_by before end acked s (Some place) ack None e = absurd cc
+latest_by before end acked s (Some place) ack (Some p) e =
+    let q = placed_as end acked (timed before s) place ack in
     let same : p ≡ packet_of q = cc in
     let time : p.time ≡ max (latest before) s.time = ap (λ (z : Packet). z.time) same in
     let more : latest (before ++ q ∷ []) ≡ max (latest before) (max (max (latest before) s.time) 0) = latest_more before (q ∷ []) in
@@ -293,7 +293,7 @@ latest_is : (base : End → ℕ) (before : List Seen) (s : Seen) (placed : Optio
     → latest_after (latest (places base [] before)) placed ≡ latest (places base [] (before ++ (s ∷ [])))
 latest_is base before s placed e =
     let ps = places base [] before in
-    latest_by ps (confirmed ps s.from) s (place_of (end_of ps s.from) (base s.from) s.number) (ack_place ps base (other s.from) s.acknowledged) placed e
+    latest_by ps (end_of ps s.from) (confirmed ps s.from) s (place_of (end_of ps s.from) (base s.from) s.number) (ack_place ps base (other s.from) s.acknowledged) placed e
     ∙ sym (ap latest (one_more base before s))
 
 -- With the latest time so far.

@@ -117,9 +117,9 @@ emitted_at P ps h =
 abbrev SeenAt : (ℕ → Type 0) → List Seen → Type 0
 SeenAt P ss = Each (λ (s : Seen). P s.packet) ss
 
-placed_each : (P : ℕ → Type 0) (acked : ℕ) (s : Seen) (o ack : Option ℕ) → P s.packet → Each (λ (p : Placed). P p.packet) (placed_at acked s o ack)
-placed_each P acked s None ack h = tt
-placed_each P acked s (Some place) ack h = (h, tt)
+placed_each : (P : ℕ → Type 0) (end acked : ℕ) (s : Seen) (o ack : Option ℕ) → P s.packet → Each (λ (p : Placed). P p.packet) (placed_at end acked s o ack)
+placed_each P end acked s None ack h = tt
+placed_each P end acked s (Some place) ack h = (h, tt)
 
 places_each : (P : ℕ → Type 0) (base : End → ℕ) (before : List Placed) (ss : List Seen) → Each (λ (p : Placed). P p.packet) before → SeenAt P ss
     → Each (λ (p : Placed). P p.packet) (places base before ss)
@@ -128,9 +128,9 @@ places_each P base before [] f h = f
 places_each P base before (s ∷ ss) f h =
     let place = place_of (end_of before s.from) (base s.from) s.number in
     let ack = ack_place before base (other s.from) s.acknowledged in
-    let new = placed_at (confirmed before s.from) (timed before s) place ack in
+    let new = placed_at (end_of before s.from) (confirmed before s.from) (timed before s) place ack in
     places_each P base (before ++ new) ss
-    (each_append (λ (p : Placed). P p.packet) before new f (placed_each P (confirmed before s.from) (timed before s) place ack h.0)) h.1
+    (each_append (λ (p : Placed). P p.packet) before new f (placed_each P (end_of before s.from) (confirmed before s.from) (timed before s) place ack h.0)) h.1
 
 or_true : (a b : Bool) → b ≡ true → (a || b) ≡ true
 or_true true b e = refl

@@ -96,7 +96,7 @@ followed_in_some old new r next segment octets emitted later freed packet procee
     let s = seen_of segment octets in
     let ps = places base [] before in
     let g = proceeds base before consistent.0 in
-    let one = placed_one (confirmed ps s.from) (timed ps s) (place_of (end_of ps s.from) (base s.from) s.number) (ack_place ps base (other s.from) s.acknowledged) packet g.2 in
+    let one = placed_one (end_of ps s.from) (confirmed ps s.from) (timed ps s) (place_of (end_of ps s.from) (base s.from) s.number) (ack_place ps base (other s.from) s.acknowledged) packet g.2 in
     let time : one.0.time ≡ max (latest ps) s.time = one.5 in
     let now : places base [] (before ++ s ∷ []) ≡ ps ++ one.0 ∷ [] = one_more base before s ∙ ap (λ (z : List Placed). ps ++ z) one.1 in
     subst (IsInTimeOf next (away ++ later)) (sym now)

@@ -65,7 +65,7 @@ stops_full held.Full old new r segment octets emitted freed packet proceeds full
     let s = seen_of segment octets in
     let ps = places base [] before in
     let g = proceeds base before consistent.0 in
-    let one = placed_one (confirmed ps s.from) (timed ps s) (place_of (end_of ps s.from) (base s.from) s.number) (ack_place ps base (other s.from) s.acknowledged) packet g.2 in
+    let one = placed_one (end_of ps s.from) (confirmed ps s.from) (timed ps s) (place_of (end_of ps s.from) (base s.from) s.number) (ack_place ps base (other s.from) s.acknowledged) packet g.2 in
     let p = one.0 in
     let some = some_cells p packet one.2 full.0 in
     let from : packet.from ≡ p.place = ap (λ (q : Packet). q.from) one.2 in
@@ -102,7 +102,7 @@ continues_some old new r segment octets emitted freed packet lt proceeds near ba
     let s = seen_of segment octets in
     let ps = places base [] before in
     let g = proceeds base before consistent.0 in
-    let one = placed_one (confirmed ps s.from) (timed ps s) (place_of (end_of ps s.from) (base s.from) s.number) (ack_place ps base (other s.from) s.acknowledged) packet g.2 in
+    let one = placed_one (end_of ps s.from) (confirmed ps s.from) (timed ps s) (place_of (end_of ps s.from) (base s.from) s.number) (ack_place ps base (other s.from) s.acknowledged) packet g.2 in
     let p = one.0 in
     let from : packet.from ≡ p.place = ap (λ (q : Packet). q.from) one.2 in
     let to : packet.to ≡ p.place + length p.cells = ap (λ (q : Packet). q.to) one.2 in (

@@ -16,23 +16,23 @@ pub places_more : (base : End → ℕ) (before : List Placed) (xs ys : List Seen
 unfolding places
 places_more base before [] ys = refl
 places_more base before (s ∷ xs) ys =
-    places_more base (before ++ placed_at (confirmed before s.from) (timed before s) (place_of (end_of before s.from) (base s.from) s.number)
+    places_more base (before ++ placed_at (end_of before s.from) (confirmed before s.from) (timed before s) (place_of (end_of before s.from) (base s.from) s.number)
     (ack_place before base (other s.from) s.acknowledged)) xs ys
 
 pub places_begin : (base : End → ℕ) (before : List Placed) (ss : List Seen) → Begins Placed before (places base before ss)
 unfolding places
 places_begin base before [] = ([], sym (append-nil before))
 places_begin base before (s ∷ ss) =
-    let new = placed_at (confirmed before s.from) (timed before s) (place_of (end_of before s.from) (base s.from) s.number) (ack_place before base (other s.from) s.acknowledged) in
+    let new = placed_at (end_of before s.from) (confirmed before s.from) (timed before s) (place_of (end_of before s.from) (base s.from) s.number) (ack_place before base (other s.from) s.acknowledged) in
     let later = places_begin base (before ++ new) ss in
     (new ++ later.0, later.1 ∙ append_assoc before new later.0)
 
 abbrev Rises : List Placed → ℕ → List Placed → Type 0
 Rises before n ps = (rest : List Placed) × (ps ≡ before ++ rest) × Rising n rest
 
-new_rises : (acknowledged n : ℕ) (s : Seen) (place ack : Option ℕ) (rest : List Placed) → n < s.packet → Rising s.packet rest → Rising n (placed_at acknowledged s place ack ++ rest)
-new_rises acknowledged n s None ack rest lt h = rising_lower n s.packet rest (omega (arith, lt)) h
-new_rises acknowledged n s (Some place) ack rest lt h = (lt, h)
+new_rises : (end acknowledged n : ℕ) (s : Seen) (place ack : Option ℕ) (rest : List Placed) → n < s.packet → Rising s.packet rest → Rising n (placed_at end acknowledged s place ack ++ rest)
+new_rises end acknowledged n s None ack rest lt h = rising_lower n s.packet rest (omega (arith, lt)) h
+new_rises end acknowledged n s (Some place) ack rest lt h = (lt, h)
 
 pub places_rise : (base : End → ℕ) (before : List Placed) (n : ℕ) (ss : List Seen) → AreNumbered n ss → Rises before n (places base before ss)
 unfolding places
@@ -40,9 +40,9 @@ places_rise base before n [] h = ([], sym (append-nil before), tt)
 places_rise base before n (s ∷ ss) h =
     let place = place_of (end_of before s.from) (base s.from) s.number in
     let ack = ack_place before base (other s.from) s.acknowledged in
-    let new = placed_at (confirmed before s.from) (timed before s) place ack in
+    let new = placed_at (end_of before s.from) (confirmed before s.from) (timed before s) place ack in
     let later = places_rise base (before ++ new) s.packet ss h.1 in
-    (new ++ later.0, later.1 ∙ append_assoc before new later.0, new_rises (confirmed before s.from) n (timed before s) place ack later.0 h.0 later.2)
+    (new ++ later.0, later.1 ∙ append_assoc before new later.0, new_rises (end_of before s.from) (confirmed before s.from) n (timed before s) place ack later.0 h.0 later.2)
 
 -- ---- what is shown
 

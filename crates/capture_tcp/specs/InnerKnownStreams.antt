@@ -1,23 +1,23 @@
 -- What only contracts of private functions use, besides the definitions of `KnownStreams`.
-use Rattle.std.specs.Prelude.{◌&&◌, ◌||◌, ℕ, max, nat_le, if◌then◌else◌, List, [], Option, Some, None}
+use Rattle.std.specs.Prelude.{◌&&◌, ◌||◌, ℕ, max, if◌then◌else◌, List, [], Option, Some, None}
 use Rattle.std.specs.Option.{unwrap_or}
 use Rattle.capture_tcp.specs.declared.packet.Packet.{Packet}
-use Rattle.capture_tcp.specs.TcpStreams.{Seen, Placed, place_of, acknowledged_at, asks_only}
+use Rattle.capture_tcp.specs.TcpStreams.{Seen, Placed, place_of, acknowledged_at, asks_only, is_taken}
 use Rattle.capture_tcp.specs.InnerOutOfOrder.{Drained, put_after, drained, acked}
 use Rattle.capture_tcp.specs.KnownStreams.{packet_of, Flow}
 
 -- ---- one more segment
 
 -- A segment at an offset.
-abbrev pub placed_as : ℕ → Seen → ℕ → Option ℕ → Placed
-placed_as acknowledged s place ack = record {
+abbrev pub placed_as : ℕ → ℕ → Seen → ℕ → Option ℕ → Placed
+placed_as end acknowledged s place ack = record {
   from = s.from;
   packet = s.packet;
   time = s.time;
   place = place;
   cells = if s.reset || asks_only acknowledged place s.pushed s.cells then [] else s.cells;
   acknowledged = ack;
-  reset = s.reset && nat_le acknowledged place;
+  reset = s.reset && is_taken end acknowledged s.acknowledged place;
 }
 
 -- Both directions after a packet, which one of them carries; the packet by its offset; and the packets that are
@@ -41,7 +41,7 @@ step_by own peer p = with_drained (drained own.end (put_after p own.waiting))
 
 abbrev pub step_at : Flow → Flow → Seen → Option ℕ → Step
 step_at own peer s None = record { own = own; peer = peer; placed = None; emitted = [] }
-step_at own peer s (Some place) = step_by own peer (packet_of (placed_as own.confirmed s place (acknowledged_at peer.end peer.base s.acknowledged)))
+step_at own peer s (Some place) = step_by own peer (packet_of (placed_as own.end own.confirmed s place (acknowledged_at peer.end peer.base s.acknowledged)))
 
 abbrev pub step : Flow → Flow → Seen → Step
 step own peer s = step_at own peer s (place_of own.end own.base s.number)

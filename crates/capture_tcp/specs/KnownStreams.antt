@@ -62,7 +62,7 @@ bases a p passive = p
 -- A segment by its offset, after these packets. There is none if its offset is outside the window.
 abbrev pub placed_after : (End → ℕ) → List Placed → Seen → List Placed
 placed_after base before s =
-    placed_at (confirmed before s.from) (timed before s) (place_of (end_of before s.from) (base s.from) s.number) (ack_place before base (other s.from) s.acknowledged)
+    placed_at (end_of before s.from) (confirmed before s.from) (timed before s) (place_of (end_of before s.from) (base s.from) s.number) (ack_place before base (other s.from) s.acknowledged)
 
 -- The packets that are delivered at this segment, in their order.
 abbrev pub released_after : (End → ℕ) → List Placed → Seen → List Packet

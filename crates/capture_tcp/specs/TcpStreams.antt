@@ -174,11 +174,15 @@ asks_only acknowledged place pushed (fin ∷ cs) = false
 asks_only acknowledged place pushed (octet n ∷ []) = not pushed && nat_lt place acknowledged
 asks_only acknowledged place pushed (octet n ∷ (c ∷ cs)) = false
 
--- A RST carries no cells: its payload is text for a reader. One at an offset that was acknowledged before resets
--- nothing, since the other end ignores it.
-abbrev pub placed_at : ℕ → Seen → Option ℕ → Option ℕ → List Placed
-placed_at acknowledged s None ack = []
-placed_at acknowledged s (Some place) ack =
+-- True if the other end takes a RST at this offset. It ignores one at an offset that was acknowledged before. It takes
+-- one without ACK only at the next byte, so not after a gap.
+abbrev pub is_taken : ℕ → ℕ → Option ℕ → ℕ → Bool
+is_taken end acknowledged ack place = nat_le acknowledged place && (is_some ack || nat_le place end)
+
+-- A RST carries no cells: its payload is text for a reader. One that is ignored resets nothing.
+abbrev pub placed_at : ℕ → ℕ → Seen → Option ℕ → Option ℕ → List Placed
+placed_at end acknowledged s None ack = []
+placed_at end acknowledged s (Some place) ack =
     record {
       from = s.from;
       packet = s.packet;
@@ -186,7 +190,7 @@ placed_at acknowledged s (Some place) ack =
       place = place;
       cells = if s.reset || asks_only acknowledged place s.pushed s.cells then [] else s.cells;
       acknowledged = ack;
-      reset = s.reset && nat_le acknowledged place;
+      reset = s.reset && is_taken end acknowledged s.acknowledged place;
     } ∷ []
 
 -- The latest time of these packets.
@@ -202,7 +206,7 @@ timed before s = record s { time = max (latest before) s.time }
 unfoldable pub places : (End → ℕ) → List Placed → List Seen → List Placed
 places base before [] = before
 places base before (s ∷ ss) =
-    places base (before ++ placed_at (confirmed before s.from) (timed before s) (place_of (end_of before s.from) (base s.from) s.number)
+    places base (before ++ placed_at (end_of before s.from) (confirmed before s.from) (timed before s) (place_of (end_of before s.from) (base s.from) s.number)
     (ack_place before base (other s.from) s.acknowledged)) ss
 
 -- ---- loss

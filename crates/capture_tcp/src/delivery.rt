@@ -3,6 +3,7 @@
 ghost use Rattle.std.specs.Prelude.{◌≡◌, ◌≤◌, ◌<◌, ◌+◌, ◌^◌, ◌++◌, IfOk, OnOk, OnErr, None, length, max, [], Err, IsOk};
 ghost use Rattle.capture_tcp.specs.KnownStreams.{packet_of, seen_of, Flow, Known, ContinuesWith, bases, known};
 ghost use Rattle.capture_tcp.specs.InnerKnownStreams.{latest_after, placed_as, step, step_by};
+ghost use Rattle.capture_tcp.specs.TcpStreams.{is_taken};
 ghost use Rattle.capture_tcp.specs.declared.delivery.DeliveryFault.TheVariants.{Memory, Far};
 
 use crate::keep_alive::only_asks;
@@ -199,13 +200,14 @@ fn follow(
         return Ok(None);
     };
     let acknowledged = acknowledged_place(peer.base, peer.end, segment.acknowledged);
-    let packet = packet_at(own.confirmed, place, acknowledged, segment, octets);
+    let packet = packet_at(own.end, own.confirmed, place, acknowledged, segment, octets);
     queue(own, peer, packet, emitted)?;
     Ok(Some(packet))
 }
 
 // Returns a segment as a packet at its offset.
 fn packet_at(
+    end: u64,
     received: u64,
     place: u64,
     acknowledged: Option<u64>,
@@ -213,7 +215,7 @@ fn packet_at(
     octets: &[u8],
 ) -> Packet
     requires { place ≤ 2 ^ 62 + 2 ^ 26 }
-    ensures { result ≡ packet_of (placed_as received (seen_of segment octets.now) place acknowledged) }
+    ensures { result ≡ packet_of (placed_as end received (seen_of segment octets.now) place acknowledged) }
 {
     Packet {
         packet: segment.packet,
@@ -221,13 +223,20 @@ fn packet_at(
         from: place,
         to: place + count_of(received, place, segment, octets),
         acknowledged,
-        reset: segment.reset && received <= place,
+        reset: segment.reset && takes_reset(end, received, segment.acknowledged, place),
     }
+}
+
+// Returns true if the other end takes a RST at an offset.
+fn takes_reset(end: u64, received: u64, acknowledged: Option<u32>, place: u64) -> bool
+    ensures { result ≡ is_taken end received acknowledged place }
+{
+    received <= place && (acknowledged.is_some() || place <= end)
 }
 
 // Returns the number of cells that a segment carries.
 fn count_of(received: u64, place: u64, segment: Segment, octets: &[u8]) -> u64
-    ensures value { result ≡ length (placed_as received (seen_of segment octets.now) place None).cells }
+    ensures value { result ≡ length (placed_as 0 received (seen_of segment octets.now) place None).cells }
     ensures bound { result < 2 ^ 63 + 2 }
 {
     let flags = segment.flags;

@@ -2,12 +2,12 @@
 use Rattle.std.specs.Prelude.{ℕ, List, [], ◌∷◌, ◌++◌, ◌+◌, ◌-◌, ◌^◌, ◌==◌, min, length, if◌then◌else◌, codes, decimal}
 use Rattle.hsms_frame.specs.CallCounts.{next_count}
 use Rattle.capture_pcap.specs.declared.segment.Reason.{Reason}
-use Rattle.capture_pcap.specs.declared.segment.Reason.TheVariants.{Link, Short, Fragment, Cut, Header}
+use Rattle.capture_pcap.specs.declared.segment.Reason.TheVariants.{Link, Short, Fragment, Cut, Header, Damaged}
 use Rattle.capture_verdicts.specs.declared.skipped_packets.SkippedPackets.{SkippedPackets}
 
 -- None is skipped.
 abbrev pub none_skipped : SkippedPackets
-none_skipped = record { link = 0; short = 0; fragment = 0; cut = 0; header = 0 }
+none_skipped = record { link = 0; short = 0; fragment = 0; cut = 0; header = 0; damaged = 0 }
 
 -- One more is skipped for this reason.
 abbrev pub skipped_after : SkippedPackets → Reason → SkippedPackets
@@ -16,10 +16,11 @@ skipped_after counts Short = record counts { short = next_count counts.short }
 skipped_after counts Fragment = record counts { fragment = next_count counts.fragment }
 skipped_after counts Cut = record counts { cut = next_count counts.cut }
 skipped_after counts Header = record counts { header = next_count counts.header }
+skipped_after counts Damaged = record counts { damaged = next_count counts.damaged }
 
 -- Their number, at most 2^64 - 1.
 abbrev pub all_of : SkippedPackets → ℕ
-all_of counts = min (counts.link + counts.short + counts.fragment + counts.cut + counts.header) (2 ^ 64 - 1)
+all_of counts = min (counts.link + counts.short + counts.fragment + counts.cut + counts.header + counts.damaged) (2 ^ 64 - 1)
 
 -- Appends a kind with its count, if the count is not 0, after a comma if there is text before it.
 abbrev pub with_kind : List ℕ → List ℕ → ℕ → List ℕ
@@ -33,7 +34,8 @@ kinds_of counts =
     let short = with_kind link (codes "short") counts.short in
     let fragment = with_kind short (codes "fragment") counts.fragment in
     let cut = with_kind fragment (codes "truncated") counts.cut in
-    with_kind cut (codes "header") counts.header
+    let header = with_kind cut (codes "header") counts.header in
+    with_kind header (codes "damaged") counts.damaged
 
 -- The number of packets, in words.
 abbrev pub packets_words : ℕ → List ℕ

@@ -1,7 +1,7 @@
 //! Explanations for people: what an error means, and what to do about it.
 
 use crate::caret::placed;
-use cli_filters::{AuditError, CommandError, EncodeError, Refusal};
+use cli_filters::{AuditError, Cause, CommandError, EncodeError, Refusal};
 use cli_options::{ToolFault, exit_status};
 use cli_serve::ConnectError;
 use cli_show::ShowError;
@@ -43,11 +43,42 @@ impl fmt::Display for Fault {
     }
 }
 
+impl Fault {
+    // Returns what kind of error it is, as for a part between input and output.
+    fn cause(&self) -> Cause {
+        match self {
+            Fault::Command(error) => error.cause(),
+            Fault::Tool(ToolFault::Refused(_)) => Cause::Refused,
+            Fault::Tool(ToolFault::Device(word)) => device_cause(word),
+            Fault::Tool(ToolFault::Memory) => Cause::Memory,
+        }
+    }
+}
+
+fn device_cause(word: &str) -> Cause {
+    match word {
+        "Read" => Cause::Read,
+        "Endless" => Cause::Endless,
+        _ => Cause::Write,
+    }
+}
+
 /// Why the command ends before its work is done, with the context.
 #[derive(Drop)]
 pub struct Failure {
     pub fault: Fault,
     pub known: Known,
+    /// The name of the file with the input, if the error is of the input, and the command line names the file.
+    pub file: Option<String>,
+}
+
+impl fmt::Display for Failure {
+    fn fmt<W: fmt::Write>(&self, f: &mut fmt::Formatter<W>) -> fmt::Result {
+        match &self.file {
+            Some(file) => write!(f, "{} file={file}", self.fault),
+            None => write!(f, "{}", self.fault),
+        }
+    }
 }
 
 impl Failure {
@@ -56,6 +87,7 @@ impl Failure {
         Failure {
             fault: Fault::Tool(fault),
             known,
+            file: None,
         }
     }
 
@@ -64,6 +96,7 @@ impl Failure {
         Failure {
             fault: Fault::Command(error),
             known,
+            file: None,
         }
     }
 
@@ -72,9 +105,52 @@ impl Failure {
         Failure::new(fault, words.map_or(Known::Nothing, Known::Said))
     }
 
+    /// Adds the name of the file with the input, if the error is of the input. The name `-` is standard input. If the
+    /// name cannot be allocated, the error is `Memory`.
+    pub fn of_file(self, alloc: Global, name: &str) -> Failure {
+        if name == "-" || !self.is_of_input() {
+            return self;
+        }
+        let Failure {
+            fault,
+            known,
+            file: _,
+        } = self;
+        match String::from_str(alloc, name) {
+            Ok(file) => Failure {
+                fault,
+                known,
+                file: Some(file),
+            },
+            Err(_) => Failure::from(ToolFault::Memory),
+        }
+    }
+
+    // Returns true if the input is invalid or too large, or a read failed.
+    fn is_of_input(&self) -> bool {
+        match self.fault.cause() {
+            Cause::Refused | Cause::Read | Cause::Endless => true,
+            Cause::Write | Cause::Memory => false,
+        }
+    }
+
+    // Returns true if a file that the command line names could not be read.
+    fn is_unread_file(&self) -> bool {
+        self.file.is_some() && self.fault.cause() == Cause::Read
+    }
+
+    /// Returns true if an allocation failed.
+    pub fn is_memory(&self) -> bool {
+        self.fault.cause() == Cause::Memory
+    }
+
     /// Returns the status with which the command ends.
     pub fn status(self) -> u8 {
-        let Failure { fault, known: _ } = self;
+        let Failure {
+            fault,
+            known: _,
+            file: _,
+        } = self;
         match fault {
             Fault::Command(error) => error.status(),
             Fault::Tool(fault) => exit_status(&Err(fault)),
@@ -127,6 +203,7 @@ pub fn words_for(alloc: Global, failure: &Failure) -> Result<String, AllocError>
             None => advice,
         },
         Known::Packets => { "this is a packet capture: use hsms capture (docs/CAPTURES.md)" }
+        Known::Nothing if failure.is_unread_file() => READ_FILE,
         Known::Nothing => advice,
     };
     String::from_str(alloc, said)
@@ -177,6 +254,17 @@ pub fn link_words(
     }
 }
 
+/// Returns why a file cannot be opened.
+pub fn open_words(alloc: Global, kind: ErrorKind) -> Result<String, AllocError> {
+    let words = match kind {
+        ErrorKind::NotFound => "no such file: check its name",
+        ErrorKind::PermissionDenied => "no permission to read this file",
+        ErrorKind::IsADirectory => "this is a directory: name the files in it",
+        _ => OPEN,
+    };
+    String::from_str(alloc, words)
+}
+
 // Returns the position of an error in a notation.
 fn position(fault: &Fault) -> Option<usize> {
     match fault {
@@ -208,6 +296,8 @@ const TOO_LONG: &str =
 const ENDLESS: &str = "the input exceeds the program's counters: split it";
 
 const READ: &str = "cannot read standard input: is it open, and not a directory?";
+
+const READ_FILE: &str = "cannot read this file: is its disk or share well?";
 
 const WRITE: &str = "cannot write standard output: is the disk full, or the pipe closed?";
 
@@ -284,6 +374,8 @@ fn device_advice(word: &str) -> &'static str {
     }
 }
 
+const OPEN: &str = "this file cannot be opened: check its name and its permissions";
+
 const NO_ADVICE: &str = "see docs/CLI.md";
 
 // Returns what the first word of the text of an error of the command line or of `capture` means, and what to do.
@@ -291,6 +383,7 @@ fn refused_advice(words: &str) -> &'static str {
     let (word, _) = words.split_once(' ').unwrap_or((words, ""));
     match word {
         "command" => "run hsms --help, or hsms COMMAND --help",
+        "Open" => OPEN,
         word => capture_advice(word),
     }
 }

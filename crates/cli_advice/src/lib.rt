@@ -14,6 +14,6 @@ mod kept_lines;
 mod usage_error;
 
 pub use attempts::FailedAttempts;
-pub use error_help::{Failure, Fault, Known, begins_as_capture, link_words, words_for};
+pub use error_help::{Failure, Fault, Known, begins_as_capture, link_words, open_words, words_for};
 pub use kept_lines::KeptLines;
 pub use usage_error::refused_words;

@@ -2,15 +2,13 @@
 
 use cli_options::command;
 use std::alloc::{AllocError, Global};
+use std::net::IpAddr;
 
 /// Returns what `clap` reports of the words of a command line: the first paragraph of it in one line, and the usage.
-/// `clap` reports nothing of what the command itself rejects.
+/// `clap` reports nothing of what the command itself rejects: then the text has the option, and what it takes or needs.
 pub fn refused_words(alloc: Global, words: &[String]) -> Result<String, AllocError> {
     let Err(error) = command(alloc)?.try_get_matches_from(words) else {
-        return String::from_str(
-            alloc,
-            "--role, --active and --log take host or equipment; --link active or passive; --peer an IP address; --only failures; --format text, json or html; --bare needs --hex; --once, --connections and --t5 need --reconnect",
-        );
+        return rejected_option(alloc, words);
     };
     let text = error.to_string(alloc)?;
     let mut said = first_paragraph(alloc, text.as_str())?;
@@ -21,6 +19,53 @@ pub fn refused_words(alloc: Global, words: &[String]) -> Result<String, AllocErr
         }
     }
     Ok(said)
+}
+
+// Returns which option of a command line the command itself rejects, and why.
+fn rejected_option(alloc: Global, words: &[String]) -> Result<String, AllocError> {
+    let mut before = "";
+    for word in words {
+        let word = word.as_str();
+        let (option, value) = match word.split_once('=') {
+            Some(parts) if word.starts_with("--") => parts,
+            _ => (before, word),
+        };
+        if let Some(expected) = expected_value(option, value) {
+            return format!(in alloc; "{option} {value}: expected {expected}");
+        }
+        before = word;
+    }
+    if is_given(words, "--bare") {
+        return String::from_str(alloc, "--bare needs --hex");
+    }
+    for option in ["--once", "--connections", "--t5"] {
+        if is_given(words, option) {
+            return format!(in alloc; "{option} needs --reconnect");
+        }
+    }
+    String::from_str(alloc, "run hsms COMMAND --help")
+}
+
+// Returns what the command takes as the value of an option, if this value is another.
+fn expected_value(option: &str, value: &str) -> Option<&'static str> {
+    match option {
+        "--role" | "--active" | "--log" => {
+            (!matches!(value, "host" | "equipment")).then_some("host or equipment")
+        }
+        "--link" => (!matches!(value, "active" | "passive")).then_some("active or passive"),
+        "--only" => (value != "failures").then_some("failures"),
+        "--format" => (!matches!(value, "text" | "json" | "html")).then_some("text, json or html"),
+        "--peer" => value.parse::<IpAddr>().is_err().then_some("an IP address"),
+        _ => None,
+    }
+}
+
+// Returns true if an option is on the command line.
+fn is_given(words: &[String], option: &str) -> bool {
+    words.iter().any(|word| {
+        let word = word.as_str();
+        word.split_once('=').map_or(word, |(name, _)| name) == option
+    })
 }
 
 // Returns the first paragraph, in one line, without its first word.

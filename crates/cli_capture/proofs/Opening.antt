@@ -69,11 +69,11 @@ opening_placed a p few fewer =
     let one = seen_of o.syn [] in
     let two = seen_of o.answer [] in
     let three = seen_of o.acknowledgement [] in
-    ap (λ (at : Option ℕ). places base (placed_at 0 one at None) (two ∷ three ∷ [])) (syn_place a)
-    ∙ ap (λ (at : Option ℕ). places base (first_syn ∷ placed_at 0 two at (place_of 1 (number_before a) a)) (three ∷ [])) (syn_place p)
-    ∙ ap (λ (ack : Option ℕ). places base (first_syn ∷ placed_at 0 two (Some 0) ack) (three ∷ [])) (next_place a few)
-    ∙ ap (λ (at : Option ℕ). first_syn ∷ second_syn ∷ placed_at 1 three at (place_of 1 (number_before p) p)) (next_place a few)
-    ∙ ap (λ (ack : Option ℕ). first_syn ∷ second_syn ∷ placed_at 1 three (Some 1) ack) (next_place p fewer)
+    ap (λ (at : Option ℕ). places base (placed_at 0 0 one at None) (two ∷ three ∷ [])) (syn_place a)
+    ∙ ap (λ (at : Option ℕ). places base (first_syn ∷ placed_at 0 0 two at (place_of 1 (number_before a) a)) (three ∷ [])) (syn_place p)
+    ∙ ap (λ (ack : Option ℕ). places base (first_syn ∷ placed_at 0 0 two (Some 0) ack) (three ∷ [])) (next_place a few)
+    ∙ ap (λ (at : Option ℕ). first_syn ∷ second_syn ∷ placed_at 1 1 three at (place_of 1 (number_before p) p)) (next_place a few)
+    ∙ ap (λ (ack : Option ℕ). first_syn ∷ second_syn ∷ placed_at 1 1 three (Some 1) ack) (next_place p fewer)
 
 -- they tell that it came up, and no more
 opening_tells : emits opening_places ≡ entry 3 up ∷ []

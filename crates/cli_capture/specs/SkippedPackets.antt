@@ -2,12 +2,12 @@
 use Rattle.std.specs.Prelude.{ℕ, List, [], ◌∷◌, ◌++◌, ◌+◌, ◌-◌, ◌^◌, ◌==◌, min, length, if◌then◌else◌, codes, decimal}
 use Rattle.hsms_frame.specs.CallCounts.{next_count}
 use Rattle.capture_pcap.specs.declared.segment.Reason.{Reason}
-use Rattle.capture_pcap.specs.declared.segment.Reason.TheVariants.{Link, Short, Fragment, Cut, Header}
+use Rattle.capture_pcap.specs.declared.segment.Reason.TheVariants.{Link, Short, Fragment, Cut, Header, Damaged}
 use Rattle.cli_capture.specs.declared.skipped_packets.LeftOut.{LeftOut}
 
 -- none is left out
 abbrev pub none_left_out : LeftOut
-none_left_out = record { link = 0; short = 0; fragment = 0; cut = 0; header = 0 }
+none_left_out = record { link = 0; short = 0; fragment = 0; cut = 0; header = 0; damaged = 0 }
 
 -- one more is left out for this reason
 abbrev pub left_out_after : LeftOut → Reason → LeftOut
@@ -16,10 +16,11 @@ left_out_after counts Short = record counts { short = next_count counts.short }
 left_out_after counts Fragment = record counts { fragment = next_count counts.fragment }
 left_out_after counts Cut = record counts { cut = next_count counts.cut }
 left_out_after counts Header = record counts { header = next_count counts.header }
+left_out_after counts Damaged = record counts { damaged = next_count counts.damaged }
 
 -- how many there are, at most as many as 64 bits hold
 abbrev pub all_of : LeftOut → ℕ
-all_of counts = min (counts.link + counts.short + counts.fragment + counts.cut + counts.header) (2 ^ 64 - 1)
+all_of counts = min (counts.link + counts.short + counts.fragment + counts.cut + counts.header + counts.damaged) (2 ^ 64 - 1)
 
 -- a kind with its count behind those that are told already, and behind a comma if there are some; it isn't told where
 -- there is none of it
@@ -34,7 +35,8 @@ kinds_of counts =
     let short = with_kind link (codes "short") counts.short in
     let fragment = with_kind short (codes "fragment") counts.fragment in
     let cut = with_kind fragment (codes "truncated") counts.cut in
-    with_kind cut (codes "header") counts.header
+    let header = with_kind cut (codes "header") counts.header in
+    with_kind header (codes "damaged") counts.damaged
 
 -- how many packets there are
 abbrev pub packets_words : ℕ → List ℕ

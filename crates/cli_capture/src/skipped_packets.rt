@@ -14,6 +14,7 @@ pub struct LeftOut {
     fragment: u64,
     cut: u64,
     header: u64,
+    damaged: u64,
 }
 
 impl LeftOut {
@@ -27,6 +28,7 @@ impl LeftOut {
             fragment: 0,
             cut: 0,
             header: 0,
+            damaged: 0,
         }
     }
 
@@ -40,6 +42,7 @@ impl LeftOut {
             Reason::Fragment => self.fragment = self.fragment.saturating_add(1),
             Reason::Cut => self.cut = self.cut.saturating_add(1),
             Reason::Header => self.header = self.header.saturating_add(1),
+            Reason::Damaged => self.damaged = self.damaged.saturating_add(1),
         }
     }
 
@@ -67,6 +70,7 @@ impl LeftOut {
             .saturating_add(self.fragment)
             .saturating_add(self.cut)
             .saturating_add(self.header)
+            .saturating_add(self.damaged)
     }
 
     // The kinds with their counts.
@@ -79,6 +83,7 @@ impl LeftOut {
         push_kind(&mut kinds, "fragment", self.fragment)?;
         push_kind(&mut kinds, "truncated", self.cut)?;
         push_kind(&mut kinds, "header", self.header)?;
+        push_kind(&mut kinds, "damaged", self.damaged)?;
         Ok(kinds)
     }
 }

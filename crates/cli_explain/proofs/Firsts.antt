@@ -134,10 +134,13 @@ keeps_some old new asked groups first some = λ excerpt written is shows.
     )
 
 -- A change that leaves the failures and the output as they are, except for appended output.
+pub keeps_asked : (old new : Report) → new.window.excerpt ≡ old.window.excerpt → new.groups ≡ old.groups → new.tally.first ≡ old.tally.first
+    → (old.window.excerpt.form ≡ Text → AddsSome old.page new.page) → KeepsShown old new
+keeps_asked old new asked groups first some = keeps_some old new asked (none_same old.tally new.tally old.groups new.groups first groups) first some
+
 pub keeps_on : (old new : Report) → new.window ≡ old.window → new.groups ≡ old.groups → new.tally.first ≡ old.tally.first
     → (old.window.excerpt.form ≡ Text → AddsSome old.page new.page) → KeepsShown old new
-keeps_on old new window groups first some =
-    keeps_some old new (ap (λ (w : Window). w.excerpt) window) (none_same old.tally new.tally old.groups new.groups first groups) first some
+keeps_on old new window groups first some = keeps_asked old new (ap (λ (w : Window). w.excerpt) window) groups first some
 
 pub keeps_page : (old new : Report) → new.window ≡ old.window → new.groups ≡ old.groups → new.tally.first ≡ old.tally.first → new.page ≡ old.page
     → KeepsShown old new

@@ -1,7 +1,7 @@
 //! Filter of log lines: which lines are written, and when.
 
 use cli_options::{Excerpt, Lines};
-use explain_forms::{Emitter, Links, Page};
+use explain_forms::{Emitter, Links, Page, Skipped};
 use explain_lines::{Carried, ExplainedLine, Gap, Note, carried_by, has_failure};
 use std::alloc::{AllocError, Global};
 use std::collections::VecDeque;
@@ -20,12 +20,14 @@ pub struct Window {
     octets: Vec<u8>,
 }
 
-// A buffered line: its number, the bytes that are written, whether it is an entry, and its annotations.
+// A buffered line: its number, the bytes that are written, whether it is an entry, whether that is an `up`, and its
+// annotations.
 #[derive(Drop)]
 struct Held {
     number: u64,
     octets: Vec<u8>,
     is_entry: bool,
+    is_up: bool,
     notes: Vec<Note>,
 }
 
@@ -52,6 +54,7 @@ impl Held {
             number: 0,
             octets: Vec::new(alloc),
             is_entry: false,
+            is_up: false,
             notes: Vec::new(alloc),
         }
     }
@@ -62,6 +65,21 @@ impl Held {
             return Ok(Carried::Nothing);
         }
         carried_by(&self.octets, max, octets)
+    }
+
+    fn skipped(&self) -> Skipped {
+        Skipped {
+            line: self.number,
+            is_up: self.is_up,
+        }
+    }
+}
+
+// Returns a line as it is recorded if it is not written.
+fn skipped_of(shown_line: ExplainedLine<'_, '_>) -> Skipped {
+    Skipped {
+        line: shown_line.number,
+        is_up: shown_line.is_up(),
     }
 }
 
@@ -180,11 +198,13 @@ impl Window {
         ensures subsequent { self.new.subsequent ≡ self.old.subsequent }
         ensures excerpt { self.new.excerpt ≡ self.old.excerpt }
     {
+        let skipped = skipped_of(shown_line);
         if self.excerpt.around == 0 {
-            return Ok(());
+            return self.skip(skipped, notes);
         }
-        let mut held = self.vacant(alloc);
+        let mut held = self.vacant(alloc)?;
         held.number = shown_line.number;
+        held.is_up = skipped.is_up;
         held.is_entry = matches!(shown_line.carried, Carried::Entry(_, _));
         held.notes.clear();
         held.notes.extend_from_slice(notes)?;
@@ -194,18 +214,63 @@ impl Window {
         Ok(())
     }
 
-    // Returns the oldest buffered line if the buffer is full, and otherwise a new one.
-    fn vacant(&mut self, alloc: Global) -> Held
+    // Returns the oldest buffered line, which is not written then, if the buffer is full, and otherwise a new one.
+    fn vacant(&mut self, alloc: Global) -> Result<Held, AllocError>
         ensures subsequent { self.new.subsequent ≡ self.old.subsequent }
         ensures excerpt { self.new.excerpt ≡ self.old.excerpt }
     {
         if self.held.len() < self.excerpt.around as usize {
-            return Held::new(alloc);
+            return Ok(Held::new(alloc));
         }
         match self.held.pop_front() {
-            Some(held) => held,
-            None => Held::new(alloc),
+            Some(held) => {
+                self.skip(held.skipped(), &held.notes)?;
+                Ok(held)
+            }
+            None => Ok(Held::new(alloc)),
         }
+    }
+
+    // Records a line that is not written.
+    fn skip(&mut self, skipped: Skipped, notes: &[Note]) -> Result<(), AllocError>
+        ensures subsequent { self.new.subsequent ≡ self.old.subsequent }
+        ensures excerpt { self.new.excerpt ≡ self.old.excerpt }
+        ensures held { self.new.held ≡ self.old.held }
+    {
+        self.emitter().skip(&mut self.links, skipped, notes)
+    }
+
+    // Records that the buffered lines are not written, and empties the buffer.
+    fn skip_held(&mut self) -> Result<(), AllocError>
+        ensures subsequent { self.new.subsequent ≡ self.old.subsequent }
+        ensures excerpt { self.new.excerpt ≡ self.old.excerpt }
+    {
+        while let Some(held) = self.held.pop_front() {
+            self.skip(held.skipped(), &held.notes)?;
+        }
+        Ok(())
+    }
+
+    // Records that the buffered lines are not written, since the log ends.
+    fn skip_all(&mut self, page: &mut Page)
+        ensures shown_line { AddsSome page.old page.new }
+        ensures excerpt { self.new.excerpt ≡ self.old.excerpt }
+    {
+        if self.skip_held().is_err() {
+            page.refuse();
+        }
+    }
+
+    /// Records a line outside the selected range, which is not written, as the buffered lines.
+    pub fn pass(
+        &mut self,
+        shown_line: ExplainedLine<'_, '_>,
+        notes: &[Note],
+    ) -> Result<(), AllocError>
+        ensures excerpt { self.new.excerpt ≡ self.old.excerpt }
+    {
+        self.skip_held()?;
+        self.skip(skipped_of(shown_line), notes)
     }
 
     // Writes the buffered lines in order, and empties the buffer.
@@ -253,20 +318,25 @@ impl Window {
     }
 
     // Writes which lines are skipped after the last line written, up to line `to`.
-    fn leave_out(&self, page: &mut Page, to: u64)
-        ensures { self.now.excerpt.form ≡ Text → Adds page.old page.new (left_out self.now.last (to + 1)) }
+    fn leave_out(&mut self, page: &mut Page, to: u64)
+        ensures shown_line { self.old.excerpt.form ≡ Text → Adds page.old page.new (left_out self.old.last (to + 1)) }
+        ensures subsequent { self.new.subsequent ≡ self.old.subsequent }
+        ensures excerpt { self.new.excerpt ≡ self.old.excerpt }
+        ensures held { self.new.held ≡ self.old.held }
     {
         if to <= self.last {
             return;
         }
         let from = self.last + 1;
-        self.emitter().gap(page, Gap { from, to });
+        self.emitter().gap(page, &mut self.links, Gap { from, to });
     }
 
     /// Ends a log of `lines` lines, and writes which lines are skipped after the last line written.
-    pub fn finish(&self, page: &mut Page, lines: u64)
-        ensures { self.now.excerpt.form ≡ Text → AddsSome page.old page.new }
+    pub fn finish(&mut self, page: &mut Page, lines: u64)
+        ensures shown_line { self.old.excerpt.form ≡ Text → AddsSome page.old page.new }
+        ensures excerpt { self.new.excerpt ≡ self.old.excerpt }
     {
+        self.skip_all(page);
         self.leave_out(page, lines);
         self.emitter().end_lines(page, &self.links);
     }

@@ -126,7 +126,7 @@ impl Report {
     {
         self.tally.count_notes(shown_line.number, &self.notes)?;
         if !self.window.has_line(shown_line.number) {
-            return Ok(());
+            return self.window.pass(shown_line, &self.notes);
         }
         group_notes(
             &mut self.groups,

@@ -7,27 +7,26 @@ use Rattle.hsms_log.specs.declared.fault.AuditFault.TheVariants as log
 use Rattle.hsms_log.specs.Auditing.{AuditsAs, CountsAudit}
 use Rattle.hsms_log.specs.declared.verdict.Verdict.{Verdict}
 use Rattle.hsms_log.specs.declared.verdict.Verdict.TheVariants.{Pass, Fail}
-use Rattle.cli_output.specs.Verdict.{verdict_line_of}
-use Rattle.cli_filters.specs.Audit.{AuditsTo, CountsVerdict}
+use Rattle.cli_filters.specs.Audit.{AuditsAsText, CountsVerdict}
 use Rattle.cli_filters.specs.declared.audit_error.AuditError.TheVariants.{Log, Write}
 
 -- There is no verdict, and nothing was written.
-pub stops_unjudged : (input : List ℕ) (fault : AuditFault) (left : Option (List ℕ)) (ended : Type 0) (written : Option (List ℕ))
-    → AuditsAs input (Err fault) left ended → AuditsTo input (Err (Log fault)) left ended written written
-stops_unjudged input fault left ended written audits = (audits, (λ octets known_input. known_input))
+pub stops_unjudged : (text_of : Verdict → List ℕ) (input : List ℕ) (fault : AuditFault) (left : Option (List ℕ)) (ended : Type 0) (written : Option (List ℕ))
+    → AuditsAs input (Err fault) left ended → AuditsAsText text_of input (Err (Log fault)) left ended written written
+stops_unjudged text_of input fault left ended written audits = (audits, (λ octets known_input. known_input))
 
 -- The line of a verdict was not written completely.
-pub stops_unwritten : (input : List ℕ) (verdict : Verdict) (line : List ℕ) (left : Option (List ℕ)) (ended : Type 0) (old new : Option (List ℕ))
-    → AuditsAs input (Ok verdict) left ended → line ≡ verdict_line_of verdict → GrowsByFront old new line
-    → AuditsTo input (Err Write) left ended old new
-stops_unwritten input verdict line left ended old new audits is grows =
+pub stops_unwritten : (text_of : Verdict → List ℕ) (input : List ℕ) (verdict : Verdict) (line : List ℕ) (left : Option (List ℕ)) (ended : Type 0) (old new : Option (List ℕ))
+    → AuditsAs input (Ok verdict) left ended → line ≡ text_of verdict → GrowsByFront old new line
+    → AuditsAsText text_of input (Err Write) left ended old new
+stops_unwritten text_of input verdict line left ended old new audits is grows =
     let P : List ℕ → Type 0 = λ l. GrowsByFront old new l in (verdict, audits, subst P is grows)
 
 -- The line of a verdict was written completely.
-pub answers_written : (input : List ℕ) (verdict : Verdict) (line : List ℕ) (left : Option (List ℕ)) (ended : Type 0) (old new : Option (List ℕ))
-    → AuditsAs input (Ok verdict) left ended → line ≡ verdict_line_of verdict → Grows old new line
-    → AuditsTo input (Ok verdict) left ended old new
-answers_written input verdict line left ended old new audits is grows =
+pub answers_written : (text_of : Verdict → List ℕ) (input : List ℕ) (verdict : Verdict) (line : List ℕ) (left : Option (List ℕ)) (ended : Type 0) (old new : Option (List ℕ))
+    → AuditsAs input (Ok verdict) left ended → line ≡ text_of verdict → Grows old new line
+    → AuditsAsText text_of input (Ok verdict) left ended old new
+answers_written text_of input verdict line left ended old new audits is grows =
     let P : List ℕ → Type 0 = λ l. Grows old new l in (audits, subst P is grows)
 
 -- ---- what is counted

@@ -17,14 +17,19 @@ audit_error_text (Log log.Endless) = codes "Endless"
 audit_error_text (Log log.Memory) = codes "Memory"
 audit_error_text Write = codes "Write"
 
--- The results for an input. Each has what is left of the input, whether its end was found, and what was written before
--- and is now: the verdict's complete line, a part of it if the write failed, otherwise nothing.
+-- The results for an input, if each verdict is written as this text. Each has what is left of the input, whether its end
+-- was found, and what was written before and is now: the complete text, a part of it if the write failed, otherwise
+-- nothing.
+abbrev pub AuditsAsText : (Verdict → List ℕ) → List ℕ → Result Verdict AuditError → Option (List ℕ) → Type 0 → Option (List ℕ) → Option (List ℕ) → Type 0
+AuditsAsText text_of input (Ok verdict) left ended old new =
+    AuditsAs input (Ok verdict) left ended × Grows old new (text_of verdict)
+AuditsAsText text_of input (Err (Log fault)) left ended old new = AuditsAs input (Err fault) left ended × Stays old new
+AuditsAsText text_of input (Err Write) left ended old new =
+    (verdict : Verdict) × AuditsAs input (Ok verdict) left ended × GrowsByFront old new (text_of verdict)
+
+-- The results for an input, if the line of each verdict is written.
 abbrev pub AuditsTo : List ℕ → Result Verdict AuditError → Option (List ℕ) → Type 0 → Option (List ℕ) → Option (List ℕ) → Type 0
-AuditsTo input (Ok verdict) left ended old new =
-    AuditsAs input (Ok verdict) left ended × Grows old new (verdict_line_of verdict)
-AuditsTo input (Err (Log fault)) left ended old new = AuditsAs input (Err fault) left ended × Stays old new
-AuditsTo input (Err Write) left ended old new =
-    (verdict : Verdict) × AuditsAs input (Ok verdict) left ended × GrowsByFront old new (verdict_line_of verdict)
+AuditsTo = AuditsAsText verdict_line_of
 
 -- How often a source has failed, by the result.
 abbrev pub reads_after : {T : Type 0} → Result T AuditError → ℕ → ℕ

@@ -2,7 +2,8 @@
 //!
 //! [`perform`] performs a task, by `show` and `show_hex` of `cli_show`, [`verdict_to`] and [`encode_input`]. Its errors
 //! are those of the parts, as a [`CommandError`]. [`show`], [`show_hex`], [`audit_to`] and [`encode_all`] are the same
-//! parts, with errors as `ToolFault`. [`read_whole`] reads notation for other uses:
+//! parts, with errors as `ToolFault`. An [`AuditReport`] is on several logs. [`read_whole`] reads notation for other
+//! uses:
 //!
 //! ```
 //! let well = perform(alloc, Task::Audit, &mut source, &mut sink)?; // false if the log fails
@@ -10,6 +11,7 @@
 #![tactic(auto)]
 
 mod audit_error;
+mod audit_report;
 mod auditing;
 mod command_error;
 mod dispatch;
@@ -21,6 +23,7 @@ mod read_input;
 mod tool_results;
 
 pub use audit_error::AuditError;
+pub use audit_report::AuditReport;
 pub use auditing::verdict_to;
 pub use command_error::{Cause, CommandError, fault_of};
 pub use dispatch::perform;

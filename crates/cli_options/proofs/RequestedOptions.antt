@@ -1,6 +1,6 @@
 -- What the words of a command line request.
-use Rattle.std.proofs.Common.{◌≡◌, ◌≢◌, ◌<◌, ◌≤◌, ◌^◌, ◌&&◌, ◌⊎◌, ℕ, Bool, true, false, List, [], ◌∷◌, Some, None, Ok, Err, refl, sym, ◌∙◌, ap, ap₂, subst, inl, inr, arith}
-use Rattle.std.specs.Prelude.{Option, Result, IfOk, IfErr, if◌then◌else◌, nat_le, option_map}
+use Rattle.std.proofs.Common.{Bor, map, ◌≡◌, ◌≢◌, ◌<◌, ◌≤◌, ◌^◌, ◌&&◌, ◌⊎◌, ℕ, Bool, true, false, List, [], ◌∷◌, Some, None, Ok, Err, refl, sym, ◌∙◌, ap, ap₂, subst, inl, inr, arith}
+use Rattle.std.specs.Prelude.{Option, unwrap_or, Result, IfOk, IfErr, if◌then◌else◌, nat_le, option_map}
 use Rattle.std.specs.Str.Parse.{ParsesUnsigned, digits_value, without_leading_plus}
 use Rattle.std.proofs.lemmas.Bool.Decides.{nat_tests}
 use Rattle.clap.proofs.OnLiterals.{clap_on_literals}
@@ -15,11 +15,12 @@ use Rattle.clap.specs.declared.parser.matches.ArgMatches.{ArgMatches}
 use Rattle.clap.specs.declared.parser.matches.Found.{Found}
 use Rattle.cli_options.specs.declared.fault.ToolFault.{ToolFault}
 use Rattle.cli_options.specs.declared.fault.ToolFault.TheVariants.{Refused, Device, Memory}
+use Rattle.cli_options.specs.declared.request.CommandLine.{CommandLine}
 use Rattle.cli_options.specs.declared.request.Request.{Request}
 use Rattle.cli_options.specs.declared.request.Request.TheVariants as request
 use Rattle.cli_options.specs.declared.request.Task.TheVariants as asked
 use Rattle.cli_options.specs.OptionValues.{Number, number_between, number_in}
-use Rattle.cli_options.specs.Request.{AsksBy, EncodesTo, ParsesNothing, ParsesWork, command_line}
+use Rattle.cli_options.specs.Request.{Operands, AsksBy, EncodesTo, HasOperands, ParsesNothing, ParsesWork, command_line, no_operands, operands_by, operands_for, operands_of}
 use Rattle.cli_options.specs.InnerRequest.{CallsForText, IsHelp}
 use Rattle.cli_options.specs.Status.{IsRefusedFor}
 
@@ -76,6 +77,23 @@ number_read {E} gives n found r parses few none value = go (one_of n.name (rows_
     go None is = rw (none is, sym (sym is ∙ one_text-rows found n.name)) refl
     go (Some t) is = rw (sym (sym is ∙ one_text-rows found n.name)) (tried gives n t r parses few (value t is))
 
+-- ---- the names of files
+
+abbrev pub names_of_slice : Option (Bor (List (Bor Text))) → Option (List Text)
+names_of_slice = option_map (λ names. map (λ name. name.now) names.now)
+
+-- The names were copied.
+pub names_copied : {A E : Type 0} (items : A → List (Bor Text)) (names : List (Bor Text)) (given : Option (List Text)) (r : Result A E)
+    → IfOk r (λ copied. items copied ≡ names) → Some (map (λ name. name.now) names) ≡ given
+    → IfOk r (λ copied. map (λ name. name.now) (items copied) ≡ unwrap_or given [])
+names_copied items names given (Ok copied) same is = ap (map (λ name. name.now)) same ∙ ap (λ o. unwrap_or o []) is
+names_copied items names given (Err error) same is = tt
+
+-- Operands with these names and this flag.
+pub same_operands : {names others : List Text} {quiet is_quiet : Bool} → names ≡ others → quiet ≡ is_quiet
+    → ◌≡◌ {A = Operands} (record { names = names; quiet = quiet }) (record { names = others; quiet = is_quiet })
+same_operands same flag = ap₂ (λ (a : List Text) (b : Bool). record { names = a; quiet = b }) same flag
+
 -- ---- the command line
 
 -- What was entered has this name, and these rows.
@@ -112,19 +130,38 @@ entered_by words m app is has =
     (has (ap is_simple is ∙ command_is_simple)).1 ∙ ap (λ a. subcommand_of a words) is
 
 -- The words were accepted.
-pub asks_parsed : (words : List Text) (m : ArgMatches) (app : App) (r : Result Request ToolFault) → app ≡ command_line → HasMatchesOf app words m
-    → (is_simple_and_free app ≡ true → fault_of app words ≡ []) → IfOk r (AsksBy (subcommand_rows_of m)) → IfOk r (EncodesTo words)
-asks_parsed words m app (Ok request) is has fine asks =
-    let P : Option (Text × List Row) → Type 0 = λ e. AsksBy e request in
+pub asks_parsed : (words : List Text) (m : ArgMatches) (app : App) (r : Result CommandLine ToolFault) → app ≡ command_line → HasMatchesOf app words m
+    → (is_simple_and_free app ≡ true → fault_of app words ≡ []) → IfOk r (λ line. AsksBy (subcommand_rows_of m) line.request)
+    → IfOk r (λ line. EncodesTo words line.request)
+asks_parsed words m app (Ok line) is has fine asks =
+    let P : Option (Text × List Row) → Type 0 = λ e. AsksBy e line.request in
     let F : App → Type 0 = λ a. fault_of a words ≡ [] in
-    encodes_to words request (subst F is (fine (ap is_simple_and_free is ∙ command_is_free)), subst P (entered_by words m app is has) asks)
+    encodes_to words line.request (subst F is (fine (ap is_simple_and_free is ∙ command_is_free)), subst P (entered_by words m app is has) asks)
 asks_parsed words m app (Err fault) is has fine asks = tt
 
-pub nothing_parsed : (words : List Text) (m : ArgMatches) (app : App) (text : List ℕ) (r : Result Request ToolFault) → app ≡ command_line
+-- Those of a request that is none for help.
+entered_operands : (words : List Text) (request : Request) (entered : Option (Text × List Row)) → AsksBy entered request
+    → operands_by (subcommand_of command_line words) ≡ operands_for words request
+entered_operands words (request.Task (asked.Help text)) entered (name, rows, is, asks) = absurd asks
+entered_operands words (request.Task asked.Audit) entered asks = refl
+entered_operands words (request.Task (asked.Show s)) entered asks = refl
+entered_operands words (request.Task (asked.Encode e)) entered asks = refl
+entered_operands words (request.Explain excerpt) entered asks = refl
+entered_operands words (request.Capture capturing) entered asks = refl
+entered_operands words (request.Serve service) entered asks = refl
+
+pub operands_parsed : (words : List Text) (m : ArgMatches) (app : App) (r : Result CommandLine ToolFault) → app ≡ command_line → HasMatchesOf app words m
+    → IfOk r (λ line. AsksBy (subcommand_rows_of m) line.request) → IfOk r (λ line. operands_of line ≡ operands_by (subcommand_rows_of m))
+    → IfOk r (HasOperands words)
+operands_parsed words m app (Ok line) is has asks same =
+    same ∙ ap operands_by (entered_by words m app is has) ∙ entered_operands words line.request (subcommand_rows_of m) asks
+operands_parsed words m app (Err fault) is has asks same = tt
+
+pub nothing_parsed : (words : List Text) (m : ArgMatches) (app : App) (text : List ℕ) (r : Result CommandLine ToolFault) → app ≡ command_line
     → HasMatchesOf app words m → (is_simple_and_free app ≡ true → fault_of app words ≡ [])
     → IfErr r (IsRefusedFor ((request : Request) → AsksBy (subcommand_rows_of m) request → ⊥) text)
     → IfErr r (IsRefusedFor (ParsesNothing words) text)
-nothing_parsed words m app text (Ok request) is has fine why = tt
+nothing_parsed words m app text (Ok line) is has fine why = tt
 nothing_parsed words m app text (Err (Refused given)) is has fine (told, none) =
     let F : App → Type 0 = λ a. fault_of a words ≡ [] in
     let no_fault : fault_of command_line words ≡ [] = subst F is (fine (ap is_simple_and_free is ∙ command_is_free)) in (
@@ -149,20 +186,39 @@ among_faults words app k no_memory is fails = elim (fails (ap is_simple_and_free
 ]
 
 -- The words were rejected, or call for a text.
-pub asks_explained : (words : List Text) (app : App) (k : ErrorKind) (r : Result Request ToolFault) → app ≡ command_line
-    → (is_simple_and_free app ≡ true → (k ≡ OutOfMemory) ⊎ IsAmong k (fault_of app words)) → IfOk r (λ request. IsHelp request × CallsForText k)
-    → IfOk r (EncodesTo words)
-asks_explained words app k (Ok (request.Task (asked.Help text))) is fails (help, inl kind) =
+help_explained : (words : List Text) (app : App) (k : ErrorKind) (request : Request) → app ≡ command_line
+    → (is_simple_and_free app ≡ true → (k ≡ OutOfMemory) ⊎ IsAmong k (fault_of app words)) → IsHelp request → CallsForText k
+    → EncodesTo words request
+help_explained words app k (request.Task (asked.Help text)) is fails help (inl kind) =
     inl (among_faults words app DisplayHelp (λ memory. absurd cc) is (subst (λ x. is_simple_and_free app ≡ true → (x ≡ OutOfMemory) ⊎ IsAmong x (fault_of app words)) kind fails))
-asks_explained words app k (Ok (request.Task (asked.Help text))) is fails (help, inr kind) =
+help_explained words app k (request.Task (asked.Help text)) is fails help (inr kind) =
     inr (among_faults words app DisplayVersion (λ memory. absurd cc) is (subst (λ x. is_simple_and_free app ≡ true → (x ≡ OutOfMemory) ⊎ IsAmong x (fault_of app words)) kind fails))
-asks_explained words app k (Ok (request.Task asked.Audit)) is fails (help, kind) = absurd help
-asks_explained words app k (Ok (request.Task (asked.Show s))) is fails (help, kind) = absurd help
-asks_explained words app k (Ok (request.Task (asked.Encode e))) is fails (help, kind) = absurd help
-asks_explained words app k (Ok (request.Explain excerpt)) is fails (help, kind) = absurd help
-asks_explained words app k (Ok (request.Capture capturing)) is fails (help, kind) = absurd help
-asks_explained words app k (Ok (request.Serve service)) is fails (help, kind) = absurd help
+help_explained words app k (request.Task asked.Audit) is fails help kind = absurd help
+help_explained words app k (request.Task (asked.Show s)) is fails help kind = absurd help
+help_explained words app k (request.Task (asked.Encode e)) is fails help kind = absurd help
+help_explained words app k (request.Explain excerpt) is fails help kind = absurd help
+help_explained words app k (request.Capture capturing) is fails help kind = absurd help
+help_explained words app k (request.Serve service) is fails help kind = absurd help
+
+pub asks_explained : (words : List Text) (app : App) (k : ErrorKind) (r : Result CommandLine ToolFault) → app ≡ command_line
+    → (is_simple_and_free app ≡ true → (k ≡ OutOfMemory) ⊎ IsAmong k (fault_of app words))
+    → IfOk r (λ line. IsHelp line.request × CallsForText k) → IfOk r (λ line. EncodesTo words line.request)
+asks_explained words app k (Ok line) is fails (help, kind) = help_explained words app k line.request is fails help kind
 asks_explained words app k (Err fault) is fails help = tt
+
+help_operands : (words : List Text) (request : Request) → IsHelp request → no_operands ≡ operands_for words request
+help_operands words (request.Task (asked.Help text)) help = refl
+help_operands words (request.Task asked.Audit) help = absurd help
+help_operands words (request.Task (asked.Show s)) help = absurd help
+help_operands words (request.Task (asked.Encode e)) help = absurd help
+help_operands words (request.Explain excerpt) help = absurd help
+help_operands words (request.Capture capturing) help = absurd help
+help_operands words (request.Serve service) help = absurd help
+
+pub operands_explained : (words : List Text) (k : ErrorKind) (r : Result CommandLine ToolFault)
+    → IfOk r (λ line. IsHelp line.request × CallsForText k) → IfOk r (λ line. operands_of line ≡ no_operands) → IfOk r (HasOperands words)
+operands_explained words k (Ok line) help same = same ∙ help_operands words line.request help.0
+operands_explained words k (Err fault) help same = tt
 
 another_kind : (k other : ErrorKind) (kinds : Kinds) → k ≢ other → IsAmong k kinds → kinds ≢ other ∷ []
 another_kind k other kinds differs among is = let P : Kinds → Type 0 = λ ks. IsAmong k ks in elim (subst P is among) [
@@ -173,10 +229,10 @@ another_kind k other kinds differs among is = let P : Kinds → Type 0 = λ ks. 
 some_kind : (k : ErrorKind) (kinds : Kinds) → IsAmong k kinds → kinds ≢ []
 some_kind k kinds among is = let P : Kinds → Type 0 = λ ks. IsAmong k ks in subst P is among
 
-pub nothing_explained : (words : List Text) (app : App) (k : ErrorKind) (text : List ℕ) (r : Result Request ToolFault) → app ≡ command_line
+pub nothing_explained : (words : List Text) (app : App) (k : ErrorKind) (text : List ℕ) (r : Result CommandLine ToolFault) → app ≡ command_line
     → (is_simple_and_free app ≡ true → (k ≡ OutOfMemory) ⊎ IsAmong k (fault_of app words))
     → IfErr r (IsRefusedFor ((CallsForText k → ⊥) × (k ≢ OutOfMemory)) text) → IfErr r (IsRefusedFor (ParsesNothing words) text)
-nothing_explained words app k text (Ok request) is fails why = tt
+nothing_explained words app k text (Ok line) is fails why = tt
 nothing_explained words app k text (Err (Refused given)) is fails (told, (no_text, no_memory)) =
     let among = among_faults words app k no_memory is fails in (
       told,

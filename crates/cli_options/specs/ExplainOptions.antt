@@ -6,7 +6,7 @@ use Rattle.cli_options.specs.declared.explain_options.Lines.{Lines}
 use Rattle.cli_options.specs.declared.explain_options.Lines.TheVariants.{All, Failures}
 use Rattle.cli_options.specs.declared.explain_options.OutputFormat.{OutputFormat}
 use Rattle.cli_options.specs.declared.explain_options.OutputFormat.TheVariants.{Text as TextForm, Json, Html}
-use Rattle.cli_options.specs.OptionValues.{IsFlag, Number, flag_option, number_in, option_of, text_option}
+use Rattle.cli_options.specs.OptionValues.{IsFlag, Number, flag_option, number_in, operand, option_of, text_option}
 
 -- The number of lines that are shown around a failing one.
 abbrev pub around_number : Number
@@ -22,7 +22,7 @@ to_number = record { name = codes "to"; least = 1; greatest = 4294967295; left_o
 
 abbrev pub explain_rules : List Rule
 explain_rules =
-    text_option (codes "only") ∷ option_of around_number ∷ option_of from_number ∷ option_of to_number
+    operand (codes "FILE") ∷ text_option (codes "only") ∷ option_of around_number ∷ option_of from_number ∷ option_of to_number
     ∷ text_option (codes "format") ∷ flag_option (codes "utc") ∷ []
 
 -- The text of the option `only`, if any, that requests these lines.

@@ -3,8 +3,8 @@ use Rattle.std.specs.Prelude.{◌++◌, List, [], ◌∷◌, map}
 use Rattle.clap.specs.Words.{App, Rule, Shape, new_app, with_subcommand}
 use Rattle.cli_options.specs.declared.clap_command.Subcommand.{Subcommand}
 use Rattle.cli_options.specs.declared.option_tables.Described.{Described}
-use Rattle.cli_options.specs.declared.option_tables.Described.TheVariants.{Flag, Word, Needed, Number}
-use Rattle.cli_options.specs.OptionValues.{flag_option, needed_option, option_of, text_option}
+use Rattle.cli_options.specs.declared.option_tables.Described.TheVariants.{Flag, Word, Needed, Number, File, Files}
+use Rattle.cli_options.specs.OptionValues.{flag_option, needed_option, operand, operands, option_of, text_option}
 use Rattle.cli_options.specs.InnerOptionValues.{described_number}
 
 -- The option that is described.
@@ -13,6 +13,8 @@ rule_described (Flag name help) = flag_option name.now
 rule_described (Word name value help) = text_option name.now
 rule_described (Needed name value help) = needed_option name.now
 rule_described (Number number value help) = option_of (described_number number)
+rule_described (File name help) = operand name.now
+rule_described (Files name help) = operands name.now
 
 -- The subcommand that is described.
 abbrev pub shape_described : Subcommand → Shape

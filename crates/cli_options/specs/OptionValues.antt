@@ -5,7 +5,7 @@ use Rattle.std.specs.Str.{bytes_eq}
 use Rattle.std.specs.Str.Parse.{digits_value, without_leading_plus}
 use Rattle.clap.specs.ValueTests.{is_unsigned_in}
 use Rattle.clap.specs.Words.{Row, Rule, Text, first_of, new_rule, one_of}
-use Rattle.clap.specs.declared.builder.action.ArgAction.TheVariants.{SetTrue}
+use Rattle.clap.specs.declared.builder.action.ArgAction.TheVariants.{Append, SetTrue}
 use Rattle.clap.specs.declared.builder.value_parser.ValueParser.TheVariants.{Signed}
 
 -- An option with a number: its name, its minimum, its maximum, and its default, if it has one.
@@ -51,6 +51,14 @@ needed_option name = record (text_option name) { required = true }
 -- A flag, `--NAME`.
 abbrev pub flag_option : Text → Rule
 flag_option name = record (new_rule name) { long = Some name; action = Some SetTrue }
+
+-- An operand: at most one word that is no option.
+abbrev pub operand : Text → Rule
+operand name = new_rule name
+
+-- Operands: any number of words that are no options.
+abbrev pub operands : Text → Rule
+operands name = record (new_rule name) { action = Some Append }
 
 -- The number in a text of decimal digits, if it is in this range.
 abbrev pub number_between : ℕ → ℕ → Text → Option ℕ

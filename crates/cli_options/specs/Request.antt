@@ -1,7 +1,8 @@
 -- What the words of a command line request, as `clap` reads them.
-use Rattle.std.specs.Prelude.{◌≡◌, ◌≢◌, ◌≤◌, ◌⊎◌, true, false, List, [], ◌∷◌, codes, Bool, Option, Some, None}
-use Rattle.clap.specs.Words.{App, IsAmong, Row, Shape, Text, fault_of, new_app, subcommand_of}
+use Rattle.std.specs.Prelude.{◌≡◌, ◌≢◌, ◌≤◌, ◌⊎◌, true, false, List, [], ◌∷◌, codes, map, Bool, Option, Some, None, unwrap_or}
+use Rattle.clap.specs.Words.{App, IsAmong, Row, Shape, Text, all_of, fault_of, new_app, subcommand_of}
 use Rattle.clap.specs.declared.error.kind.ErrorKind.TheVariants.{DisplayHelp, DisplayVersion}
+use Rattle.cli_options.specs.declared.request.CommandLine.{CommandLine}
 use Rattle.cli_options.specs.declared.request.Form.{Form}
 use Rattle.cli_options.specs.declared.request.Form.TheVariants as form
 use Rattle.cli_options.specs.declared.request.Request.{Request}
@@ -9,7 +10,7 @@ use Rattle.cli_options.specs.declared.request.Request.TheVariants as request
 use Rattle.cli_options.specs.declared.request.Task.{Task}
 use Rattle.cli_options.specs.declared.request.Task.TheVariants as asked
 use Rattle.cli_options.specs.CaptureOptions.{HasCapturing, IsCapturingWithinLimits, capture_rules}
-use Rattle.cli_options.specs.OptionValues.{IsFlag, depth_number, device_number, flag_in, flag_option, max_number, number_in, option_of, system_number}
+use Rattle.cli_options.specs.OptionValues.{IsFlag, depth_number, device_number, flag_in, flag_option, max_number, number_in, operands, option_of, system_number}
 use Rattle.cli_options.specs.ExplainOptions.{HasExcerpt, IsExcerptWithinLimits, explain_rules}
 use Rattle.cli_options.specs.ServeOptions.{AsksToServe, serve_rules}
 
@@ -21,11 +22,13 @@ named name = (new_app name).top
 
 abbrev pub show_command : Shape
 show_command = record (named (codes "show")) {
-  rules = option_of max_number ∷ option_of depth_number ∷ flag_option (codes "hex") ∷ flag_option (codes "bare") ∷ [];
+  rules =
+      operands (codes "FILE") ∷ option_of max_number ∷ option_of depth_number ∷ flag_option (codes "hex")
+      ∷ flag_option (codes "bare") ∷ [];
 }
 
 abbrev pub audit_command : Shape
-audit_command = named (codes "audit")
+audit_command = record (named (codes "audit")) { rules = operands (codes "FILE") ∷ flag_option (codes "quiet") ∷ [] }
 
 abbrev pub explain_command : Shape
 explain_command = record (named (codes "explain")) { rules = explain_rules }
@@ -35,7 +38,9 @@ capture_command = record (named (codes "capture")) { rules = capture_rules }
 
 abbrev pub encode_command : Shape
 encode_command = record (named (codes "encode")) {
-  rules = option_of device_number ∷ option_of system_number ∷ option_of max_number ∷ option_of depth_number ∷ flag_option (codes "hex") ∷ [];
+  rules =
+      operands (codes "FILE") ∷ option_of device_number ∷ option_of system_number ∷ option_of max_number
+      ∷ option_of depth_number ∷ flag_option (codes "hex") ∷ [];
 }
 
 abbrev pub serve_command : Shape
@@ -105,6 +110,46 @@ EncodesTo words (request.Task task) = ParsesTask words task
 EncodesTo words (request.Explain excerpt) = ParsesWork words (request.Explain excerpt)
 EncodesTo words (request.Capture capturing) = ParsesWork words (request.Capture capturing)
 EncodesTo words (request.Serve service) = ParsesWork words (request.Serve service)
+
+-- ---- the input
+
+-- What a command line has besides its request: the names of files, and whether the flag `quiet` is given.
+pub record Operands : Type 0 where
+  pub names : List Text
+  pub quiet : Bool
+
+abbrev pub no_operands : Operands
+no_operands = record { names = []; quiet = false }
+
+-- Those of a subcommand with these matches.
+abbrev pub operands_in : List Row → Operands
+operands_in rows = record { names = unwrap_or (all_of (codes "FILE") rows) []; quiet = flag_in (codes "quiet") rows }
+
+-- Those of the matches of a parse.
+abbrev pub operands_by : Option (Text × List Row) → Operands
+operands_by None = no_operands
+operands_by (Some entered) = operands_in entered.1
+
+-- Those of the words, if they request a task. Help has none.
+abbrev pub task_operands : List Text → Task → Operands
+task_operands words (asked.Help text) = no_operands
+task_operands words asked.Audit = operands_by (subcommand_of command_line words)
+task_operands words (asked.Show s) = operands_by (subcommand_of command_line words)
+task_operands words (asked.Encode e) = operands_by (subcommand_of command_line words)
+
+-- Those of the words, if they request this.
+abbrev pub operands_for : List Text → Request → Operands
+operands_for words (request.Task task) = task_operands words task
+operands_for words (request.Explain excerpt) = operands_by (subcommand_of command_line words)
+operands_for words (request.Capture capturing) = operands_by (subcommand_of command_line words)
+operands_for words (request.Serve service) = operands_by (subcommand_of command_line words)
+
+abbrev pub operands_of : CommandLine → Operands
+operands_of line = record { names = map (λ name. name.now) line.files.items; quiet = line.quiet }
+
+-- Holds if a command line has the operands of the words.
+abbrev pub HasOperands : List Text → CommandLine → Type 0
+HasOperands words line = operands_of line ≡ operands_for words line.request
 
 -- Holds if the words request no work, and it is unknown whether they call for help alone, or for the version alone.
 abbrev pub ParsesNothing : List Text → Type 0

@@ -8,8 +8,8 @@ ghost use Rattle.cli_options.specs.InnerOptionValues.{ranged_option};
 ghost use Rattle.cli_options.specs.Request.{command_line};
 
 use crate::option_tables::{
-    Described, Numbered, capture_options, encode_options, explain_options, serve_options,
-    show_options,
+    Described, Numbered, audit_options, capture_options, encode_options, explain_options,
+    serve_options, show_options,
 };
 use clap::{Arg, ArgAction, Command, value_parser};
 use std::alloc::{AllocError, Global};
@@ -23,7 +23,7 @@ macro_rules! help {
 }
 
 const SHOW_HELP: &str = help!(
-    "Example: hsms show < capture.bin\n\n\
+    "Example: hsms show capture.bin\n\n\
     Exit status: 0 all messages are shown; 2 invalid command line or input (TooShort, TooLong, CutOff; with --hex NoHex,\n\
     NoMessage); 3 read error (Read), write error (Write), too much input (Endless) or out of memory (Memory). Output\n\
     written before an error stays valid. -v explains errors."
@@ -52,17 +52,20 @@ const AUDIT_HELP: &str = help!(
     SelectStatus   status 0, but the session is already selected\n  \
     NoCause        a discarded message that breaks no rule\n\n\
     In a log of version 2, an `up` right after a `down` starts a new connection.\n\n\
-    Example: hsms audit < session.log\n\n\
-    Exit status: 0 the log passes; 1 it fails; 2 invalid command line; 3 read error (Read), write error (Write), too much\n\
-    input (Endless) or out of memory (Memory). -v explains errors."
+    With several files each line begins with the name of its file, and the last line has the counts.\n\n\
+    Example: hsms audit session.log\n\
+    Example: hsms audit --quiet *.log\n\n\
+    Exit status: 0 each log passes; 1 a log fails; 2 invalid command line, or a file cannot be opened (Open); 3 read error\n\
+    (Read), write error (Write), too much input (Endless) or out of memory (Memory). -v explains errors."
 );
 
 const EXPLAIN_HELP: &str = help!(
     "Each line has its number; a frame is shown as by `hsms show`. Below it: the line that it answers, or each rule that\n\
     it breaks, the open transaction involved, and how the audit continues. The last line is the verdict of `hsms audit`.\n\n\
-    Example: hsms explain < session.log\n\n\
-    Exit status: 0 the log passes; 1 it fails; 2 invalid command line; 3 read error (Read), write error (Write), too much\n\
-    input (Endless) or out of memory (Memory). Output written before an error stays valid. -v explains errors."
+    Example: hsms explain session.log\n\n\
+    Exit status: 0 the log passes; 1 it fails; 2 invalid command line, or the file cannot be opened (Open); 3 read error\n\
+    (Read), write error (Write), too much input (Endless) or out of memory (Memory). Output written before an error stays\n\
+    valid. -v explains errors."
 );
 
 const CAPTURE_HELP: &str = help!(
@@ -71,8 +74,8 @@ const CAPTURE_HELP: &str = help!(
     line. If data is missing, the line says `incomplete` with the packet that shows it, and nothing after it is audited.\n\n\
     With --log it writes the log of one role, for all connections between two addresses, in version 2; a comment above\n\
     each line has its packet number.\n\n\
-    Example: hsms capture < tool.pcap\n\
-    Example: hsms capture --log host < tool.pcap | hsms explain\n\n\
+    Example: hsms capture tool.pcap\n\
+    Example: hsms capture --log host tool.pcap | hsms explain\n\n\
     Exit status: 0 each log passes, and no data is missing; 1 a log fails; 2 invalid command line or capture: missing data\n\
     (Lost, Length, Differs, Full, CutOff), an invalid file (Capture, Time), no connection (NoConnection), HSMS that was\n\
     not audited (NotJudged), or with --log several connections at once or other addresses (Overlap, Peer); 3 read error\n\
@@ -118,29 +121,29 @@ fn subcommands() -> [Subcommand; 6]
     [
         Subcommand {
             name: "show",
-            about: "Decode the HSMS messages on standard input, one line each",
+            about: "Decode HSMS messages, one line each",
             usage: None,
             help: SHOW_HELP,
             options: show_options(),
         },
         Subcommand {
             name: "audit",
-            about: "Audit the session log on standard input",
-            usage: Some("hsms audit [OPTIONS] < LOG"),
+            about: "Audit session logs",
+            usage: None,
             help: AUDIT_HELP,
-            options: &[],
+            options: audit_options(),
         },
         Subcommand {
             name: "explain",
             about: "Show a session log line by line, with its transactions and failures",
-            usage: Some("hsms explain [OPTIONS] < LOG"),
+            usage: None,
             help: EXPLAIN_HELP,
             options: explain_options(),
         },
         Subcommand {
             name: "capture",
             about: "Audit the connections in a packet capture, or extract the log of one end",
-            usage: Some("hsms capture [OPTIONS] < CAPTURE"),
+            usage: None,
             help: CAPTURE_HELP,
             options: capture_options(),
         },
@@ -216,6 +219,10 @@ impl Described {
             Described::Number(number, value, help) => {
                 number_option(alloc, number, value, help).required(number.3.is_none())
             }
+            Described::File(name, help) => Arg::new(alloc, name).help(help),
+            Described::Files(name, help) => Arg::new(alloc, name)
+                .help(help)
+                .action(ArgAction::Append),
         }
     }
 }

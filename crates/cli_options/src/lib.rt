@@ -24,6 +24,6 @@ pub use capture_options::Capturing;
 pub use clap_command::command;
 pub use explain_options::{Excerpt, Lines, OutputFormat};
 pub use fault::{ToolFault, exit_status, no_request, refusal, refused};
-pub use request::{Encoding, Form, Request, Showing, Task, parse};
+pub use request::{CommandLine, Encoding, Form, Request, Showing, Task, parse};
 pub use rule_texts::sentence;
 pub use serve_options::{Repeat, Service};

@@ -5,7 +5,7 @@ ghost use Rattle.std.specs.Prelude.{◌≡◌, map};
 ghost use Rattle.cli_options.specs.CaptureOptions.{capture_rules};
 ghost use Rattle.cli_options.specs.InnerClapCommand.{rule_described};
 ghost use Rattle.cli_options.specs.ExplainOptions.{explain_rules};
-ghost use Rattle.cli_options.specs.Request.{encode_command, show_command};
+ghost use Rattle.cli_options.specs.Request.{audit_command, encode_command, show_command};
 ghost use Rattle.cli_options.specs.ServeOptions.{serve_rules};
 
 use hsms_machine::{
@@ -13,7 +13,7 @@ use hsms_machine::{
     LEAST_TIME,
 };
 
-/// An option of a subcommand: its name, which follows two dashes, and last its help text.
+/// An option or operand of a subcommand: its name, which follows two dashes if it is an option, and last its help text.
 #[derive(Clone, Copy)]
 pub enum Described {
     /// A flag.
@@ -24,6 +24,10 @@ pub enum Described {
     Needed(&'static str, &'static str, &'static str),
     /// An option with a number, which the help calls by the text.
     Number(Numbered, &'static str, &'static str),
+    /// An operand: a word that is no option. At most one word.
+    File(&'static str, &'static str),
+    /// Operands: any number of words that are no options.
+    Files(&'static str, &'static str),
 }
 
 /// An option with a decimal number: its name, the minimum, the maximum, and the default. Without a default, the option
@@ -47,6 +51,13 @@ const DEVICE_HELP: &str = "Device ID, the session ID of data messages: 0 to 3276
 pub const SYSTEM: Numbered = Numbered("system", 0, u32::MAX, Some(1));
 
 pub const AROUND: Numbered = Numbered("around", 0, 1_000, Some(5));
+
+/// The name of the operands that are names of files.
+pub const FILE: &str = "FILE";
+
+const FILE_HELP: &str = "File to read; - is standard input [default: -]";
+
+const FILES_HELP: &str = "Files to read, one after another; - is standard input [default: -]";
 
 /// The number that represents the last line of a log.
 pub const LAST_LINE: u32 = u32::MAX;
@@ -93,7 +104,8 @@ macro_rules! options {
     };
 }
 
-static SHOW_OPTIONS: [Described; 4] = options![
+static SHOW_OPTIONS: [Described; 5] = options![
+    Files(FILE) => FILES_HELP,
     Number(MAX, "N") => MAX_HELP,
     Number(DEPTH, "N") => DEPTH_HELP,
     Flag("hex") => "Read one message per line, in hexadecimal",
@@ -107,7 +119,20 @@ pub fn show_options() -> &'static [Described]
     &SHOW_OPTIONS
 }
 
-static EXPLAIN_OPTIONS: [Described; 6] = options![
+static AUDIT_OPTIONS: [Described; 2] = options![
+    Files(FILE) => FILES_HELP,
+    Flag("quiet") => "Write only the lines of failing logs",
+];
+
+/// Returns the options of `hsms audit`.
+pub fn audit_options() -> &'static [Described]
+    ensures { map rule_described result.now ≡ audit_command.rules }
+{
+    &AUDIT_OPTIONS
+}
+
+static EXPLAIN_OPTIONS: [Described; 7] = options![
+    File(FILE) => FILE_HELP,
     Word("only", "failures") => "Show only failing lines and their context",
     Number(AROUND, "N") => "With --only: lines of context before and after each: 0 to 1000 [default: 5]",
     Number(FROM, "N") => "First line shown (the audit starts at line 1) [default: 1]",
@@ -123,7 +148,8 @@ pub fn explain_options() -> &'static [Described]
     &EXPLAIN_OPTIONS
 }
 
-static CAPTURE_OPTIONS: [Described; 12] = options![
+static CAPTURE_OPTIONS: [Described; 13] = options![
+    File(FILE) => FILE_HELP,
     Number(CAPTURED_PORT, "N") => "TCP port of the listening ends: 1 to 65535 [default: 5000]",
     Word("peer", "ADDRESS") => "Only connections with this IP address at one end",
     Word("active", "ROLE") => "Role of the connecting end, host or equipment [default: host]",
@@ -145,7 +171,8 @@ pub fn capture_options() -> &'static [Described]
     &CAPTURE_OPTIONS
 }
 
-static ENCODE_OPTIONS: [Described; 5] = options![
+static ENCODE_OPTIONS: [Described; 6] = options![
+    Files(FILE) => FILES_HELP,
     Number(DEVICE, "N") => DEVICE_HELP,
     Number(SYSTEM, "N") => "System bytes of the first message, incremented for each next one: 0 to 4294967295 [default: 1]",
     Number(MAX, "N") => MAX_HELP,

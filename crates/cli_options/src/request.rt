@@ -1,9 +1,9 @@
 //! What the command line requests. It is checked before anything is read.
 
-ghost use Rattle.std.specs.Prelude.{◌≡◌, ◌≢◌, IfOk, IfErr, IfSome, None, codes, map, string_bytes};
-ghost use Rattle.clap.specs.Words.{found_of, kind_of, rows_of, subcommand_rows_of};
+ghost use Rattle.std.specs.Prelude.{◌≡◌, ◌≢◌, IfOk, IfErr, IfSome, None, [], codes, map, string_bytes, unwrap_or};
+ghost use Rattle.clap.specs.Words.{all_of, found_of, kind_of, rows_of, subcommand_rows_of};
 ghost use Rattle.clap.specs.declared.error.kind.ErrorKind.TheVariants.{OutOfMemory};
-ghost use Rattle.cli_options.specs.Request.{AsksBy, AsksFor, AsksForTask, IsTaskWithinLimits, IsWithinLimits, EncodesTo, ParsesNothing, form_in};
+ghost use Rattle.cli_options.specs.Request.{AsksBy, AsksFor, AsksForTask, HasOperands, IsTaskWithinLimits, IsWithinLimits, EncodesTo, ParsesNothing, form_in, no_operands, operands_by, operands_in, operands_of};
 ghost use Rattle.cli_options.specs.InnerRequest.{CallsForText, IsHelp};
 ghost use Rattle.cli_options.specs.Status.{IsRefusedFor};
 ghost use Rattle.cli_options.specs.declared.request.Encoding.{Encoding};
@@ -16,12 +16,23 @@ use crate::capture_options::{Capturing, capturing_of};
 use crate::clap_command::command;
 use crate::explain_options::{Excerpt, excerpt_of};
 use crate::fault::{ToolFault, no_request};
-use crate::option_tables::{DEVICE, MAX, SYSTEM};
+use crate::option_tables::{DEVICE, FILE, MAX, SYSTEM};
 use crate::option_values::{depth_of, flag_of, number_of, short_of};
 use crate::serve_options::{Service, service_of};
 use clap::error::ErrorKind;
 use clap::{ArgMatches, Error};
-use std::alloc::Global;
+use std::alloc::{AllocError, Global};
+
+/// What the user requests, and of which input.
+#[derive(Drop)]
+pub struct CommandLine<'a> {
+    /// What the user requests.
+    pub request: Request<'a>,
+    /// The names of the files to read in place of standard input, in this order. The name `-` is standard input.
+    pub files: Vec<&'a str>,
+    /// True if only the lines of failing logs are written.
+    pub quiet: bool,
+}
 
 /// What the user requests.
 #[derive(Drop)]
@@ -80,14 +91,15 @@ pub enum Form {
     BareLines,
 }
 
-/// Returns what the words of a command line request. The first word is the command's name.
+/// Returns what the words of a command line request, and the files to read. The first word is the command's name.
 ///
 /// # Errors
 ///
 /// Returns `Refused` with the text `command line` if they request nothing that the command does; otherwise `Memory`.
-pub fn parse<'a>(alloc: Global, words: &'a [String]) -> Result<Request<'a>, ToolFault>
-    ensures asks { IfOk result (EncodesTo (map string_bytes words.now)) }
-    ensures limits { IfOk result IsWithinLimits }
+pub fn parse<'a>(alloc: Global, words: &'a [String]) -> Result<CommandLine<'a>, ToolFault>
+    ensures asks { IfOk result (λ line. EncodesTo (map string_bytes words.now) line.request) }
+    ensures operands { IfOk result (HasOperands (map string_bytes words.now)) }
+    ensures limits { IfOk result (λ line. IsWithinLimits line.request) }
     ensures refusal { IfErr result (IsRefusedFor (ParsesNothing (map string_bytes words.now)) (codes "command line")) }
 {
     let command = command(alloc)?;
@@ -97,18 +109,34 @@ pub fn parse<'a>(alloc: Global, words: &'a [String]) -> Result<Request<'a>, Tool
     }
 }
 
-fn asked<'a>(alloc: Global, matches: &ArgMatches<'a>) -> Result<Request<'a>, ToolFault>
-    ensures asks { IfOk result (AsksBy (subcommand_rows_of matches.now)) }
-    ensures limits { IfOk result IsWithinLimits }
+fn asked<'a>(alloc: Global, matches: &ArgMatches<'a>) -> Result<CommandLine<'a>, ToolFault>
+    ensures asks { IfOk result (λ line. AsksBy (subcommand_rows_of matches.now) line.request) }
+    ensures operands { IfOk result (λ line. operands_of line ≡ operands_by (subcommand_rows_of matches.now)) }
+    ensures limits { IfOk result (λ line. IsWithinLimits line.request) }
     ensures refusal { IfErr result (IsRefusedFor
         ((request : Request) → AsksBy (subcommand_rows_of matches.now) request → ⊥) (codes "command line")) }
 {
     match matches.subcommand() {
         Some((name, options)) => match asked_by(name, options) {
-            Some(request) => Ok(request),
+            Some(request) => Ok(CommandLine {
+                request,
+                files: files_of(alloc, options)?,
+                quiet: flag_of(options, "quiet"),
+            }),
             None => Err(no_request(alloc)),
         },
         None => Err(no_request(alloc)),
+    }
+}
+
+// Returns the names of the files among these options.
+fn files_of<'a>(alloc: Global, options: &ArgMatches<'a>) -> Result<Vec<&'a str>, AllocError>
+    ensures { IfOk result (λ files. map (λ name. name.now) files.items
+        ≡ unwrap_or (all_of (codes "FILE") (rows_of (found_of options.now))) []) }
+{
+    match options.get_raw(FILE) {
+        Some(names) => Vec::from_slice(alloc, names),
+        None => Ok(Vec::new(alloc)),
     }
 }
 
@@ -195,16 +223,19 @@ fn form_of(options: &ArgMatches<'_>) -> Option<Form>
 }
 
 // Returns the result if `clap` does not match the words: the text of the help or of the version, or an error.
-fn explained<'a>(alloc: Global, error: &Error) -> Result<Request<'a>, ToolFault>
-    ensures help { IfOk result (λ request. IsHelp request × CallsForText (kind_of error.now)) }
-    ensures limits { IfOk result IsWithinLimits }
+fn explained<'a>(alloc: Global, error: &Error) -> Result<CommandLine<'a>, ToolFault>
+    ensures help { IfOk result (λ line. IsHelp line.request × CallsForText (kind_of error.now)) }
+    ensures operands { IfOk result (λ line. operands_of line ≡ no_operands) }
+    ensures limits { IfOk result (λ line. IsWithinLimits line.request) }
     ensures refusal { IfErr result (IsRefusedFor
         ((CallsForText (kind_of error.now) → ⊥) × (kind_of error.now ≢ OutOfMemory)) (codes "command line")) }
 {
     match error.kind() {
-        ErrorKind::DisplayHelp | ErrorKind::DisplayVersion => {
-            Ok(Request::Task(Task::Help(error.to_string(alloc)?)))
-        }
+        ErrorKind::DisplayHelp | ErrorKind::DisplayVersion => Ok(CommandLine {
+            request: Request::Task(Task::Help(error.to_string(alloc)?)),
+            files: Vec::new(alloc),
+            quiet: false,
+        }),
         ErrorKind::OutOfMemory => Err(ToolFault::Memory),
         _ => Err(no_request(alloc)),
     }

@@ -15,7 +15,7 @@ use Rattle.hsms_ends.specs.declared.serving.ServedScript.{ServedScript}
 use Rattle.hsms_ends.specs.declared.step.Step.{Step}
 use Rattle.hsms_ends.specs.Link.{LinkState}
 use Rattle.hsms_ends.specs.Reconnect.{ServesAgain}
-use Rattle.hsms_ends.specs.ScriptedDesk.{scripted_answer}
+use Rattle.hsms_ends.specs.ScriptedDesk.{IsGrouped, scripted_answer}
 use Rattle.hsms_ends.specs.Serving.{ServesTesting, is_complete}
 use Rattle.cli_serve.specs.declared.handler_choice.ChosenHandler.{ChosenHandler}
 use Rattle.cli_serve.specs.declared.handler_choice.ChosenHandler.TheVariants.{Host, Equipment}
@@ -25,17 +25,17 @@ use Rattle.cli_options.specs.declared.serve_options.Service.{Service}
 
 -- What a message handler answers.
 abbrev pub own_answer : ChosenHandler → ℕ → Content → Answered
-own_answer (Host desk) before message = scripted_answer desk.replies.items host_answer before message
+own_answer (Host desk) before message = scripted_answer desk.replies host_answer before message
 own_answer (Equipment desk) before message =
-    scripted_answer desk.replies.items (equipment_answer desk.own.mdln.items desk.own.softrev.items) before message
+    scripted_answer desk.replies (equipment_answer desk.own.mdln.items desk.own.softrev.items) before message
 
 -- Holds for the message handler of a service with these replies: a host's, or equipment's with its model and software
 -- revision.
 abbrev pub IsHandlerOf : Service → List Message → ChosenHandler → Type 0
-IsHandlerOf service replies (Host desk) = (service.settings.role ≡ role.Host) × (desk.replies.items ≡ replies)
+IsHandlerOf service replies (Host desk) = (service.settings.role ≡ role.Host) × IsGrouped replies desk.replies
 IsHandlerOf service replies (Equipment desk) =
     (service.settings.role ≡ role.Equipment) × (desk.own.mdln.items ≡ service.mdln.now)
-    × (desk.own.softrev.items ≡ service.softrev.now) × (desk.replies.items ≡ replies)
+    × (desk.own.softrev.items ≡ service.softrev.now) × IsGrouped replies desk.replies
 
 -- The name of an I/O error, or of an error that ends the serving.
 abbrev pub IsWordOf : ServeFault → List ℕ → Type 0

@@ -4,7 +4,7 @@ ghost use Rattle.std.specs.Prelude.{IfOk};
 ghost use Rattle.cli_serve.specs.Serving.{IsHandlerOf};
 
 use cli_options::Service;
-use hsms_ends::{Answer, EquipmentDesk, HostDesk, ScriptedDesk, TurnDesk};
+use hsms_ends::{Answer, EquipmentDesk, HostDesk, Replies, ScriptedDesk, TurnDesk};
 use hsms_machine::Role;
 use secs_text::Message;
 use std::alloc::{AllocError, Global};
@@ -43,6 +43,7 @@ pub fn desk_of(
 ) -> Result<ChosenHandler, AllocError>
     ensures { IfOk result (IsHandlerOf service.now replies.items) }
 {
+    let replies = Replies::of(alloc, replies)?;
     match service.settings.role() {
         Role::Host => Ok(ChosenHandler::Host(ScriptedDesk {
             replies,

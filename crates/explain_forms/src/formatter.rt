@@ -5,7 +5,7 @@ ghost use Rattle.cli_options.specs.declared.explain_options.OutputFormat.TheVari
 ghost use Rattle.explain_forms.specs.OutputBuffer.{Adds, AddsSome};
 ghost use Rattle.explain_forms.specs.TextOutput.{LineWritten, gap_text};
 
-use crate::html_links::Links;
+use crate::html_links::{Links, Skipped};
 use crate::json::AsObject;
 use crate::output_buffer::Page;
 use crate::{html, json, text};
@@ -13,6 +13,7 @@ use cli_options::{Excerpt, OutputFormat};
 use explain_lines::{ExplainedLine, Gap, Note, Unjudged};
 use explain_statistics::{Groups, Primaries, Tally};
 use hsms_machine::Settings;
+use std::alloc::AllocError;
 use std::fmt;
 
 /// Writes the output in the selected format, with times in ms or as dates.
@@ -80,14 +81,27 @@ impl Emitter {
         }
     }
 
+    /// Records a line that is not written, with its annotations.
+    pub fn skip(
+        self,
+        links: &mut Links,
+        skipped: Skipped,
+        notes: &[Note],
+    ) -> Result<(), AllocError> {
+        match self.form {
+            OutputFormat::Text | OutputFormat::Json => Ok(()),
+            OutputFormat::Html => links.skip(skipped, notes),
+        }
+    }
+
     /// Writes that lines are skipped.
-    pub fn gap(self, page: &mut Page, gap: Gap)
+    pub fn gap(self, page: &mut Page, links: &mut Links, gap: Gap)
         ensures { self.form ≡ Text → Adds page.old page.new gap_text }
     {
         match self.form {
             OutputFormat::Text => text::write_gap(page),
             OutputFormat::Json => json::write_object(page, &gap),
-            OutputFormat::Html => html::write_gap(page, gap),
+            OutputFormat::Html => html::write_gap(page, links, gap),
         }
     }
 

@@ -4,19 +4,19 @@
 //! verdict, is written last. The style moves it to the top.
 
 use crate::html_escape::{append_octets, append_text, append_words};
-use crate::html_links::Links;
+use crate::html_links::{Links, accepts, expired_by};
 use crate::html_style::STYLE;
 use crate::output_buffer::Page;
 use crate::text::after_time;
 use cli_options::sentence;
 use explain_lines::{
-    Carried, Concern, ExplainedLine, Failing, Function, Gap, Moment, Note, System, UNREADABLE,
-    name_of,
+    Carried, Concern, ExplainedLine, Failing, FailureGroup, Function, Gap, Moment, Note, System,
+    UNREADABLE, name_of,
 };
 use explain_statistics::{Group, Groups, MOST_GROUPS, Outcome, Primaries, Times};
 use hsms_frame::{Header, Kind, kind};
 use hsms_log::{Step, What, Why};
-use hsms_machine::{GREATEST_DEPTH, Mark, RepairAction, Role, Rule, Settings};
+use hsms_machine::{GREATEST_DEPTH, Mark, Role, Rule, Settings};
 use std::fmt;
 
 // The markup before the style, and the markup between the style and the lines.
@@ -86,6 +86,7 @@ pub fn write_line(
     for note in notes {
         write_failure(page, links, note, utc);
     }
+    write_start(page, links, shown_line, notes);
     put(page, "</div>\n");
 }
 
@@ -204,12 +205,17 @@ fn write_link<D: fmt::Display>(
     words: &D,
 ) {
     put(page, front);
+    write_anchor(page, to, closed, words);
+    put(page, "</p>");
+}
+
+fn write_anchor<D: fmt::Display>(page: &mut Page, to: Option<u64>, closed: Option<u64>, words: &D) {
     put(page, "<a");
     write_line_number(page, " id=\"r", closed);
     write_line_number(page, " href=\"#l", to);
     put(page, ">");
     append_words(page, words);
-    put(page, "</a></p>");
+    put(page, "</a>");
 }
 
 // Writes an attribute that ends with a line number, if there is one.
@@ -231,8 +237,7 @@ fn write_closings(page: &mut Page, links: &mut Links, notes: &[Note]) {
     }
 }
 
-// Writes a link to the entry that closes the transaction that a line opens. If a connection starts, writes the open
-// transactions.
+// Writes a link to the entry that closes the transaction that a line opens.
 fn write_ahead(
     page: &mut Page,
     links: &mut Links,
@@ -242,17 +247,23 @@ fn write_ahead(
     let Carried::Entry(step, _) = shown_line.carried else {
         return;
     };
-    match step.what {
-        What::Frame(Mark::Sent | Mark::Taken, header) => {
-            if asks(header) && notes.iter().all(accepts_frame) {
-                write_reply(page, links, shown_line.number);
-            }
+    if let What::Frame(Mark::Sent | Mark::Taken, header) = step.what {
+        if asks(header) && accepts(notes) {
+            write_reply(page, links, shown_line.number);
         }
-        What::Up => {
-            write_open(page, links);
-            links.close_all();
-        }
-        _ => {}
+    }
+}
+
+// Writes the open transactions if a connection starts.
+fn write_start(
+    page: &mut Page,
+    links: &mut Links,
+    shown_line: ExplainedLine<'_, '_>,
+    notes: &[Note],
+) {
+    if shown_line.is_up() && accepts(notes) {
+        write_open(page, links);
+        links.close_all();
     }
 }
 
@@ -276,19 +287,6 @@ fn asks(header: Header) -> bool {
     }
 }
 
-// Returns whether a frame with this annotation is accepted: only an entry before it is missing, or its time is wrong.
-fn accepts_frame(note: &Note) -> bool {
-    let why = match note {
-        Note::Closes(_) => return true,
-        Note::Fails(failing) => failing.why,
-        Note::FailsInGroup(failure_group) => failure_group.why,
-    };
-    match why {
-        Why::Broken(Rule::T3Overdue | Rule::LinkOverdue | Rule::Backwards) => true,
-        Why::Broken(_) | Why::Unreadable => false,
-    }
-}
-
 // Writes the lines of the open transactions, which no line on the page closes.
 fn write_open(page: &mut Page, links: &Links) {
     let lines = links.all_open();
@@ -308,22 +306,43 @@ fn write_open(page: &mut Page, links: &Links) {
 fn write_failure(page: &mut Page, links: &mut Links, note: &Note, utc: bool) {
     match note {
         Note::Closes(_) => {}
-        Note::Fails(failing) => write_failing(page, links, failing, utc),
-        Note::FailsInGroup(failure_group) => {
-            let to = links.shown_line(failure_group.line);
-            write_link(page, "<div class=\"f\"><p>", to, None, failure_group);
-            put(page, "</div>");
-        }
+        Note::Fails(failing) => write_failing(page, links, note, failing, utc),
+        Note::FailsInGroup(failure_group) => write_group_failure(page, links, note, *failure_group),
     }
 }
 
-fn write_failing(page: &mut Page, links: &mut Links, failing: &Failing, utc: bool) {
+// Writes a failure with a link to the earlier line to which it refers, and to the line of the open transaction.
+fn write_group_failure(
+    page: &mut Page,
+    links: &mut Links,
+    note: &Note,
+    failure_group: FailureGroup,
+) {
+    let to = links.shown_line(failure_group.line);
+    let Some(line) = failure_group.concerns else {
+        write_link(page, "<div class=\"f\"><p>", to, None, &failure_group);
+        return put(page, "</div>");
+    };
+    let alone = FailureGroup {
+        concerns: None,
+        ..failure_group
+    };
+    put(page, "<div class=\"f\"><p>");
+    write_anchor(page, to, None, &alone);
+    put(page, ", ");
+    let closed = expired_by(note).and_then(|line| links.close(line));
+    let opened = links.shown_line(line);
+    write_anchor(page, opened, closed, &Concern { line });
+    put(page, "</p></div>");
+}
+
+fn write_failing(page: &mut Page, links: &mut Links, note: &Note, failing: &Failing, utc: bool) {
     put(page, "<div class=\"f\"><p><b>FAIL ");
     put(page, name_of(failing.why));
     put(page, "</b>: ");
     append_text(page, failing.sentence.as_bytes());
     put(page, "</p>");
-    write_concern(page, links, failing);
+    write_concern(page, links, note, failing);
     if let Some(expected) = failing.expected {
         let to = failing
             .expected_line()
@@ -340,20 +359,17 @@ fn write_failing(page: &mut Page, links: &mut Links, failing: &Failing, utc: boo
 
 // Writes the line of the open transaction that a failure involves. If the repair assumes that it expired, it is
 // recorded as closed.
-fn write_concern(page: &mut Page, links: &mut Links, failing: &Failing) {
+fn write_concern(page: &mut Page, links: &mut Links, note: &Note, failing: &Failing) {
     let Some(line) = failing.concerns else {
         return;
     };
-    let closed = match failing.repair_action {
-        Some(RepairAction::ExpireFirst(_, _)) => links.close(line),
-        _ => None,
-    };
+    let closed = expired_by(note).and_then(|line| links.close(line));
     let to = links.shown_line(line);
     write_link(page, "<p>", to, closed, &Concern { line });
 }
 
-/// Writes that lines are skipped.
-pub fn write_gap(page: &mut Page, gap: Gap) {
+/// Writes that lines are skipped, and which open transactions end there.
+pub fn write_gap(page: &mut Page, links: &mut Links, gap: Gap) {
     put(page, "<div class=\"gap\">");
     if gap.from < gap.to {
         put_number(page, "lines ", gap.from);
@@ -361,7 +377,13 @@ pub fn write_gap(page: &mut Page, gap: Gap) {
     } else {
         put_number(page, "line ", gap.to);
     }
-    put(page, " not shown</div>\n");
+    put(page, " not shown");
+    for ending in links.endings() {
+        let to = links.shown_line(ending.opened);
+        write_link(page, "<p>", to, Some(ending.opened), ending);
+    }
+    links.clear_endings();
+    put(page, "</div>\n");
 }
 
 /// Writes a paragraph with the text `front` and the words.

@@ -345,6 +345,7 @@ fn send_group<S: Serializer>(out: &mut S, failure_group: &FailureGroup) -> Resul
         ("rule", Member::Text(name_of(failure_group.why))),
         ("like", Member::Number(failure_group.line)),
         ("times", Member::Number(failure_group.times)),
+        ("concerns", Member::of(failure_group.concerns)),
     ];
     Object(&members).serialize(out)
 }

@@ -14,5 +14,5 @@ mod text;
 mod visible;
 
 pub use formatter::Emitter;
-pub use html_links::Links;
+pub use html_links::{Links, Skipped};
 pub use output_buffer::Page;

@@ -1,5 +1,5 @@
 -- Phrases below a line.
-use Rattle.std.specs.Prelude.{ℕ, List, [], ◌++◌, codes, decimal, nat_lt, if◌then◌else◌}
+use Rattle.std.specs.Prelude.{ℕ, List, [], ◌++◌, Option, Some, None, codes, decimal, nat_lt, if◌then◌else◌}
 use Rattle.hsms_log.specs.declared.verdict.Why.{Why}
 use Rattle.hsms_log.specs.declared.verdict.Why.TheVariants.{Unreadable, Broken}
 use Rattle.hsms_machine.specs.Rule.{rule_name}
@@ -32,10 +32,14 @@ abbrev pub why_name : Why → List ℕ
 why_name Unreadable = codes "unreadable"
 why_name (Broken rule) = rule_name rule
 
--- The line to which similar failures refer, and their number.
+-- The line of the open transaction that a failure involves; without one, how many failures there are.
+abbrev pub group_end : Option ℕ → ℕ → List ℕ
+group_end (Some open_line) times = codes ", open transaction: line " ++ decimal open_line
+group_end None times = if nat_lt 1 times then codes " (" ++ decimal times ++ codes " times)" else []
+
+-- The line to which similar failures refer, and the open transaction or their number.
 abbrev pub group_text : FailureGroup → List ℕ
-group_text a =
-    codes "FAIL " ++ why_name a.why ++ codes ": same as line " ++ decimal a.line ++ (if nat_lt 1 a.times then codes " (" ++ decimal a.times ++ codes " times)" else [])
+group_text a = codes "FAIL " ++ why_name a.why ++ codes ": same as line " ++ decimal a.line ++ group_end a.concerns a.times
 
 -- The number of further failures, and the line of the last.
 abbrev pub rest_text : Rest → List ℕ

@@ -3,7 +3,11 @@
 use crate::phrases::Tie;
 use hsms_frame::Header;
 use hsms_log::Unreadable;
+use hsms_machine::Rule;
 use std::fmt;
+
+/// The maximum number of closed transactions of a direction that are kept.
+pub const MOST_CLOSED: usize = 4096;
 
 /// A SECS-II stream and function.
 #[derive(Clone, Copy)]
@@ -50,7 +54,10 @@ pub enum Expected {
         tie: Tie,
         by: u64,
     },
-    /// The primary at the line is the only sent one that waits for a reply, and has other system bytes.
+    /// More transactions were closed within T3 than are kept.
+    Forgotten,
+    /// The primary at the line is the only sent one that waits for a reply. It expects the stream and function of this
+    /// one, and other system bytes.
     OnlyOne {
         line: u64,
         expected: Function,
@@ -68,6 +75,11 @@ pub enum Expected {
     },
     /// The Select.req at the line was not answered with status 0. `None` if there was no Select.req.
     Selected(Option<u64>),
+    /// The only Select.req, at the line, breaks this rule, and is left out.
+    SelectLeftOut {
+        line: u64,
+        rule: Rule,
+    },
     /// The session ended at the line.
     Over(u64),
     /// The line is unreadable.
@@ -83,9 +95,13 @@ impl Expected {
             | Expected::ThrownAway(line)
             | Expected::Closed { line, .. }
             | Expected::OnlyOne { line, .. }
+            | Expected::SelectLeftOut { line, .. }
             | Expected::Over(line) => Some(line),
             Expected::Selected(line) => line,
-            Expected::Session { .. } | Expected::Text { .. } | Expected::Form(_) => None,
+            Expected::Forgotten
+            | Expected::Session { .. }
+            | Expected::Text { .. }
+            | Expected::Form(_) => None,
         }
     }
 }
@@ -108,6 +124,7 @@ impl fmt::Display for Expected {
             Expected::NoWait(line) => write_namesake(f, line, "but no W bit"),
             Expected::ThrownAway(line) => write_namesake(f, line, "but was discarded"),
             Expected::Closed { line, tie, by } => write_closed(f, line, tie, by),
+            Expected::Forgotten => write_forgotten(f),
             Expected::OnlyOne {
                 line,
                 expected,
@@ -116,6 +133,7 @@ impl fmt::Display for Expected {
             Expected::Session { expected, came } => write_session(f, expected, came),
             Expected::Text { fault, at } => write!(f, "item error: {fault} at={at}"),
             Expected::Selected(request) => write_selected(f, request),
+            Expected::SelectLeftOut { line, rule } => write_left_out(f, line, rule),
             Expected::Over(line) => write!(f, "the session ended at line {line}"),
             Expected::Form(unreadable) => write!(f, "{unreadable}"),
         }
@@ -153,6 +171,13 @@ fn write_closed<W: fmt::Write>(
     write!(f, " line {by}")
 }
 
+fn write_forgotten<W: fmt::Write>(f: &mut fmt::Formatter<W>) -> fmt::Result {
+    write!(
+        f,
+        "the memory of closed transactions is full: more than {MOST_CLOSED} were closed within T3"
+    )
+}
+
 fn write_only_one<W: fmt::Write>(
     f: &mut fmt::Formatter<W>,
     line: u64,
@@ -178,6 +203,14 @@ fn write_selected<W: fmt::Write>(f: &mut fmt::Formatter<W>, request: Option<u64>
         Some(line) => write!(f, "line {line} has no select.rsp with status 0"),
         None => write!(f, "no select.req yet on this connection"),
     }
+}
+
+fn write_left_out<W: fmt::Write>(f: &mut fmt::Formatter<W>, line: u64, rule: Rule) -> fmt::Result {
+    let name = rule.name();
+    write!(
+        f,
+        "the select.req of line {line} is left out: it breaks {name}"
+    )
 }
 
 fn closed_word(tie: Tie) -> &'static str {

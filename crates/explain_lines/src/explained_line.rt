@@ -2,11 +2,13 @@
 
 ghost use Rattle.std.specs.Prelude.{◌≡◌, ◌≤◌, ℕ, IfOk, length};
 ghost use Rattle.hsms_log.specs.LineFormat.{line_limit};
-ghost use Rattle.explain_lines.specs.CarriedLine.{IsCarried};
+ghost use Rattle.explain_lines.specs.CarriedLine.{IsCarried, is_up_line};
 ghost use Rattle.hsms_log.specs.LineContent.{EncodesNoFrame};
 
 use hsms_frame::HEADER_LENGTH;
-use hsms_log::{Step, Unreadable, is_blank, read_frame_line, read_plain_line, unreadable_entry};
+use hsms_log::{
+    Step, Unreadable, What, is_blank, read_frame_line, read_plain_line, unreadable_entry,
+};
 use std::alloc::AllocError;
 
 /// The maximum length of the settings line in bytes, without its line ending.
@@ -31,6 +33,17 @@ impl<'l> ExplainedLine<'l, '_> {
             octets: line,
             limit: SETTINGS_LIMIT,
             carried: Carried::Nothing,
+        }
+    }
+
+    /// Returns whether the line has an `up`.
+    pub fn is_up(&self) -> bool
+        ensures { result ≡ is_up_line self.now.carried }
+    {
+        match self.carried {
+            Carried::Entry(step, _) => matches!(step.what, What::Up),
+            Carried::Nothing => false,
+            Carried::Unreadable(_) => false,
         }
     }
 

@@ -89,12 +89,15 @@ impl fmt::Display for Concern {
     }
 }
 
-/// One or more failures like that of an earlier line. `times` is their number.
+/// One or more failures like that of an earlier line. `times` is their number. A failure that involves an open
+/// transaction is alone, with the line of that transaction. The repair is that of the first of them.
 #[derive(Clone, Copy)]
 pub struct FailureGroup {
     pub why: Why,
     pub line: u64,
     pub times: u64,
+    pub concerns: Option<u64>,
+    pub repair_action: Option<RepairAction>,
 }
 
 impl fmt::Display for FailureGroup {
@@ -104,6 +107,12 @@ impl fmt::Display for FailureGroup {
         let name = name_of(self.why);
         let line = self.line;
         let times = self.times;
+        if let Some(open) = self.concerns {
+            return write!(
+                f,
+                "FAIL {name}: same as line {line}, open transaction: line {open}"
+            );
+        }
         if times > 1 {
             write!(f, "FAIL {name}: same as line {line} ({times} times)")
         } else {

@@ -1,12 +1,23 @@
 -- What only contracts of private functions use, besides the definitions of `RepairSteps`.
-use Rattle.std.specs.Prelude.{◌≡◌, ◌≤◌, ◌+◌, ◌*◌, ◌⊎◌, ℕ, List, [], map, reverse, length}
+use Rattle.std.specs.Prelude.{◌≡◌, ◌≤◌, ◌+◌, ◌*◌, ◌⊎◌, ℕ, List, [], Option, Some, None, map, reverse, length}
+use Rattle.hsms_frame.specs.declared.header.Header.{Header}
 use Rattle.hsms_machine.specs.declared.entry.Entry.{Entry}
 use Rattle.explain_session.specs.declared.repaired_session.Checked.{Checked}
 use Rattle.explain_lines.specs.declared.annotation.Note.{Note}
 use Rattle.hsms_log.specs.declared.step.Step.{Step}
+use Rattle.hsms_log.specs.declared.step.What.{What}
+use Rattle.hsms_log.specs.declared.step.What.TheVariants.{Frame}
+use Rattle.hsms_machine.specs.declared.entry.Mark.TheVariants.{Sent}
 use Rattle.explain_session.specs.RepairedSession.{CurrentState, ChecksAs}
 use Rattle.hsms_log.specs.Step.{entry_by}
 use Rattle.explain_session.specs.RepairSteps.{next_after, recorded_with, left_of, recorded_of, Notes, LeadsBy}
+
+-- ---- groups
+
+-- Holds if an overdue reply is grouped by the primary that waits the longest; without one, by the failing event.
+abbrev pub IsOverdue : Option (ℕ × Header) → What → What → Type 0
+IsOverdue (Some (time, primary)) what subject = subject ≡ Frame Sent primary
+IsOverdue None what subject = subject ≡ what
 
 -- ---- the maximum number of checks
 

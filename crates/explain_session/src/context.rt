@@ -28,7 +28,7 @@ impl Known {
         Known {
             settings,
             repaired_session: RepairedSession::new(alloc, settings),
-            past: Past::new(alloc),
+            past: Past::new(alloc, settings.t3()),
             primaries: Primaries::new(alloc),
         }
     }

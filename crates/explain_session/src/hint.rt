@@ -1,7 +1,7 @@
 //! Hints: what was expected instead of an entry that fails, and what came.
 
 use crate::context::Known;
-use crate::history::{Closed, Request, Requests};
+use crate::history::{Closed, LeftOut, Past, Request, Requests};
 use explain_lines::{Expected, Function};
 use hsms_frame::{CONTROL_SESSION, Header, Kind, kind};
 use hsms_log::{Step, What};
@@ -18,9 +18,9 @@ pub fn expected_of(known: &Known, step: Step, text: &[u8], rule: Rule) -> Option
     };
     match rule {
         Rule::Session => Some(session(known.settings, header)),
-        Rule::NotSelected => Some(Expected::Selected(known.past.select)),
+        Rule::NotSelected => Some(selected(&known.past)),
         Rule::Text => text_fault(known.settings, text),
-        Rule::NoTransaction => transaction(known, mark, header),
+        Rule::NoTransaction => transaction(known, step.time, mark, header),
         _ => None,
     }
 }
@@ -33,6 +33,14 @@ fn session(settings: Settings, header: Header) -> Expected {
     Expected::Session {
         expected,
         came: header.session,
+    }
+}
+
+// Returns why the session is not selected: the last Select.req, or one that is left out.
+fn selected(past: &Past) -> Expected {
+    match (past.select, past.left_out) {
+        (None, Some(LeftOut { line, rule })) => Expected::SelectLeftOut { line, rule },
+        (select, _) => Expected::Selected(select),
     }
 }
 
@@ -51,7 +59,7 @@ fn text_fault(settings: Settings, text: &[u8]) -> Option<Expected> {
 }
 
 // Returns why a frame that has to close a transaction closes none.
-fn transaction(known: &Known, mark: Mark, header: Header) -> Option<Expected> {
+fn transaction(known: &Known, now: u64, mark: Mark, header: Header) -> Option<Expected> {
     let (peer, requests) = match mark {
         Mark::Sent => (Mark::Taken, &known.past.received),
         Mark::Taken => (Mark::Sent, &known.past.sent),
@@ -61,10 +69,30 @@ fn transaction(known: &Known, mark: Mark, header: Header) -> Option<Expected> {
     match known.repaired_session.in_use(&namesake) {
         Some(line) => other_function(requests.opened_at(line), header),
         None => match requests.last_of(header.system) {
-            Some(request) => no_longer_open(requests, request),
-            None => other_system(known, mark, header),
+            Some(request) => no_longer_open(requests, request, now),
+            None => not_among_the_last(known, requests, now, mark, header),
         },
     }
+}
+
+// Returns what is known if no request with the system bytes is among the last ones of its direction.
+fn not_among_the_last(
+    known: &Known,
+    requests: &Requests,
+    now: u64,
+    mark: Mark,
+    header: Header,
+) -> Option<Expected> {
+    match requests.closed_with(header.system, now) {
+        Some(closed) => Some(was_closed(closed)),
+        None if requests.is_full(now) => Some(Expected::Forgotten),
+        None => other_system(known, mark, header),
+    }
+}
+
+fn was_closed(closed: Closed) -> Expected {
+    let Closed { tie, line, by, .. } = closed;
+    Expected::Closed { line, tie, by }
 }
 
 // Returns that the open request expects another function, if both are data messages.
@@ -81,7 +109,7 @@ fn other_function(open: Option<Request>, header: Header) -> Option<Expected> {
 }
 
 // Returns why the request is not open.
-fn no_longer_open(requests: &Requests, request: Request) -> Option<Expected> {
+fn no_longer_open(requests: &Requests, request: Request, now: u64) -> Option<Expected> {
     let line = request.line;
     if request.is_discarded {
         return Some(Expected::ThrownAway(line));
@@ -89,20 +117,28 @@ fn no_longer_open(requests: &Requests, request: Request) -> Option<Expected> {
     if kind(request.header) == Kind::Primary && !request.header.wait() {
         return Some(Expected::NoWait(line));
     }
-    let Closed { tie, line: by, .. } = requests.closing_of(request)?;
-    Some(Expected::Closed { line, tie, by })
+    let closed = requests.closed_with(request.header.system, now)?;
+    (closed.line == line).then_some(was_closed(closed))
 }
 
-// Returns a hint for a received reply if exactly one sent primary waits for a reply.
+// Returns a hint for a received reply if exactly one sent primary waits for a reply, and the stream and the function fit
+// it.
 fn other_system(known: &Known, mark: Mark, header: Header) -> Option<Expected> {
     if mark != Mark::Taken || kind(header) != Kind::Reply {
         return None;
     }
     let line = known.repaired_session.only_primary()?;
-    let request = known.past.sent.opened_at(line)?;
-    Some(Expected::OnlyOne {
+    let (_, primary) = known.repaired_session.oldest_data()?;
+    fits(primary, header).then_some(Expected::OnlyOne {
         line,
-        expected: Function::of_reply_to(request.header),
-        system: request.header.system,
+        expected: Function::of_reply_to(primary),
+        system: primary.system,
     })
+}
+
+// Returns whether a reply has the stream of a primary, and the next function or function 0.
+fn fits(primary: Header, reply: Header) -> bool {
+    let expected = Function::of_reply_to(primary).function;
+    let has_function = reply.function() == expected || reply.function() == 0;
+    reply.stream() == primary.stream() && has_function
 }

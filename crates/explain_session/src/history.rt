@@ -1,13 +1,15 @@
 //! History of a connection: earlier events that may explain a later failure.
 
-use explain_lines::Tie;
+use crate::repaired_session::{Checked, Opening};
+use explain_lines::{MOST_CLOSED, Tie};
 use hsms_frame::{Header, Kind, kind};
 use hsms_log::{Step, What};
-use hsms_machine::Mark;
+use hsms_machine::{Mark, RepairAction, Rule};
 use std::alloc::{AllocError, Global};
 use std::collections::VecDeque;
 
-// The maximum number of requests of a direction that are kept, and of their closings.
+// The maximum number of requests of a direction that are kept, and the number of closed transactions that are known for
+// longer than T3.
 const KEPT: usize = 256;
 
 /// A primary, a Select.req or a Linktest.req: its line, its header, and whether it was discarded.
@@ -18,27 +20,40 @@ pub struct Request {
     pub is_discarded: bool,
 }
 
-/// The closing, at a line, of a transaction with these system bytes.
+/// A closed transaction: the line that opened it, the line that closed it, and at which time.
 #[derive(Clone, Copy)]
 pub struct Closed {
     pub tie: Tie,
     pub line: u64,
+    pub by: u64,
+    time: u64,
     system: u32,
 }
 
-/// The last requests of a direction, and the last closings of such requests, each oldest first.
+/// The last requests of a direction, and its last closed transactions, each oldest first.
 #[derive(Drop)]
 pub struct Requests {
+    t3: u32,
     opened: VecDeque<Request>,
     closed: VecDeque<Closed>,
+    // When the last transaction was closed that was dropped because too many were kept.
+    dropped: Option<u64>,
 }
 
-/// The history of a connection: the last requests of each direction, the line of the last Select.req, and the line at
-/// which the session ended.
+/// A Select.req that is left out: its line, and the rule that it breaks.
+#[derive(Clone, Copy)]
+pub struct LeftOut {
+    pub line: u64,
+    pub rule: Rule,
+}
+
+/// The history of a connection: the last requests of each direction, the line of the last Select.req, the last one that
+/// is left out, and the line at which the session ended.
 pub struct Past {
     pub sent: Requests,
     pub received: Requests,
     pub select: Option<u64>,
+    pub left_out: Option<LeftOut>,
     pub over: Option<u64>,
 }
 
@@ -49,6 +64,7 @@ impl Drop for Past {
             sent,
             received,
             select: _select,
+            left_out: _left_out,
             over: _over,
         } = self;
         drop(sent);
@@ -57,16 +73,19 @@ impl Drop for Past {
 }
 
 impl Requests {
-    fn new(alloc: Global) -> Requests {
+    fn new(alloc: Global, t3: u32) -> Requests {
         Requests {
+            t3,
             opened: VecDeque::new(alloc),
             closed: VecDeque::new(alloc),
+            dropped: None,
         }
     }
 
     fn clear(&mut self) {
         self.opened.clear();
         self.closed.clear();
+        self.dropped = None;
     }
 
     /// Returns the last request with these system bytes, if it is kept.
@@ -81,43 +100,102 @@ impl Requests {
         requests.find(|request| request.line == line && !request.is_discarded)
     }
 
-    /// Returns what closed the transaction that the request opened, if it is kept.
-    pub fn closing_of(&self, request: Request) -> Option<Closed> {
-        let mut closings = self.closed.iter().rev().copied();
-        closings.find(|closed| {
-            closed.system == request.header.system && closed.line > request.line
-        })
+    /// Returns the last closed transaction with these system bytes, if it is known at this time.
+    pub fn closed_with(&self, system: u32, now: u64) -> Option<Closed> {
+        let mut closed = self.closed.iter().rev().copied().enumerate();
+        let (later, last) = closed.find(|(_, closed)| closed.system == system)?;
+        let is_known = later < KEPT || self.is_recent(last.time, now);
+        is_known.then_some(last)
+    }
+
+    /// Returns whether a transaction that was closed at most T3 before this time is not kept.
+    pub fn is_full(&self, now: u64) -> bool {
+        self.dropped.is_some_and(|time| self.is_recent(time, now))
+    }
+
+    // Returns whether T3 has not passed between two times.
+    fn is_recent(&self, time: u64, now: u64) -> bool {
+        time.saturating_add(u64::from(self.t3)) >= now
+    }
+
+    // Records a request. If the maximum number is kept, the oldest is dropped.
+    fn open(&mut self, request: Request) -> Result<(), AllocError> {
+        if self.opened.len() >= KEPT {
+            drop(self.opened.pop_front());
+        }
+        self.opened.push_back(request)?;
+        Ok(())
+    }
+
+    // Records a closed transaction. The oldest is dropped if the maximum number is kept, or if it will not be known.
+    fn close(&mut self, closed: Closed) -> Result<(), AllocError> {
+        if self.closed.len() >= MOST_CLOSED {
+            self.dropped = self.closed.pop_front().map(|oldest| oldest.time);
+        } else if self.closed.len() >= KEPT {
+            self.drop_old(closed.time);
+        }
+        self.closed.push_back(closed)?;
+        Ok(())
+    }
+
+    // Drops the oldest closed transaction if it was closed more than T3 ago.
+    fn drop_old(&mut self, now: u64) {
+        let oldest = self.closed.front().copied();
+        if oldest.is_some_and(|oldest| !self.is_recent(oldest.time, now)) {
+            drop(self.closed.pop_front());
+        }
     }
 }
 
 impl Past {
-    /// Creates an empty history.
-    pub fn new(alloc: Global) -> Past {
+    /// Creates an empty history of a log with this T3.
+    pub fn new(alloc: Global, t3: u32) -> Past {
         Past {
-            sent: Requests::new(alloc),
-            received: Requests::new(alloc),
+            sent: Requests::new(alloc, t3),
+            received: Requests::new(alloc, t3),
             select: None,
+            left_out: None,
             over: None,
         }
     }
 
-    /// Records a valid step at a line. `is_closing` says whether it closes a transaction.
-    pub fn note(&mut self, line: u64, step: Step, is_closing: bool) -> Result<(), AllocError> {
+    /// Records a valid step at a line, and the transaction that it closes.
+    pub fn note(
+        &mut self,
+        line: u64,
+        step: Step,
+        closed: Option<Opening>,
+    ) -> Result<(), AllocError> {
         match step.what {
             What::Up => {
                 self.begin();
                 Ok(())
             }
-            What::Frame(mark, header) => self.note_frame(line, mark, header, is_closing),
-            What::T3(system) => {
-                let tie = Tie::Expires;
-                keep(&mut self.sent.closed, Closed { tie, line, system })
+            What::Frame(mark, header) => {
+                self.note_frame(line, mark, header)?;
+                self.note_closing(line, step, header.system, closed)
             }
+            What::T3(system) => self.note_closing(line, step, system, closed),
             What::Cut(_) => {
                 self.over = Some(line);
                 Ok(())
             }
-            _ => Ok(()),
+            What::Down => Ok(()),
+        }
+    }
+
+    /// Records a step at a line that fails: a Select.req that is left out.
+    pub fn note_failure(&mut self, line: u64, what: What, check_result: Checked) {
+        let Checked::Broken(failure) = check_result else {
+            return;
+        };
+        let What::Frame(_, header) = what else {
+            return;
+        };
+        let is_left_out = failure.repair_action == RepairAction::LeaveOut;
+        if is_left_out && kind(header) == Kind::SelectReq {
+            let rule = failure.rule;
+            self.left_out = Some(LeftOut { line, rule });
         }
     }
 
@@ -126,16 +204,12 @@ impl Past {
         self.sent.clear();
         self.received.clear();
         self.select = None;
+        self.left_out = None;
         self.over = None;
     }
 
-    fn note_frame(
-        &mut self,
-        line: u64,
-        mark: Mark,
-        header: Header,
-        is_closing: bool,
-    ) -> Result<(), AllocError> {
+    // Records a frame: a request, or the end of the session.
+    fn note_frame(&mut self, line: u64, mark: Mark, header: Header) -> Result<(), AllocError> {
         match kind(header) {
             Kind::SelectReq => {
                 self.select = Some(line);
@@ -153,7 +227,7 @@ impl Past {
             | Kind::LinktestRsp
             | Kind::Reject
             | Kind::OtherSType
-            | Kind::OtherPType => self.note_closing(line, mark, header, is_closing),
+            | Kind::OtherPType => Ok(()),
         }
     }
 
@@ -165,38 +239,32 @@ impl Past {
             is_discarded,
         };
         match mark {
-            Mark::Sent => keep(&mut self.sent.opened, request),
-            Mark::Taken | Mark::Discarded => keep(&mut self.received.opened, request),
+            Mark::Sent => self.sent.open(request),
+            Mark::Taken | Mark::Discarded => self.received.open(request),
         }
     }
 
+    // Records the transaction that a step with these system bytes closes, if it closes one.
     fn note_closing(
         &mut self,
-        line: u64,
-        mark: Mark,
-        header: Header,
-        is_closing: bool,
+        by: u64,
+        step: Step,
+        system: u32,
+        closed: Option<Opening>,
     ) -> Result<(), AllocError> {
-        if !is_closing {
+        let Some(opening) = closed else {
             return Ok(());
-        }
-        let closed = Closed {
-            tie: Tie::of(What::Frame(mark, header)),
-            line,
-            system: header.system,
         };
-        match mark {
-            Mark::Sent => keep(&mut self.received.closed, closed),
-            Mark::Taken | Mark::Discarded => keep(&mut self.sent.closed, closed),
+        let closed = Closed {
+            tie: Tie::of(step.what),
+            line: opening.line,
+            by,
+            time: step.time,
+            system,
+        };
+        match step.what {
+            What::Frame(Mark::Sent, _) => self.received.close(closed),
+            _ => self.sent.close(closed),
         }
     }
-}
-
-// Appends a value. If the maximum number is kept, the oldest is dropped.
-fn keep<T: Drop>(kept: &mut VecDeque<T>, one: T) -> Result<(), AllocError> {
-    if kept.len() >= KEPT {
-        drop(kept.pop_front());
-    }
-    kept.push_back(one)?;
-    Ok(())
 }

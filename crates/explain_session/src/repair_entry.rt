@@ -1,8 +1,9 @@
 //! Repair of one log entry: it is checked again until it is accepted or skipped.
 
 ghost use Rattle.std.specs.Prelude.{◌≡◌, ◌∷◌, ℕ, List, [], None, Some, OnOk};
+ghost use Rattle.hsms_machine.specs.declared.rule.Rule.TheVariants.{T3Overdue};
 ghost use Rattle.hsms_machine.specs.Repair.{change_by, entry_of_event, thrown_away as without_taking};
-ghost use Rattle.hsms_machine.specs.View.{waiting_of};
+ghost use Rattle.hsms_machine.specs.View.{oldest_of, waiting_of};
 ghost use Rattle.hsms_log.specs.declared.verdict.Why.{Why as Reason};
 ghost use Rattle.hsms_log.specs.declared.verdict.Why.TheVariants.{Broken};
 ghost use Rattle.explain_session.specs.declared.repaired_session.Checked.TheVariants.{Lawful};
@@ -10,7 +11,7 @@ ghost use Rattle.explain_lines.specs.AnnotatedFailure.{either, first_why};
 ghost use Rattle.explain_session.specs.EntryFailure.{FailsBy};
 ghost use Rattle.explain_session.specs.InnerEntryFailure.{why_of};
 ghost use Rattle.explain_session.specs.RepairSteps.{RepairsEntry, Notes, changed, recorded_with};
-ghost use Rattle.explain_session.specs.InnerRepairSteps.{LeadsOn, StepsOn, entries_of, most_steps};
+ghost use Rattle.explain_session.specs.InnerRepairSteps.{IsOverdue, LeadsOn, StepsOn, entries_of, most_steps};
 ghost use Rattle.hsms_log.specs.Step.{entry_by, entry_of_what};
 ghost use Rattle.explain_session.specs.RepairSteps.{SaysRule};
 
@@ -44,6 +45,8 @@ pub fn check_next_entry(
     ensures line { OnOk result (known.new.repaired_session.line ≡ known.old.repaired_session.line) }
 {
     let check_result = check_one_step(&mut known.repaired_session, entry, text)?;
+    let line = known.repaired_session.line();
+    known.past.note_failure(line, entry.what, check_result);
     note(known, entry, text, check_result, notes)?;
     match check_result {
         Checked::Lawful(closed) => take_in(alloc, known, entry, closed),
@@ -103,6 +106,8 @@ fn check_next(
     ensures line { OnOk result (known.new.repaired_session.line ≡ known.old.repaired_session.line) }
 {
     let check_result = check_one_step(&mut known.repaired_session, step, text)?;
+    let line = known.repaired_session.line();
+    known.past.note_failure(line, step.what, check_result);
     note_last(known, step, text, check_result, pending, notes)?;
     match check_result {
         Checked::Lawful(closed) => take_in(alloc, known, step, closed),
@@ -139,7 +144,7 @@ fn take_in(
     ensures settings { known.new.settings ≡ known.old.settings }
 {
     let line = known.repaired_session.line();
-    known.past.note(line, step, closed.is_some())?;
+    known.past.note(line, step, closed)?;
     let opened = closed.map(|opening| opening.time);
     known.primaries.note(alloc, line, step, opened)
 }
@@ -199,12 +204,27 @@ fn failing(known: &Known, step: Step, text: &[u8], failure: Failure) -> Failing
     ensures sentence { SaysRule failure.rule result.sentence.now }
 {
     Failing {
-        sort: failure_kind_of(failure.rule, step.what),
+        sort: failure_kind_of(failure.rule, subject_of(known, failure.rule, step.what)),
         why: Why::Broken(failure.rule),
         sentence: sentence_of(step.what, failure.rule),
         concerns: failure.concerns,
         expected: expected_of(known, step, text, failure.rule),
         repair_action: Some(failure.repair_action),
+    }
+}
+
+// Returns the event by which similar failures are grouped: for `T3Overdue` that of the primary that waits, otherwise the
+// one that fails.
+fn subject_of(known: &Known, rule: Rule, what: What) -> What
+    ensures overdue { rule ≡ T3Overdue → IsOverdue (oldest_of known.now.repaired_session.tracker.sent_data) what result }
+    ensures other { (rule ≡ T3Overdue → ⊥) → result ≡ what }
+{
+    if rule != Rule::T3Overdue {
+        return what;
+    }
+    match known.repaired_session.oldest_data() {
+        Some((_, primary)) => What::Frame(Mark::Sent, primary),
+        None => what,
     }
 }
 

@@ -1,5 +1,6 @@
 //! A session as repaired.
 
+use hsms_frame::Header;
 use hsms_machine::{EntryRef, Places, RepairAction, Rule, Settings, Tracker};
 use std::alloc::{AllocError, Global};
 use std::marker::Model;
@@ -67,7 +68,7 @@ impl RepairedSession {
     ghost use Rattle.hsms_machine.specs.declared.entry.Event.{Event};
     ghost use Rattle.hsms_machine.specs.declared.rule.Rule.{Rule};
     ghost use Rattle.hsms_machine.specs.declared.rule.Rule.TheVariants.{SystemInUse, T3Overdue};
-    ghost use Rattle.hsms_machine.specs.View.{IsBrokenAfter, IfValid, waiting_of};
+    ghost use Rattle.hsms_machine.specs.View.{IsBrokenAfter, IfValid, oldest_of, waiting_of};
     ghost use Rattle.hsms_machine.specs.OpeningLines.{IsNotInUse};
     ghost use Rattle.explain_session.specs.RepairedSession.{HasProgress, ProgressLeadsTo, Closes, Concerns, ChecksAs};
 
@@ -96,6 +97,14 @@ impl RepairedSession {
         ensures { result ≡ waiting_of self.now.tracker }
     {
         self.tracker.waiting()
+    }
+
+    /// Returns the time and the header of the sent primary with the W bit that waits for a reply, the oldest one if
+    /// several wait. A failure of `T3Overdue` involves this primary.
+    pub fn oldest_data(&self) -> Option<(u64, Header)>
+        ensures { result ≡ oldest_of self.now.tracker.sent_data }
+    {
+        self.tracker.oldest_data()
     }
 
     /// Advances to the next line.

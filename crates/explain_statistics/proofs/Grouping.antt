@@ -63,15 +63,17 @@ like_same : (failure_group both : FailureGroup) (notes : List Note) → failure_
 like_same failure_group both [] why line like = tt
 like_same failure_group both (Closes closing ∷ notes) why line like = absurd like
 like_same failure_group both (Fails failing ∷ notes) why line like = absurd like
-like_same failure_group both (FailsInGroup other ∷ notes) why line (same_why, same_line, like) =
-    (same_why ∙ why, same_line ∙ line, like_same failure_group both notes why line like)
+like_same failure_group both (FailsInGroup other ∷ notes) why line (same_why, same_line, involves, like) =
+    (same_why ∙ why, same_line ∙ line, involves, like_same failure_group both notes why line like)
 
-like_push : (failure_group other : FailureGroup) (notes : List Note) → other.why ≡ failure_group.why → other.line ≡ failure_group.line → AreLike failure_group notes
+like_push : (failure_group other : FailureGroup) (notes : List Note) → other.why ≡ failure_group.why → other.line ≡ failure_group.line → other.concerns ≡ None
+    → AreLike failure_group notes
     → AreLike failure_group (notes ++ FailsInGroup other ∷ [])
-like_push failure_group other [] why line like = (why, line, tt)
-like_push failure_group other (Closes closing ∷ notes) why line like = absurd like
-like_push failure_group other (Fails failing ∷ notes) why line like = absurd like
-like_push failure_group other (FailsInGroup one ∷ notes) why line (same_why, same_line, like) = (same_why, same_line, like_push failure_group other notes why line like)
+like_push failure_group other [] why line none like = (why, line, none, tt)
+like_push failure_group other (Closes closing ∷ notes) why line none like = absurd like
+like_push failure_group other (Fails failing ∷ notes) why line none like = absurd like
+like_push failure_group other (FailsInGroup one ∷ notes) why line none (same_why, same_line, involves, like) =
+    (same_why, same_line, involves, like_push failure_group other notes why line none like)
 
 times_more : (notes : List Note) (failure_group other both : FailureGroup) → failure_group.times ≡ counted (sum_by times_of notes) → both.times ≡ counted (failure_group.times + other.times)
     → both.times ≡ counted (sum_by times_of (notes ++ FailsInGroup other ∷ []))
@@ -80,27 +82,27 @@ times_more notes failure_group other both times is =
     omega (arith, all, times, is)
 
 joins_like : (last note : Note) (failure_group other both : FailureGroup) → last ≡ FailsInGroup failure_group → note ≡ FailsInGroup other → other.why ≡ failure_group.why
-    → other.line ≡ failure_group.line → both.why ≡ failure_group.why → both.line ≡ failure_group.line → both.times ≡ counted (failure_group.times + other.times)
-    → (notes : List Note) → Represents (FailsInGroup failure_group) notes → Represents (FailsInGroup both) (notes ++ FailsInGroup other ∷ [])
-joins_like last note failure_group other both last_is note_is why line both_why both_line times notes (inl one) =
+    → other.line ≡ failure_group.line → failure_group.concerns ≡ None → other.concerns ≡ None → both.why ≡ failure_group.why → both.line ≡ failure_group.line
+    → both.times ≡ counted (failure_group.times + other.times) → (notes : List Note) → Represents (FailsInGroup failure_group) notes → Represents (FailsInGroup both) (notes ++ FailsInGroup other ∷ [])
+joins_like last note failure_group other both last_is note_is why line none none_too both_why both_line times notes (inl one) =
     let P : List Note → Type 0 = λ l. Represents (FailsInGroup both) (l ++ FailsInGroup other ∷ []) in
     let all : both.times ≡ counted (sum_by times_of (FailsInGroup failure_group ∷ FailsInGroup other ∷ [])) = omega (arith, times) in
-    subst P (sym one) (inr (both, refl, (sym both_why, sym both_line, (why ∙ sym both_why, line ∙ sym both_line, tt)), all))
-joins_like last note failure_group other both last_is note_is why line both_why both_line times notes (inr (same, is, like, so_far)) =
+    subst P (sym one) (inr (both, refl, (sym both_why, sym both_line, none, (why ∙ sym both_why, line ∙ sym both_line, none_too, tt)), all))
+joins_like last note failure_group other both last_is note_is why line none none_too both_why both_line times notes (inr (same, is, like, so_far)) =
     let is_same : failure_group ≡ same = cc in
     let A : FailureGroup → Type 0 = λ a. AreLike a notes × (a.times ≡ counted (sum_by times_of notes)) in
     let (likes, sum_is) = subst A (sym is_same) (like, so_far) in
-    let grown = like_push failure_group other notes why line likes in
+    let grown = like_push failure_group other notes why line none_too likes in
     inr (both, refl, like_same failure_group both (notes ++ FailsInGroup other ∷ []) (sym both_why) (sym both_line) grown, times_more notes failure_group other both sum_is times)
 
 pub joins : (last note : Note) (failure_group other both : FailureGroup) → last ≡ FailsInGroup failure_group → note ≡ FailsInGroup other → other.why ≡ failure_group.why
-    → other.line ≡ failure_group.line → both.why ≡ failure_group.why → both.line ≡ failure_group.line → both.times ≡ counted (failure_group.times + other.times)
-    → Joins last note (FailsInGroup both)
-joins last note failure_group other both last_is note_is why line both_why both_line times = record {
+    → other.line ≡ failure_group.line → failure_group.concerns ≡ None → other.concerns ≡ None → both.why ≡ failure_group.why → both.line ≡ failure_group.line
+    → both.times ≡ counted (failure_group.times + other.times) → Joins last note (FailsInGroup both)
+joins last note failure_group other both last_is note_is why line none none_too both_why both_line times = record {
   consistent = λ notes consistent.
       let L : Note → Type 0 = λ n. Represents n notes in
       let N : Note → Type 0 = λ n. Represents (FailsInGroup both) (notes ++ n ∷ []) in
-      subst N (sym note_is) (joins_like last note failure_group other both last_is note_is why line both_why both_line times notes (subst L last_is consistent));
+      subst N (sym note_is) (joins_like last note failure_group other both last_is note_is why line none none_too both_why both_line times notes (subst L last_is consistent));
 }
 
 -- ---- each annotation by itself
@@ -183,7 +185,7 @@ none_whole : (failure_group : FailureGroup) (notes rest : List Note) → AreLike
 none_whole failure_group [] rest like = refl
 none_whole failure_group (Closes closing ∷ notes) rest like = absurd like
 none_whole failure_group (Fails failing ∷ notes) rest like = absurd like
-none_whole failure_group (FailsInGroup other ∷ notes) rest (same_why, same_line, like) = none_whole failure_group notes rest like
+none_whole failure_group (FailsInGroup other ∷ notes) rest (same_why, same_line, involves, like) = none_whole failure_group notes rest like
 
 whole_next : (note : Note) (one other : List Note) → first_whole one ≡ first_whole other → first_whole (note ∷ one) ≡ first_whole (note ∷ other)
 whole_next (Closes closing) one other is = is

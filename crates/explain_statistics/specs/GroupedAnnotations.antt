@@ -14,10 +14,15 @@ faults_with line (Closes closing ∷ notes) faults = faults_with line notes faul
 faults_with line (Fails failing ∷ notes) faults = faults_with line notes (fault_at failing.sort line ∷ faults)
 faults_with line (FailsInGroup failure_group ∷ notes) faults = faults_with line notes faults
 
+-- A failure that refers to this line.
+abbrev pub group_of : Failing → ℕ → FailureGroup
+group_of failing line =
+    record { why = failing.why; line = line; times = 1; concerns = failing.concerns; repair_action = failing.repair_action }
+
 -- A failure as it is written: in full, or with a reference to this line.
 abbrev pub failure_by : Failing → Option ℕ → Note
 failure_by failing None = Fails failing
-failure_by failing (Some line) = FailsInGroup (record { why = failing.why; line = line; times = 1 })
+failure_by failing (Some line) = FailsInGroup (group_of failing line)
 
 -- Holds if an annotation of a line is written as `shown_line`, given the earlier failures and the number of groups: a
 -- failure in full or with a reference to the line of the first similar one, any other annotation unchanged.
@@ -34,12 +39,13 @@ EachIsReported groups line faults (note ∷ notes) shown_line =
     (one : Note) × (rest : List Note) × NoteIsReported groups line faults note one
     × EachIsReported groups line (faults_with line (note ∷ []) faults) notes rest × (shown_line ≡ one ∷ rest)
 
--- Holds if all annotations are failures that refer to the same line.
+-- Holds if all annotations are failures that refer to the same line and involve no open transaction.
 abbrev pub AreLike : FailureGroup → List Note → Type 0
 AreLike failure_group [] = Unit {0}
 AreLike failure_group (Closes closing ∷ notes) = ⊥
 AreLike failure_group (Fails failing ∷ notes) = ⊥
-AreLike failure_group (FailsInGroup other ∷ notes) = (other.why ≡ failure_group.why) × (other.line ≡ failure_group.line) × AreLike failure_group notes
+AreLike failure_group (FailsInGroup other ∷ notes) =
+    (other.why ≡ failure_group.why) × (other.line ≡ failure_group.line) × (other.concerns ≡ None) × AreLike failure_group notes
 
 -- The number of failures that an annotation counts by reference to a line.
 abbrev pub times_of : Note → ℕ
@@ -47,7 +53,8 @@ times_of (Closes closing) = 0
 times_of (Fails failing) = 0
 times_of (FailsInGroup failure_group) = failure_group.times
 
--- Holds if the annotation represents these: itself, or failures that refer to the same line, with their number.
+-- Holds if the annotation represents these: itself, or failures that refer to the same line, with their number. The
+-- line of an open transaction is kept: such failures involve none.
 abbrev pub Represents : Note → List Note → Type 0
 Represents note notes =
     (notes ≡ note ∷ [])

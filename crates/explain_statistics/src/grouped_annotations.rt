@@ -1,6 +1,6 @@
 //! Annotations of a log line as they are written: a failure like earlier ones refers to the first of them.
 
-ghost use Rattle.std.specs.Prelude.{◌≡◌, ◌≤◌, ◌∷◌, [], List, IfOk, IfSome, OnOk, true};
+ghost use Rattle.std.specs.Prelude.{◌≡◌, ◌≤◌, ◌∷◌, [], List, IfOk, IfSome, None, OnOk, true};
 ghost use Rattle.indexmap.specs.IndexMap.{index_map_len};
 ghost use Rattle.explain_lines.specs.AnnotatedFailure.{first_whole};
 ghost use Rattle.explain_statistics.specs.FailureGroups.{Fault, HasGroups};
@@ -60,12 +60,15 @@ fn derived_from(failing: Failing, like: Option<u64>) -> Note
             why: failing.why,
             line,
             times: 1,
+            concerns: failing.concerns,
+            repair_action: failing.repair_action,
         }),
         None => Note::Fails(failing),
     }
 }
 
-// Appends an annotation. If it refers to the same line as the last one, both are counted in one.
+// Appends an annotation. If it refers to the same line as the last one, and both involve no open transaction, they are
+// counted in one.
 #[tactic(auto, using(crate::proofs::Grouping::puts_first, crate::proofs::Grouping::puts_joined, crate::proofs::Grouping::puts_apart))]
 fn put_note(grouped: &mut Vec<Note>, note: Note) -> Result<(), AllocError>
     ensures { OnOk result (PutsNote grouped.old.items note grouped.new.items) }
@@ -84,7 +87,8 @@ fn put_note(grouped: &mut Vec<Note>, note: Note) -> Result<(), AllocError>
     Ok(())
 }
 
-// Returns both annotations as one if both refer to the line of the same earlier failure.
+// Returns both annotations as one if both refer to the line of the same earlier failure and involve no open
+// transaction.
 fn joined(last: Note, note: Note) -> Option<Note>
     ensures { IfSome result (Joins last note) }
 {
@@ -104,9 +108,15 @@ fn joined(last: Note, note: Note) -> Option<Note>
     None
 }
 
-// Returns whether two failures refer to the same line.
+// Returns whether two failures refer to the same line and involve no open transaction.
 fn are_same_group(one: FailureGroup, other: FailureGroup) -> bool
-    ensures { result ≡ true → (other.why ≡ one.why) × (other.line ≡ one.line) }
+    ensures { result ≡ true → (other.why ≡ one.why) × (other.line ≡ one.line) × (one.concerns ≡ None) × (other.concerns ≡ None) }
 {
-    one.why == other.why && one.line == other.line
+    one.why == other.why && one.line == other.line && involve_none(one, other)
+}
+
+fn involve_none(one: FailureGroup, other: FailureGroup) -> bool
+    ensures { result ≡ true → (one.concerns ≡ None) × (other.concerns ≡ None) }
+{
+    one.concerns.is_none() && other.concerns.is_none()
 }

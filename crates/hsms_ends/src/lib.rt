@@ -20,6 +20,7 @@ mod link;
 mod output;
 mod peer;
 mod reconnect;
+mod script_replies;
 mod scripted;
 mod scripted_desk;
 mod sending;
@@ -34,6 +35,7 @@ pub use hsms_endpoint::{
 };
 pub use link::{Again, Got, Link};
 pub use reconnect::{Lent, ServedAgain, serve_again};
+pub use script_replies::Replies;
 pub use scripted::Scripted;
 pub use scripted_desk::ScriptedDesk;
 pub use serve_options::{ServeAgainOptions, ServeOptions};

@@ -16,8 +16,10 @@ from tests.support.reference.session import DISCARDED, OTHER_DIRECTION, SENT, TA
 # The deepest nesting that is written in notation.
 DEEPEST = 100
 
-# How many requests of each direction, and how many of their closings, are known for a hint.
+# How many requests of each direction are known for a hint, and how many of their closings: some for any time, and more
+# while T3 has not passed since.
 KEPT = 256
+MOST_CLOSED = 4096
 
 # How many failures that are alike are written in full, and of how many groups it is known what they have in common.
 TOLD_WHOLE = 3
@@ -101,9 +103,11 @@ def words_of(entry: Entry) -> str:
 Sort = Tuple[object, ...]
 
 
-def sort_of(entry: Entry, rule: str) -> Sort:
+def sort_of(before: Before, entry: Entry, rule: str) -> Sort:
     """The rule, and what fails: of a frame its direction, whether it was discarded, its session ID and its kind, of
-    data with stream, function and W."""
+    data with stream, function and W. What is overdue is the primary."""
+    if rule == "T3Overdue":
+        entry = before.sent_data[0]
     frame = entry.frame
     if frame is None:
         return rule, entry.event, entry.cause
@@ -172,19 +176,25 @@ def unreadable(why: reasons.Why) -> Note:
 
 
 class Alike:
-    """Consecutive failures of one line that one line reports."""
+    """Consecutive failures of one line that one line reports: one alone, if it involves an open transaction."""
 
-    def __init__(self, rule: str, line: int):
-        self.rule, self.line, self.times = rule, line, 1
+    def __init__(self, note: Note, line: int):
+        self.rule, self.line, self.times, self.concerns = note.rule, line, 1, note.members.get("concerns")
 
     @property
     def words(self) -> List[bytes]:
         times = f" ({self.times} times)" if self.times > 1 else ""
-        return [below(f"FAIL {self.rule}: same as line {self.line}{times}")]
+        concerns = f", open transaction: line {self.concerns}" if self.concerns else ""
+        return [below(f"FAIL {self.rule}: same as line {self.line}{times}{concerns}")]
 
     @property
     def members(self) -> Object:
-        return {"rule": self.rule, "like": self.line, "times": self.times}
+        members = {"rule": self.rule, "like": self.line, "times": self.times}
+        return {**members, "concerns": self.concerns} if self.concerns else members
+
+    def has_too(self, note: Note, line: int) -> bool:
+        """Whether the next failure, like that of a line, is reported with these."""
+        return (self.rule, self.line, self.concerns) == (note.rule, line, None) and "concerns" not in note.members
 
 
 def visible(line: bytes) -> bytes:
@@ -207,6 +217,8 @@ class Line:
         date = date_of(entry.time) if entry and is_utc else None
         time = (date or str(entry.time)) if entry else ""
         self.number, self.notes = number, []
+        # Whether its entry, as repaired, opens a transaction, and whether it starts a connection.
+        self.opens = self.starts = False
         front = b"%6d %*s " % (number, 24 if is_utc else 7, time.encode())
         self.said, self.unescaped = front + (said if entry else visible(said)) + b"\n", front + said + b"\n"
         self.members: Object = {"type": "line", "line": number}
@@ -292,10 +304,10 @@ class Groups:
             last = told[-1] if told else None
             if like is None:
                 told.append(note)
-            elif isinstance(last, Alike) and (last.rule, last.line) == (note.rule, like):
+            elif isinstance(last, Alike) and last.has_too(note, like):
                 last.times += 1
             else:
-                told.append(Alike(note.rule, like))
+                told.append(Alike(note, like))
         return told
 
     def rests(self) -> List[Rest]:
@@ -372,6 +384,8 @@ class Telling:
         self.failures: Dict[str, int] = {}
         self.lines: List[Line] = []
         self.judged = 0
+        # Of the last Select.req that is left out: how many entries were before it, its line, and the rule that it breaks.
+        self.left_out = (0, 0, "")
 
     def tell(self, line: bytes, number: int):
         limit = 2 * self.settings.max + 64
@@ -412,14 +426,18 @@ class Telling:
                 opener = self.opener_of(step)
                 if is_own and opener is not None:
                     self.tell_closing(step, opener)
+                if is_own:
+                    self.lines[-1].opens, self.lines[-1].starts = session.opens(step), step.event == "up"
                 self.closed.append(None if opener is None else self.entries[opener].event)
                 self.openers.append(opener)
                 self.entries.append(step)
                 self.places.append(number)
                 continue
             remedy = remedy_of(before, step, rule)
+            if remedy == (None, None) and step.frame and step.frame.kind == "select.req":
+                self.left_out = (len(self.entries), number, rule)
             if is_own:
-                self.tell_rule(rule, sentence_of(step, rule), sort_of(step, rule))
+                self.tell_rule(rule, sentence_of(step, rule), sort_of(before, step, rule))
                 self.tell_concern(step, rule)
                 self.tell_expected(before, step, rule)
                 words = remedy_words(step, remedy, self.is_utc)
@@ -458,8 +476,19 @@ class Telling:
         found = [at for at in self.positions() if entries[at].event in events and entries[at].frame.kind in kinds]
         return found[-KEPT:]
 
-    def closings(self, direction: str) -> List[int]:
-        return [at for at in self.positions() if self.closed[at] == direction][-KEPT:]
+    def closings(self, direction: str, now: int) -> List[int]:
+        """The positions of the closings of a direction on the connection that are known at a time."""
+        found = [at for at in self.positions() if self.closed[at] == direction]
+        recent = [at for at in found[-MOST_CLOSED:-KEPT] if self.is_recent(at, now)]
+        return recent + found[-KEPT:]
+
+    def is_recent(self, at: int, now: int) -> bool:
+        return self.entries[at].time + self.settings.t3 >= now
+
+    def is_full(self, direction: str, now: int) -> bool:
+        """Whether more closings of a direction are recent than are known."""
+        found = [at for at in self.positions() if self.closed[at] == direction]
+        return len(found) > MOST_CLOSED and self.is_recent(found[-MOST_CLOSED - 1], now)
 
     def tell_expected(self, before: Before, entry: Entry, rule: str):
         words = self.expected(before, entry, rule)
@@ -479,6 +508,9 @@ class Telling:
             asked = [at for at in self.positions() if entries[at].frame and entries[at].frame.kind == "select.req"]
             if asked:
                 return f"line {self.places[asked[-1]]} has no select.rsp with status 0"
+            entries_before, line, broken = self.left_out
+            if entries_before > self.positions()[0]:
+                return f"the select.req of line {line} is left out: it breaks {broken}"
             return "no select.req yet on this connection"
         if rule == "Text":
             return f"item error: {fault_of(frame.text, settings.depth).words()}"
@@ -495,28 +527,37 @@ class Telling:
                 return f"line {self.places[at]} expects {reply_to(request)}, got {came}"
             return None
         same = [at for at in known if entries[at].frame.system == frame.system]
-        return self.no_longer_open(same[-1]) if same else self.only_one(before, entry)
+        if same:
+            return self.no_longer_open(same[-1], entry.time)
+        closed = [at for at in self.closings(peer, entry.time) if entries[self.openers[at]].frame.system == frame.system]
+        if closed:
+            return self.was_closed(closed[-1])
+        if self.is_full(peer, entry.time):
+            return f"the memory of closed transactions is full: more than {MOST_CLOSED} were closed within T3"
+        return self.only_one(before, entry)
 
-    def no_longer_open(self, at: int) -> Optional[str]:
+    def was_closed(self, at: int) -> str:
+        entry, line = self.entries[at], self.places[self.openers[at]]
+        was = "already" if entry.event == "t3" else "was already"
+        return f"line {line} has the same system bytes, but {was} {self.tie_of(entry)} line {self.places[at]}"
+
+    def no_longer_open(self, at: int, now: int) -> Optional[str]:
         request, front = self.entries[at], f"line {self.places[at]} has the same system bytes, but"
         if request.event == DISCARDED:
             return f"{front} was discarded"
         if not session.opens(request):
             return f"{front} no W bit"
-        for later in self.closings(request.event):
-            if later > at and session.closes(request, self.entries[later]):
-                was = "already " if self.entries[later].event == "t3" else "was already "
-                return f"{front} {was}{self.tie_of(self.entries[later])} line {self.places[later]}"
-        return None
+        closed = [later for later in self.closings(request.event, now) if self.openers[later] == at]
+        return self.was_closed(closed[0]) if closed else None
 
     def only_one(self, before: Before, entry: Entry) -> Optional[str]:
         if entry.event != TAKEN or entry.frame.kind != "reply" or len(before.sent_data) != 1:
             return None
         [opener] = before.sent_data
         at = next(at for at in self.open() if self.entries[at] is opener)
-        if at not in self.requests(SENT):
-            return None
         frame = opener.frame
+        if entry.frame.stream != frame.stream or entry.frame.function not in ((frame.function + 1) % 256, 0):
+            return None
         return f"the only open primary is line {self.places[at]}: it expects {reply_to(frame)} {frame.system:08x}"
 
     def tell_concern(self, entry: Entry, rule: str):
@@ -598,9 +639,56 @@ def rounded(time: int) -> int:
     return time >> places << places
 
 
+class Ladder:
+    """Which transactions that shown lines open end in each gap, and which are open at each shown start of a connection
+    and at the end, where there are some."""
+
+    def __init__(self, shown: List[Union[Told, Gap]], lines: List[Line]):
+        self.waiting: List[int] = []
+        self.gaps: List[List[str]] = []
+        self.open: List[List[int]] = []
+        for it in shown:
+            if isinstance(it, Gap):
+                self.gaps.append([words for line in lines[it.first - 1 : it.last] for words in self.ended(line)])
+            else:
+                self.show(it.line)
+        self.open += [self.waiting] * bool(self.waiting)
+
+    def ended(self, line: Line) -> List[str]:
+        """What ends at a line, in words, where that is open."""
+        ended = [(f"line {line.number}: {words}", opened) for words, opened in self.endings(line)]
+        told = [words for words, opened in ended if opened in self.waiting]
+        self.waiting = [it for it in self.waiting if it not in [opened for _, opened in ended]]
+        if line.starts:
+            told += [f"line {line.number}: up, open transaction: line {opened}" for opened in self.waiting]
+            self.waiting = []
+        return told
+
+    @staticmethod
+    def endings(line: Line) -> List[Tuple[str, int]]:
+        """What a line closes, and what is overdue there, each with the line that opened it."""
+        ended = []
+        for note in line.notes:
+            if note.rule == "T3Overdue":
+                ended.append((f"T3Overdue, open transaction: line {note.members['concerns']}", note.members["concerns"]))
+            elif not note.rule:
+                opened = next(note.members[it] for it in ("answers", "rejects", "expires") if it in note.members)
+                ended.append((note.words[0].decode().strip(), opened))
+        return ended
+
+    def show(self, line: Line):
+        ended = [opened for _, opened in self.endings(line)]
+        waiting = [it for it in self.waiting if it not in ended]
+        if line.starts:
+            self.open += [waiting] * bool(waiting)
+            waiting = []
+        self.waiting = waiting + [line.number] * line.opens
+
+
 class Explained(NamedTuple):
     """The explanation of a log without the verdict."""
 
+    lines: List[Line]
     shown: List[Union[Told, Gap]]
     # Why nothing was audited, if so.
     unjudged: Optional[str]
@@ -638,7 +726,7 @@ def unjudged(lines: List[bytes], excerpt: Excerpt) -> Explained:
     for line, octets in list(zip(told, lines))[:1]:
         line.notes.append(unreadable(reasons.of_first_line(octets)))
     why = "line 1 is unreadable" if lines else "the log is empty"
-    return Explained(excerpt.shown(told)[0], f"not audited: {why}", [], None, [])
+    return Explained(told, excerpt.shown(told)[0], f"not audited: {why}", [], None, [])
 
 
 def explained(log: bytes, excerpt: Excerpt) -> Explained:
@@ -652,7 +740,7 @@ def explained(log: bytes, excerpt: Excerpt) -> Explained:
         telling.tell(line, number)
     shown, rests = excerpt.shown(telling.lines)
     nothing = None if telling.judged else "not audited: the log has no entries"
-    return Explained(shown, nothing, rests, telling.failures, telling.outcomes())
+    return Explained(telling.lines, shown, nothing, rests, telling.failures, telling.outcomes())
 
 
 def verdict_object(words: str) -> Object:
@@ -664,14 +752,17 @@ def verdict_object(words: str) -> Object:
 
 
 class Answer(NamedTuple):
-    """The explanation of a log: as text, as the objects of JSON, and as text with control characters as they are."""
+    """The explanation of a log: as text, as the objects of JSON, and as text with control characters as they are. Also
+    what ends in the gaps of a page, and what is open."""
 
     text: bytes
     objects: List[Object]
     unescaped: bytes
+    ladder: Ladder
 
 
 def explain(log: bytes, excerpt: Excerpt = WHOLE) -> Answer:
     told, verdict = explained(log, excerpt), session.audit(log).verdict
     end = f"{verdict}\n".encode()
-    return Answer(told.text() + end, [*told.objects(), verdict_object(verdict)], told.text(is_escaped=False) + end)
+    ladder = Ladder(told.shown, told.lines)
+    return Answer(told.text() + end, [*told.objects(), verdict_object(verdict)], told.text(is_escaped=False) + end, ladder)

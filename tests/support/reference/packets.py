@@ -21,7 +21,7 @@ CUSTOM = (0xBAD, 0x40000BAD)
 FIN, SYN, RST, PSH, ACK = 1, 2, 4, 8, 16
 
 # Why a packet is left out that may carry a segment, in the order of the output.
-KINDS = ["link", "short", "fragment", "truncated", "header"]
+KINDS = ["link", "short", "fragment", "truncated", "header", "damaged"]
 
 
 @dataclass(frozen=True)
@@ -259,7 +259,7 @@ def at_ipv4(rest: bytes) -> Optional[Segment]:
     if rest[0] & 15 < 5:
         raise LeftOut("header")
     ends = [".".join(map(str, rest[place:place + 4])) for place in (12, 16)]
-    return at_tcp(ends, rest, (rest[0] & 15) * 4, number_at(rest, 2))
+    return at_tcp(ends, rest[12:20], rest, (rest[0] & 15) * 4, number_at(rest, 2))
 
 
 def at_ipv6(rest: bytes) -> Optional[Segment]:
@@ -274,10 +274,26 @@ def at_ipv6(rest: bytes) -> Optional[Segment]:
     if following == 44:
         raise LeftOut("fragment")
     size = number_at(rest, 4)
-    return at_tcp(ends, rest, place, size and 40 + size) if following == 6 else None
+    return at_tcp(ends, rest[8:40], rest, place, size and 40 + size) if following == 6 else None
 
 
-def at_tcp(ends: List[str], rest: bytes, place: int, end: int) -> Segment:
+def is_damaged(addresses: bytes, tcp: bytes) -> bool:
+    """Whether the checksum is there, and is neither right nor that of the pseudo header, with its length or without."""
+    checksum = number_at(tcp, 16)
+    pseudo = addresses + struct.pack(">II", 6, len(tcp))
+    sums = [carried(pseudo), carried(addresses + struct.pack(">I", 6))]
+    return checksum not in (0, *sums) and carried(pseudo + tcp) != 0xFFFF
+
+
+def carried(octets: bytes) -> int:
+    """The sum of numbers of two bytes, to which each carry is added again."""
+    total = sum(number_at(octets + bytes(len(octets) % 2), place) for place in range(0, len(octets), 2))
+    while total > 0xFFFF:
+        total = (total & 0xFFFF) + (total >> 16)
+    return total
+
+
+def at_tcp(ends: List[str], addresses: bytes, rest: bytes, place: int, end: int) -> Segment:
     """The segment from a place on, in a packet of IP with this end: 0 says that it has all that there is."""
     if end > len(rest):
         raise LeftOut("truncated")
@@ -286,6 +302,8 @@ def at_tcp(ends: List[str], rest: bytes, place: int, end: int) -> Segment:
         header = (tcp[12] >> 4) * 4
     if header < 20 or len(tcp) < header:
         raise LeftOut("header")
+    if is_damaged(addresses, tcp):
+        raise LeftOut("damaged")
     flags = tcp[13]
     return Segment(
         (ends[0], number_at(tcp, 0)), (ends[1], number_at(tcp, 2)), number_at(tcp, 4, 4),

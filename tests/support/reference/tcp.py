@@ -174,8 +174,9 @@ class Wire:
         if asks or segment.is_reset:
             kinds, values = b"", b""
         time = max(segment.time, self.placed[-1].time if self.placed else 0)
-        is_reset = segment.is_reset and not is_old
-        is_bare = is_reset and segment.acknowledged is None
+        has_ack = segment.acknowledged is not None
+        is_reset = segment.is_reset and not is_old and (has_ack or place <= stream.end)
+        is_bare = is_reset and not has_ack
         self.placed.append(
             Placed(own, segment.packet, time, place, place + len(kinds), acknowledged or 0, is_reset, is_bare)
         )

@@ -5,7 +5,7 @@ use super::{
     Abort, EquipmentDesk, Global, Message, Role, Side, Stop, end_of, equipment, judge, read,
     settings,
 };
-use hsms_ends::ScriptedDesk;
+use hsms_ends::{Replies, ScriptedDesk};
 
 /// Three replies to S7F3, and between them two to S10F3.
 const REPLIES: &[&str] = &[
@@ -23,6 +23,7 @@ fn scripted(alloc: Global) -> Result<ScriptedDesk<EquipmentDesk>, Stop> {
         replies.push(read(alloc, text.as_bytes(), 32)?)?;
     }
     let own = equipment(alloc)?;
+    let replies = Replies::of(alloc, replies)?;
     Ok(ScriptedDesk { replies, own })
 }
 

@@ -10,4 +10,4 @@ returns-then-are_same_group c =
     let same = c.are_same_group.ensures c.if-are_same_group.true in
     let times : c.saturating_add-times.result ≡ counted (failure_group.times + other.times) = search rules in
     joins c.args.last c.args.note failure_group other (record failure_group { times = c.saturating_add-times.result }) c.in-FailsInGroup.is c.in-FailsInGroup-note.is
-    same.0 same.1 refl refl times
+    same.0 same.1 same.2 same.3 refl refl times

@@ -1,4 +1,4 @@
-use Rattle.std.proofs.Common.{◌∙◌, [], refl, sym, ap}
+use Rattle.std.proofs.Common.{◌∙◌, [], sym, ap}
 use Rattle.explain_statistics.specs.FirstFailure.{failed_at}
 use Rattle.explain_lines.specs.AnnotatedFailure.{first_whole, either, first_why}
 use Rattle.explain_lines.proofs.Results.{on_ok, on_ok_more, on_ok_three}
@@ -7,17 +7,19 @@ use Rattle.explain_forms.proofs.OutputBuffers.{adds_none}
 use Rattle.cli_explain.proofs.report.Report.submit.Goals as goal
 
 pub returns-then-not-has_line-clause-shown_line : goal.returns-then-not-has_line-clause-shown_line
-returns-then-not-has_line-clause-shown_line c = λ before.
+returns-then-not-has_line-clause-shown_line c =
     let old = c.args.self.now in
-    none_emitted old.window.excerpt old.tally old.notes.items c.args.shown_line old.page (sym c.has_line.ensures ∙ c.if-not-has_line.true)
+    on_ok _ c.pass.result
+    (λ before. none_emitted old.window.excerpt old.tally old.notes.items c.args.shown_line old.page (sym c.has_line.ensures ∙ c.if-not-has_line.true))
 
 pub returns-then-not-has_line-clause-some : goal.returns-then-not-has_line-clause-some
-returns-then-not-has_line-clause-some c = λ is. ([], adds_none c.args.self.now.page)
+returns-then-not-has_line-clause-some c = on_ok _ c.pass.result (λ is. ([], adds_none c.args.self.now.page))
 
 pub returns-then-not-has_line-clause-groups : goal.returns-then-not-has_line-clause-groups
 returns-then-not-has_line-clause-groups c =
-    none_counted c.args.self.now.tally c.count_notes.new.self c.args.self.now.groups c.args.shown_line.number c.deref.result.now
-    c.in_ok-count_notes.ensures.first
+    on_ok _ c.pass.result
+    (none_counted c.args.self.now.tally c.count_notes.new.self c.args.self.now.groups c.args.shown_line.number c.deref.result.now
+    c.in_ok-count_notes.ensures.first)
 
 pub returns-clause-shown_line : goal.returns-clause-shown_line
 returns-clause-shown_line c =
@@ -44,9 +46,11 @@ returns-clause-groups c =
 pub returns-then-not-has_line-clause-shown : goal.returns-then-not-has_line-clause-shown
 returns-then-not-has_line-clause-shown c =
     let old = c.args.self.now in
-    keeps_written old _ old.notes.items c.args.shown_line
+    on_ok_three _ _ _ _ c.pass.result
+    (λ shown_line some groups. keeps_written old _ old.notes.items c.args.shown_line
     (c.in_ok-count_notes.ensures.first ∙ ap (λ n. either old.tally.first (failed_at c.args.shown_line.number (first_why n))) c.deref.ensures.value)
-    (returns-then-not-has_line-clause-shown_line c) (returns-then-not-has_line-clause-some c) (returns-then-not-has_line-clause-groups c) refl
+    shown_line some groups c.pass.ensures.excerpt)
+    (returns-then-not-has_line-clause-shown_line c) (returns-then-not-has_line-clause-some c) (returns-then-not-has_line-clause-groups c)
 
 pub returns-clause-shown : goal.returns-clause-shown
 returns-clause-shown c =

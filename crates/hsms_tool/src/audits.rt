@@ -1,0 +1,95 @@
+//! The audits of several logs.
+
+use crate::input::{buffered, open_input};
+use crate::submit;
+use cli_advice::{Failure, KeptLines};
+use cli_filters::AuditReport;
+use cli_options::ToolFault;
+use hsms_frame::{Reader, Sink, Writer, give_all};
+use std::alloc::Global;
+use std::fs::Files;
+use std::io;
+use std::io::Read;
+
+/// Audits logs, one after another. If there are several, each line has the name of its file, and the last line the
+/// counts. Returns the status.
+pub fn audit_each<R: Eprint + Files + Input + Print>(
+    alloc: Global,
+    rt: &R,
+    files: &[&str],
+    quiet: bool,
+    is_verbose: bool,
+) -> Result<u8, Failure> {
+    let mut sink = Writer::new(io::writer(rt));
+    let mut report = AuditReport::new(quiet);
+    let is_named = files.len() > 1;
+    for name in files {
+        audit_file(
+            alloc,
+            rt,
+            name,
+            is_named,
+            &mut report,
+            &mut sink,
+            is_verbose,
+        )?;
+    }
+    let line = report.last_line(alloc)?;
+    match give_all(&mut sink, line.as_bytes()) {
+        Ok(()) => Ok(report.status()),
+        Err(_) => Err(Failure::from(ToolFault::Device("Write"))),
+    }
+}
+
+// Audits the log in a file. If the file cannot be opened, reports that, and counts it.
+fn audit_file<R: Eprint + Files + Input, W: Sink>(
+    alloc: Global,
+    rt: &R,
+    name: &str,
+    is_named: bool,
+    report: &mut AuditReport,
+    sink: &mut W,
+    is_verbose: bool,
+) -> Result<(), Failure> {
+    match open_input(alloc, rt, name, is_verbose) {
+        Ok(input) => {
+            let label = is_named.then_some(name);
+            let done = audit_input(alloc, rt, label, input, report, sink, is_verbose);
+            done.map_err(|failure| failure.of_file(alloc, name))
+        }
+        Err(failure) => {
+            if failure.is_memory() {
+                return Err(failure);
+            }
+            submit(alloc, rt, &failure, is_verbose);
+            report.skip();
+            Ok(())
+        }
+    }
+}
+
+// Audits the log in an input. If errors are explained and a line cannot be read, writes why.
+fn audit_input<R: Eprint, I: Read + Drop, W: Sink>(
+    alloc: Global,
+    rt: &R,
+    label: Option<&str>,
+    input: I,
+    report: &mut AuditReport,
+    sink: &mut W,
+    is_verbose: bool,
+) -> Result<(), Failure> {
+    let input = buffered(alloc, input)?;
+    if !is_verbose {
+        report.audit(alloc, label, &mut Reader::new(input), sink)?;
+        return Ok(());
+    }
+    let mut lines = KeptLines::new(alloc, input);
+    let verdict = report.audit(alloc, label, &mut Reader::new(&mut lines), sink)?;
+    if let Some(words) = lines.words_for(alloc, verdict) {
+        let _ = match label {
+            Some(name) => eprintln!(rt; "{name}: {words}"),
+            None => eprintln!(rt; "{words}"),
+        };
+    }
+    Ok(())
+}
