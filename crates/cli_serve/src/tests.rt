@@ -5,7 +5,7 @@ use crate::handler_choice::desk_of;
 use crate::serving::serve_to;
 use crate::tcp_link::{SocketLink, connected, first_link, listener_of};
 use cli_filters::audit_to;
-use cli_options::{Request, Service, ToolFault, parse};
+use cli_options::{CommandLine, Request, Service, ToolFault, parse};
 use hsms_ends::{ServeFault, Step};
 use hsms_frame::{Feed, Store};
 use std::alloc::{AllocError, Global};
@@ -179,7 +179,12 @@ fn equipment_is_selected_tested_and_left(rt: HostRuntime) -> Result<(), AllocErr
     let alloc = rt.alloc();
     let words = words_for(alloc, "equipment", "passive", free_port(&rt).unwrap_or(0))?;
     match &parse(alloc, &words) {
-        Ok(Request::Serve(service)) => check_passive(&rt, alloc, service),
+        Ok(
+            CommandLine {
+                request: Request::Serve(service),
+                ..
+            },
+        ) => check_passive(&rt, alloc, service),
         Err(ToolFault::Memory) => Err(AllocError),
         _ => failed(&rt, false, "the command line asks for a service"),
     }
@@ -195,7 +200,12 @@ fn host_selects_and_leaves(rt: HostRuntime) -> Result<(), AllocError> {
     let port = listener.local_addr().map_or(0, |address| address.port());
     let words = words_for(alloc, "host", "active", port)?;
     match &parse(alloc, &words) {
-        Ok(Request::Serve(service)) => check_active(&rt, alloc, service, listener),
+        Ok(
+            CommandLine {
+                request: Request::Serve(service),
+                ..
+            },
+        ) => check_active(&rt, alloc, service, listener),
         Err(ToolFault::Memory) => Err(AllocError),
         _ => failed(&rt, false, "the command line asks for a service"),
     }
