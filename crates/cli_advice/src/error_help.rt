@@ -393,6 +393,17 @@ fn refused_advice(words: &str) -> &'static str {
     match word {
         "command" => "run hsms --help, or hsms COMMAND --help",
         "Open" => OPEN,
+        word => compare_advice(word),
+    }
+}
+
+fn compare_advice(word: &str) -> &'static str {
+    match word {
+        "FirstLine" => "line 1 of this log has no settings: is it a session log?",
+        "SameRole" => "both logs are of a host, or both of equipment: name one of each",
+        "SameLink" => "both logs are of the active end, or both of the passive one",
+        "Device" => "the logs have different device IDs",
+        "Undecided" => "both logs pass, and do not show whether they agree (docs/COMPARE.md)",
         _ => NO_ADVICE,
     }
 }
