@@ -142,24 +142,23 @@ def objects_of(output: bytes) -> Optional[List[object]]:
 
 
 def memory_of_closed() -> Optional[str]:
-    """The hints for second replies, where other ones are written: to the first of 4,096 requests that were answered
-    within T3, to the first after one more, after T3, and to the last 256 after T3."""
+    """The hints for second replies, if others are written: for the first of 4,096 requests that were answered within T3,
+    for the same after one more, and for the second; after T3, for the first and for those before and in the last 256.
+    """
     pair = "%d > 000081010000%08x\n%d < 000001020000%08x\n"
     count, late = 4096, 120000
     log = EMPTY.decode() + SELECTED.decode() + "".join(pair % (at, at + 2, at, at + 2) for at in range(1, count + 1))
-    second = "%d < 000001020000%08x\n"
-    log += second % (count, 3) + pair % (count, count + 3, count, count + 3) + second % (count, 3) + second % (count, 4)
-    asked = [count - 252, count - 253]
-    log += second % (late, 3) + "".join(second % (late, at + 3) for at in asked) + "%d down\n" % late
+    second = "%d < 000001%02x0000%08x\n"
+    log += second % (count, 2, 3) + pair % (count, count + 3, count, count + 3)
+    log += second % (count, 2, 3) + second % (count, 2, 4)
+    log += "".join(second % (late, 0, system) for system in (3, count - 253, count - 252))
     told = answer_of(["explain", "--only", "failures", "--around", "0", "--format", "json"], log.encode()).output
-    found = [it["failures"][0] for it in map(json.loads, told.splitlines()) if it.get("failures")]
-    hints = [it.get("expected") for it in found if "like" not in it]
-    wanted = [
-        "line 5 has the same system bytes, but was already answered by line 6",
-        f"the memory of closed transactions is full: more than {count} were closed within T3",
-        "line 7 has the same system bytes, but was already answered by line 8",
-    ]
-    return None if hints[:3] == wanted else f"hints {hints}"
+    hints = [it["failures"][0].get("expected") for it in map(json.loads, told.splitlines()) if "line" in it and "failures" in it]
+    closed = "line %d has the same system bytes, but was already answered by line %d"
+    full = f"the memory of closed transactions is full: more than {count} were closed within T3"
+    last = 2 * (count - 254) + 3
+    wanted = [closed % (5, 6), full, closed % (7, 8), None, None, closed % (last, last + 1)]
+    return None if hints == wanted else f"hints {hints}, expected {wanted}"
 
 
 def help_of_rules() -> Optional[str]:
