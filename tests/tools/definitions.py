@@ -144,12 +144,12 @@ def part_of(crate, words):
     yield ""
     for file in sorted({word.file for word in words} - {"Laws"}):
         names = [name for name in definitions_of(crate, file) if Word(crate, file, name) in words]
-        yield f"`crates/{crate}/specs/{file}.antt`:"
+        sentences = {name: sentence_of(comment_above(crate, file, name)) for name in names}
+        alone = ", ".join(f"`{name}`" for name in names if not sentences[name])
+        yield f"`crates/{crate}/specs/{file}.antt`:" + (f" {alone}" if alone else "")
         yield ""
-        for name in names:
-            sentence = sentence_of(comment_above(crate, file, name))
-            yield f"- `{name}`" + (f": {sentence}" if sentence else "")
-        yield ""
+        listed = [f"- `{it}`: {sentences[it].replace('Holds if ', 'if ', 1)}" for it in names if sentences[it]]
+        yield from [*listed, ""] if listed else []
 
 
 def generated():
