@@ -1,4 +1,4 @@
-use Rattle.std.proofs.Common.{◌∙◌, [], refl, sym, ap}
+use Rattle.std.proofs.Common.{◌∙◌, [], sym, ap}
 use Rattle.explain_statistics.specs.FirstFailure.{failed_at}
 use Rattle.explain_lines.specs.AnnotatedFailure.{first_whole, either, first_why}
 use Rattle.explain_lines.proofs.Results.{on_ok, on_ok_more, on_ok_three}
