@@ -242,14 +242,17 @@ def judge_of(row, collections):
     to ask the environment for HSMS_VERBOSE, no texts are written. So often the command may answer as ever although
     memory was refused.
     """
-    tells_lines = row.words[:1] in (("show",), ("explain",), ("capture",)) or row.words[:1] == ("audit",) and len(row.words) > 2
+    is_of_several = row.words[:1] == ("audit",) and len(row.words) > 2
+    tells_lines = row.words[:1] in (("show",), ("explain",), ("capture",)) or is_of_several
     parts = fronts(row.answer.output) if tells_lines else {b""}
+    # Of several logs one that cannot be opened does not end the command.
+    errors = {it + b"hsms: Memory\n" for it in (fronts(row.answer.error) if is_of_several else {b""})}
     done_without = []
 
     def is_well(ended, was_refused):
         answer = row.answer
         same = (ended.returncode, ended.stdout, ended.stderr) == (answer.status, answer.output, answer.error)
-        told = (ended.returncode, ended.stderr) == (3, b"hsms: Memory\n") and ended.stdout in parts
+        told = ended.returncode == 3 and ended.stderr in errors and ended.stdout in parts
         if was_refused and same:
             done_without.append(ended)
         return len(done_without) <= collections if same else told and was_refused
