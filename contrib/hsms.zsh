@@ -8,7 +8,6 @@ _hsms() {
       'show:Decode HSMS messages, one line each'
       'audit:Audit session logs'
       'explain:Show a session log line by line, with its transactions and failures'
-      'compare:Compare the session logs of both ends of a connection'
       'capture:Audit the connections in a packet capture, or extract the log of one end'
       'encode:Encode messages from notation to HSMS bytes'
       'serve:Run one end of an HSMS connection and write its log'
@@ -47,12 +46,6 @@ _hsms() {
         '--help[Print help]' \
         '--verbose[Explain errors\: what happened, and what to do]' \
         ':FILE:_files'
-      ;;
-    compare)
-      _arguments \
-        '--help[Print help]' \
-        '--verbose[Explain errors\: what happened, and what to do]' \
-        '*:FILE:_files'
       ;;
     capture)
       _arguments \
@@ -111,7 +104,7 @@ _hsms() {
         '--help[Print help]' \
         '--verbose[Explain errors\: what happened, and what to do]'
       ;;
-    help) _values command show audit explain compare capture encode serve ;;
+    help) _values command show audit explain capture encode serve ;;
   esac
 }
 

@@ -91,7 +91,7 @@ LATE_TOLD = b"""\
      5      10 > data 0000 00000002 S1F1 W .
      6   46000 down
        FAIL T3Overdue: no reply came within T3, and no `t3` is logged
-            S1F1 W 00000002 of line 5 waited 45990 ms (T3 45000)
+            open transaction: line 5
             continues as if `45010 t3 00000002` were logged before it
 """
 

@@ -1,12 +1,11 @@
 -- The log of one end of one connection after another, as it is written.
-use Rattle.std.specs.Prelude.{◌≡◌, ◌⊎◌, ℕ, true, false, Option, None, Some, List, [], ◌∷◌, ◌++◌}
+use Rattle.std.specs.Prelude.{◌≡◌, ◌⊎◌, ℕ, true, false, Option, None, Some, List, [], ◌∷◌, ◌++◌, codes, decimal, string_bytes}
 use Rattle.hsms_machine.specs.Settings.{Parameters}
 use Rattle.hsms_log.specs.LineFormat.{settings_line}
 use Rattle.capture_tcp.specs.declared.packet.Side.{Side}
 use Rattle.capture_tcp.specs.declared.events.Event.{Event as Happens}
 use Rattle.capture_tcp.specs.declared.events.Event.TheVariants as happens
 use Rattle.capture_tcp.specs.declared.events.TimedEvent.{TimedEvent}
-use Rattle.capture_errors.specs.declared.rejection.Rejection.TheVariants.{Overlap, Peer}
 use Rattle.capture_log.specs.declared.both_logs.LogResult.{LogResult}
 use Rattle.capture_log.specs.declared.both_logs.LogResult.TheVariants as reception
 use Rattle.capture_log.specs.declared.written_log.Begun.{Begun}
@@ -56,8 +55,9 @@ begun_by begun pair happens.Down = went_down begun
 
 -- a connection doesn't come up at this packet, where the one before has other addresses or is up; or memory is wanting
 abbrev pub Refuses : Option Begun → Pair → ℕ → Stop → Type 0
-Refuses begun pair packet (stop.Refused rejection) =
-    (HasOthers begun pair × (rejection ≡ Peer packet)) ⊎ (IsStillUp begun pair × (rejection ≡ Overlap packet))
+Refuses begun pair packet (stop.Refused emitted) =
+    (HasOthers begun pair × (string_bytes emitted ≡ codes "Peer packet=" ++ decimal packet))
+    ⊎ (IsStillUp begun pair × (string_bytes emitted ≡ codes "Overlap packet=" ++ decimal packet))
 Refuses begun pair packet stop.Memory = Unit {0}
 
 -- only what comes up is refused
@@ -68,7 +68,7 @@ Stops begun pair packet happens.Down why = why ≡ stop.Memory
 
 -- what is refused leaves the connection that came up last as it was
 abbrev pub Leaves : Stop → Option Begun → Option Begun → Type 0
-Leaves (stop.Refused rejection) old new = new ≡ old
+Leaves (stop.Refused emitted) old new = new ≡ old
 Leaves stop.Memory old new = Unit {0}
 
 -- ---- what is told

@@ -14,10 +14,10 @@ use crate::both_logs::{LogResult, frame_within};
 use crate::byte_buffer::Text;
 use crate::socket_pair::Pair;
 use crate::stop::Stop;
-use capture_errors::Rejection;
 use capture_tcp::{Event as Happens, Side, TimedEvent};
 use hsms_frame::Frame;
 use hsms_machine::{Entry, Event, Settings};
+use std::alloc::Global;
 
 /// The log of the ends with these settings, on this side of each connection between the same two addresses.
 #[derive(Drop)]
@@ -38,15 +38,15 @@ struct Begun {
 
 impl Begun {
     // Whether another connection may come up behind it.
-    fn may_follow(&self, pair: &Pair, packet: u64) -> Result<(), Stop>
+    fn may_follow(&self, alloc: Global, pair: &Pair, packet: u64) -> Result<(), Stop>
         ensures may { OnOk result (MayComeUp (Some self.now) pair.now) }
         ensures refused { IfErr result (λ stop. Refuses (Some self.now) pair.now packet stop) }
     {
         if !self.pair.has_addresses_of(pair) {
-            return Err(Stop::Refused(Rejection::Peer { packet }));
+            return Err(Stop::Refused(format!(in alloc; "Peer packet={packet}")?));
         }
         if self.is_up {
-            return Err(Stop::Refused(Rejection::Overlap { packet }));
+            return Err(Stop::Refused(format!(in alloc; "Overlap packet={packet}")?));
         }
         Ok(())
     }
@@ -79,11 +79,12 @@ impl WrittenLog {
     ///
     /// # Errors
     ///
-    /// `Refused`: `Overlap` where another connection is up, and `Peer` where it has other addresses; `Memory`. The page
-    /// stays as it was then.
+    /// `Refused`, in the words `Overlap packet=N` where another connection is up, and `Peer packet=N` where it has other
+    /// addresses; `Memory`. The page stays as it was then.
     #[tactic(auto, using(crate::proofs::ByteBuffers::cut))]
     pub fn process_input(
         &mut self,
+        alloc: Global,
         page: &mut Text,
         pair: &Pair,
         happening: TimedEvent,
@@ -100,7 +101,7 @@ impl WrittenLog {
         ensures same { (self.new.settings ≡ self.old.settings) × (self.new.side ≡ self.old.side) }
     {
         let length = page.octets().len();
-        match self.submit(page, pair, happening) {
+        match self.submit(alloc, page, pair, happening) {
             Ok(reception) => Ok(reception),
             Err(stop) => {
                 page.cut(length);
@@ -112,6 +113,7 @@ impl WrittenLog {
     // The same, where what is told before a fault may stay on the page.
     fn submit(
         &mut self,
+        alloc: Global,
         page: &mut Text,
         pair: &Pair,
         happening: TimedEvent,
@@ -131,7 +133,7 @@ impl WrittenLog {
         self.time = self.time.max(happening.time);
         match happening.event {
             Happens::Up => {
-                self.come_up(page, pair, happening.packet, remark)?;
+                self.come_up(alloc, page, pair, happening.packet, remark)?;
                 Ok(LogResult::Proceeds)
             }
             Happens::Down => {
@@ -184,6 +186,7 @@ impl WrittenLog {
     #[tactic(auto, using(crate::proofs::ByteBuffers::cut))]
     pub fn assume_up(
         &mut self,
+        alloc: Global,
         page: &mut Text,
         pair: &Pair,
         packet: u64,
@@ -202,7 +205,7 @@ impl WrittenLog {
     {
         let length = page.octets().len();
         self.time = self.time.max(time);
-        match self.come_up(page, pair, packet, LogComment::Assumption) {
+        match self.come_up(alloc, page, pair, packet, LogComment::Assumption) {
             Ok(()) => Ok(()),
             Err(stop) => {
                 page.cut(length);
@@ -259,6 +262,7 @@ impl WrittenLog {
     #[tactic(auto, using(crate::proofs::ByteBuffers::come_up, crate::proofs::ByteBuffers::follow))]
     fn come_up(
         &mut self,
+        alloc: Global,
         page: &mut Text,
         pair: &Pair,
         packet: u64,
@@ -275,7 +279,7 @@ impl WrittenLog {
         ensures same { (self.new.settings ≡ self.old.settings) × (self.new.side ≡ self.old.side)
             × (self.new.time ≡ self.old.time) }
     {
-        self.begin(page, pair, packet)?;
+        self.begin(alloc, page, pair, packet)?;
         self.begun = Some(Begun {
             pair: *pair,
             is_up: true,
@@ -285,7 +289,7 @@ impl WrittenLog {
 
     // The front of the log, where the connection is the first one; and whether it may come up.
     #[tactic(auto, using(crate::proofs::ByteBuffers::stay, crate::proofs::ByteBuffers::same))]
-    fn begin(&self, page: &mut Text, pair: &Pair, packet: u64) -> Result<(), Stop>
+    fn begin(&self, alloc: Global, page: &mut Text, pair: &Pair, packet: u64) -> Result<(), Stop>
         ensures emitted { OnOk result
             (page.new.octets ≡ page.old.octets ++ front_of self.now.begun self.now.settings) }
         ensures may { OnOk result (MayComeUp self.now.begun pair.now) }
@@ -294,7 +298,7 @@ impl WrittenLog {
     {
         match &self.begun {
             None => Ok(append_settings(page, &self.settings)?),
-            Some(begun) => begun.may_follow(pair, packet),
+            Some(begun) => begun.may_follow(alloc, pair, packet),
         }
     }
 

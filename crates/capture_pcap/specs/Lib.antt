@@ -6,4 +6,3 @@ pub mod File
 pub mod Laws
 pub mod BlockReader
 pub mod InnerBlockReader
-pub mod Fault

@@ -30,7 +30,7 @@ use Rattle.cli_capture.specs.declared.midstream_log.Joined.{Joined}
 use Rattle.cli_capture.specs.declared.midstream_sync.Joining.TheVariants as joining
 use Rattle.cli_capture.specs.declared.report.OutputMode.TheVariants.{Log, Verdicts}
 use Rattle.cli_capture.specs.declared.report.Report.{Report}
-use Rattle.capture_errors.specs.declared.incomplete.Shortfall.{Shortfall}
+use Rattle.cli_capture.specs.declared.incomplete.Shortfall.{Shortfall}
 use Rattle.cli_capture.specs.declared.progress.Followed.{Followed}
 use Rattle.cli_capture.specs.declared.progress.Followed.TheVariants as followed
 use Rattle.cli_capture.specs.declared.midstream_connection.Within.{Within}

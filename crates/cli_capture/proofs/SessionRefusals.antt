@@ -25,7 +25,7 @@ use Rattle.cli_capture.specs.declared.midstream_log.Part.TheVariants as part
 use Rattle.cli_capture.specs.declared.report.OutputMode.TheVariants.{Log, Verdicts}
 use Rattle.cli_capture.specs.declared.report.Report.{Report}
 use Rattle.cli_capture.specs.declared.pending_requests.Said.{Said}
-use Rattle.capture_errors.specs.declared.incomplete.Shortfall.{Shortfall}
+use Rattle.cli_capture.specs.declared.incomplete.Shortfall.{Shortfall}
 use Rattle.cli_capture.specs.TrackedConnection.{came_up_by, course_by_events, hears_event, is_up_event, logged_by}
 use Rattle.cli_capture.specs.MidstreamItems.{Item, emits}
 use Rattle.cli_capture.specs.InnerMidstreamItems.{most_of}

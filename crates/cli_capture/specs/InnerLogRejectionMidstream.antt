@@ -23,7 +23,7 @@ use Rattle.cli_capture.specs.declared.midstream_log.Joined.{Joined}
 use Rattle.cli_capture.specs.declared.midstream_log.Part.{Part}
 use Rattle.cli_capture.specs.declared.midstream_log.Part.TheVariants.{Message}
 use Rattle.cli_capture.specs.declared.report.Report.{Report}
-use Rattle.capture_errors.specs.declared.incomplete.Shortfall.{Shortfall}
+use Rattle.cli_capture.specs.declared.incomplete.Shortfall.{Shortfall}
 use Rattle.cli_capture.specs.declared.midstream_connection.Within.{Within}
 use Rattle.cli_capture.specs.TrackedConnection.{came_up_by, is_up_event}
 use Rattle.cli_capture.specs.MidstreamLog.{IsTelling, IsWaiting, JoinedStands, most_by, spoken_behind, terms_by}

@@ -9,8 +9,8 @@ use Rattle.capture_log.specs.declared.stop.Stop.{Stop}
 use Rattle.capture_midstream.specs.declared.sync_packet.Start.{Start}
 use Rattle.cli_capture.specs.declared.progress.Progress.{Progress}
 use Rattle.cli_capture.specs.declared.report.Report.{Report}
-use Rattle.capture_errors.specs.declared.incomplete.Shortfall.{Shortfall}
-use Rattle.capture_errors.specs.declared.incomplete.Shortfall.TheVariants.{Full}
+use Rattle.cli_capture.specs.declared.incomplete.Shortfall.{Shortfall}
+use Rattle.cli_capture.specs.declared.incomplete.Shortfall.TheVariants.{Full}
 use Rattle.cli_capture.specs.TrackedConnection.{IsTooMuch}
 use Rattle.cli_capture.specs.MidstreamItems.{Item, LogsItems}
 use Rattle.cli_capture.specs.MidstreamLog.{most_by, terms_by}

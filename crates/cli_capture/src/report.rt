@@ -1,13 +1,14 @@
 //! What is told of the connections of a capture.
 
+use crate::incomplete::Shortfall;
 use crate::skipped_packets::LeftOut;
 use crate::verdict_line::end_line;
-use capture_errors::{CaptureError, Rejection, Shortfall};
 use capture_log::{BothLogs, LogResult, LogVerdict, Pair, Stop, Text, WrittenLog};
 use capture_midstream::Session;
 use capture_tcp::{Side, TimedEvent};
-use cli_options::Capturing;
-use hsms_frame::{Frame, Header, Sink, give_all};
+use cli_options::{Capturing, ToolFault};
+use cli_output::put;
+use hsms_frame::{Frame, Header, Sink};
 use hsms_log::Verdict;
 use hsms_machine::{Role, Settings};
 use std::alloc::Global;
@@ -37,7 +38,7 @@ impl Report {
     ghost use Rattle.std.specs.Prelude.{◌≡◌, ◌≤◌, ◌⊎◌, ◌++◌, ◌∷◌, [], None, Some, IfErr, IfOk, OnOk, true};
     ghost use Rattle.hsms_frame.specs.CallCounts.{count_failure};
     ghost use Rattle.hsms_frame.specs.Io.{Grows};
-    ghost use Rattle.capture_errors.specs.declared.capture_error.CaptureError.TheVariants.{Write};
+    ghost use Rattle.cli_output.specs.IoErrors.{IsWrite};
     ghost use Rattle.cli_capture.specs.Command.{GrowsBySome};
     ghost use Rattle.cli_capture.specs.declared.report.OutputMode.TheVariants.{Verdicts};
     ghost use Rattle.capture_log.specs.Stop.{IsNoRefusal};
@@ -93,18 +94,18 @@ impl Report {
     }
 
     /// Writes what is told.
-    pub fn put_out<W: Sink>(&mut self, sink: &mut W) -> Result<(), CaptureError>
+    pub fn put_out<W: Sink>(&mut self, sink: &mut W) -> Result<(), ToolFault>
         ensures ok { OnOk result (Grows (W.state sink.old).written (W.state sink.new).written self.old.page.octets) }
         ensures none { OnOk result (self.new.page.octets ≡ []) }
         ensures some { GrowsBySome (W.state sink.old).written (W.state sink.new).written }
-        ensures error { IfErr result (λ error. error ≡ Write) }
+        ensures word { IfErr result IsWrite }
         ensures writes { (W.state sink.new).failures ≡ count_failure result (W.state sink.old).failures }
         ensures same { self.new ≡ record self.old { page = self.new.page } }
     {
         if self.page.octets().is_empty() {
             return Ok(());
         }
-        give_all(sink, self.page.octets())?;
+        put(sink, self.page.octets())?;
         self.page.clear();
         Ok(())
     }
@@ -131,9 +132,12 @@ impl Report {
     {
         self.begin(alloc, ends)?;
         match (&mut self.manner, ends) {
-            (OutputMode::Log(journal), _) => {
-                journal.process_input(&mut self.page, pair, happening)
-            }
+            (OutputMode::Log(journal), _) => journal.process_input(
+                alloc,
+                &mut self.page,
+                pair,
+                happening,
+            ),
             (OutputMode::Verdicts, Some(ends)) => ends.process_input(alloc, happening),
             (OutputMode::Verdicts, None) => Ok(LogResult::Proceeds),
         }
@@ -193,7 +197,7 @@ impl Report {
         self.begin(alloc, ends)?;
         match (&mut self.manner, ends) {
             (OutputMode::Log(journal), _) => {
-                journal.assume_up(&mut self.page, pair, packet, time)
+                journal.assume_up(alloc, &mut self.page, pair, packet, time)
             }
             (OutputMode::Verdicts, Some(ends)) => ends.assume_up(alloc, time),
             (OutputMode::Verdicts, None) => Ok(()),
@@ -302,14 +306,14 @@ impl Report {
         ensures unrefused { IfErr result (StopsUnrefused self.old) }
         ensures refuses { IfErr result (λ stop. LacksRefused shortfall stop self.old self.new) }
     {
-        self.conclude_with(shortfall)?;
+        self.conclude_with(alloc, shortfall)?;
         self.submit(alloc, pair, ends, shortfall)?;
         Ok(())
     }
 
     // Notes that a connection is told, and what it lacks. Behind that no log of an end goes on.
     #[tactic(auto, using(crate::proofs::Unrefused::unrefused_steps))]
-    fn conclude_with(&mut self, shortfall: Option<Shortfall>) -> Result<(), Stop>
+    fn conclude_with(&mut self, alloc: Global, shortfall: Option<Shortfall>) -> Result<(), Stop>
         ensures noted { OnOk result (self.new ≡ record self.old {
           has_told = true;
           shortfall = missing_after self.old.shortfall shortfall;
@@ -324,7 +328,7 @@ impl Report {
         };
         let first = self.note(shortfall);
         match &self.manner {
-            OutputMode::Log(_) => Err(Stop::Refused(Rejection::Incomplete(first))),
+            OutputMode::Log(_) => Err(first.refusal(alloc)),
             OutputMode::Verdicts => Ok(()),
         }
     }
@@ -438,8 +442,8 @@ impl Report {
     ///
     /// # Errors
     ///
-    /// `Refused` where something is missing and no log fails, by what was missing first, and where there was no
-    /// connection; `Memory`.
+    /// `Refused` where something is missing and no log fails, in the words of what was missing first, and where there was
+    /// no connection; `Memory`.
     #[tactic(auto, using(crate::proofs::Refusing::memory_refuses, crate::proofs::Refusing::err_holds))]
     pub fn finish(&mut self, alloc: Global) -> Result<bool, Stop>
         ensures answer { Finishes (found_of self.old) result }
@@ -448,7 +452,7 @@ impl Report {
             → self.new.page.octets ≡ self.old.page.octets ++ line_of self.old.left_out) }
     {
         self.tell_left_out(alloc)?;
-        self.answer()
+        self.answer(alloc)
     }
 
     // Tells the packets that were left out.
@@ -463,14 +467,14 @@ impl Report {
     }
 
     // Whether each log passes, or why that can't be said.
-    fn answer(&self) -> Result<bool, Stop>
+    fn answer(&self, alloc: Global) -> Result<bool, Stop>
         ensures { Finishes (found_of self.now) result }
     {
         match self.shortfall {
             _ if self.has_failed => Ok(false),
-            Some(shortfall) => Err(Stop::Refused(Rejection::Incomplete(shortfall))),
+            Some(shortfall) => Err(shortfall.refusal(alloc)),
             None if self.has_told => Ok(true),
-            None => Err(Stop::Refused(Rejection::NoConnection)),
+            None => Err(Stop::Refused(String::from_str(alloc, "NoConnection")?)),
         }
     }
 }

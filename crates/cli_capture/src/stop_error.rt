@@ -1,17 +1,16 @@
-//! The error of the command, by why the audit of a capture stops.
+//! How the command tells why nothing more is told of a capture.
 
-ghost use Rattle.std.specs.Prelude.{◌≡◌};
-ghost use Rattle.cli_capture.specs.StopError.{error_of};
+ghost use Rattle.cli_capture.specs.StopError.{TellsStop};
 
-use capture_errors::CaptureError;
 use capture_log::Stop;
+use cli_options::ToolFault;
 
-/// Returns the error of the command.
-pub fn error_of(stop: Stop) -> CaptureError
-    ensures { result ≡ error_of stop }
+/// How the command tells why nothing more is told.
+pub fn fault_of(stop: Stop) -> ToolFault
+    ensures { TellsStop stop result }
 {
     match stop {
-        Stop::Refused(rejection) => CaptureError::Refused(rejection),
-        Stop::Memory => CaptureError::Memory,
+        Stop::Refused(words) => ToolFault::Refused(words),
+        Stop::Memory => ToolFault::Memory,
     }
 }

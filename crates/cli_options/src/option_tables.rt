@@ -4,7 +4,6 @@
 ghost use Rattle.std.specs.Prelude.{◌≡◌, map};
 ghost use Rattle.cli_options.specs.CaptureOptions.{capture_rules};
 ghost use Rattle.cli_options.specs.InnerClapCommand.{rule_described};
-ghost use Rattle.cli_options.specs.CompareOptions.{compare_rules};
 ghost use Rattle.cli_options.specs.ExplainOptions.{explain_rules};
 ghost use Rattle.cli_options.specs.Request.{audit_command, encode_command, show_command};
 ghost use Rattle.cli_options.specs.ServeOptions.{serve_rules};
@@ -147,17 +146,6 @@ pub fn explain_options() -> &'static [Described]
     ensures { map rule_described result.now ≡ explain_rules }
 {
     &EXPLAIN_OPTIONS
-}
-
-static COMPARE_OPTIONS: [Described; 1] = options![
-    Files(FILE) => "Logs of the host and of equipment, in either order; one may be - for standard input",
-];
-
-/// Returns the operands of `hsms compare`.
-pub fn compare_options() -> &'static [Described]
-    ensures { map rule_described result.now ≡ compare_rules }
-{
-    &COMPARE_OPTIONS
 }
 
 static CAPTURE_OPTIONS: [Described; 13] = options![

@@ -357,18 +357,15 @@ fn write_failing(page: &mut Page, links: &mut Links, note: &Note, failing: &Fail
     put(page, "</div>");
 }
 
-// Writes the request whose timer has expired, or the line of the open transaction that a failure involves. If the repair assumes that it expired, it is
+// Writes the line of the open transaction that a failure involves. If the repair assumes that it expired, it is
 // recorded as closed.
 fn write_concern(page: &mut Page, links: &mut Links, note: &Note, failing: &Failing) {
+    let Some(line) = failing.concerns else {
+        return;
+    };
     let closed = expired_by(note).and_then(|line| links.close(line));
-    if let Some(overdue) = failing.overdue {
-        let to = links.shown_line(overdue.line);
-        return write_link(page, "<p>", to, closed, &overdue);
-    }
-    if let Some(line) = failing.concerns {
-        let to = links.shown_line(line);
-        write_link(page, "<p>", to, closed, &Concern { line });
-    }
+    let to = links.shown_line(line);
+    write_link(page, "<p>", to, closed, &Concern { line });
 }
 
 /// Writes that lines are skipped, and which open transactions end there.

@@ -3,7 +3,7 @@
 use crate::output_buffer::Page;
 use explain_lines::{
     Carried, Closing, Continuation, Expected, ExplainedLine, Failing, FailureGroup, Gap, Moment,
-    Note, Overdue, Put, Rest, System, Unjudged, name_of, word_of,
+    Note, Put, Rest, System, Unjudged, name_of, word_of,
 };
 use explain_statistics::{Outcome, Tally};
 use hsms_frame::{Header, Kind, kind};
@@ -44,7 +44,6 @@ enum Member<'a> {
     Number(u64),
     Truth(bool),
     Text(&'a str),
-    Overdue(Option<Overdue>),
     Expected(Option<Expected>),
     RepairAction(Option<Continuation>),
     Put(Option<Put>),
@@ -87,7 +86,6 @@ impl Member<'_> {
             Member::Number(number) => send_number(out, name, *number),
             Member::Truth(truth) => send_truth(out, name, *truth),
             Member::Text(text) => send_text(out, name, text),
-            Member::Overdue(words) => send_words(out, name, words),
             Member::Expected(words) => send_words(out, name, words),
             Member::RepairAction(words) => send_words(out, name, words),
             Member::Put(words) => send_words(out, name, words),
@@ -309,8 +307,6 @@ fn send_failing<S: Serializer>(out: &mut S, failing: &Failing, utc: bool) -> Res
         ("column", column_of(failing.expected)),
         ("reason", reason_of(failing.expected)),
         ("concerns", Member::of(failing.concerns)),
-        ("overdue", Member::Overdue(failing.overdue)),
-        ("waited", Member::of(failing.overdue.map(|it| it.waited))),
         ("expected", expected_of(failing.expected)),
         ("expected_line", Member::of(failing.expected_line())),
         ("remedy", Member::RepairAction(failing.continuation(utc))),

@@ -8,7 +8,7 @@ ghost use Rattle.explain_lines.specs.AnnotatedFailure.{first_why, is_whole};
 
 use crate::expected::Expected;
 use crate::failure_kind::UNREADABLE_SORT;
-use crate::phrases::{Closing, Continuation, FailureGroup, Overdue, Put};
+use crate::phrases::{Closing, Continuation, FailureGroup, Put};
 use hsms_log::{Unreadable, Why};
 use hsms_machine::RepairAction;
 
@@ -39,14 +39,13 @@ impl Note {
 }
 
 /// A failure of a line. It has its failure kind (`sort`), rule and rule text, the line of the open transaction
-/// involved, the request whose timer has expired, a hint, and the repair. An unreadable line is skipped.
+/// involved, a hint, and the repair. An unreadable line is skipped.
 #[derive(Clone, Copy)]
 pub struct Failing {
     pub sort: u64,
     pub why: Why,
     pub sentence: &'static str,
     pub concerns: Option<u64>,
-    pub overdue: Option<Overdue>,
     pub expected: Option<Expected>,
     pub repair_action: Option<RepairAction>,
 }
@@ -63,7 +62,6 @@ impl Failing {
             why: Why::Unreadable,
             sentence: UNREADABLE,
             concerns: None,
-            overdue: None,
             expected: Some(Expected::Form(unreadable)),
             repair_action: None,
         }

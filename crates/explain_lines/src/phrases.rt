@@ -3,9 +3,8 @@
 ghost use Rattle.std.specs.Prelude.{◌≡◌, Some};
 ghost use Rattle.explain_lines.specs.Phrases.{group_text, closing_text, closing_word, concern_text, rest_text, tie_word, why_name};
 
-use crate::expected::Function;
 use crate::timestamp::Moment;
-use hsms_frame::{Header, Kind, kind};
+use hsms_frame::{Kind, kind};
 use hsms_log::{What, Why, cause_word};
 use hsms_machine::{Cause, RepairAction};
 use std::fmt;
@@ -88,60 +87,6 @@ impl fmt::Display for Concern {
         let line = self.line;
         write!(f, "open transaction: line {line}")
     }
-}
-
-/// A request whose timer has expired: the line of the request, for how long it waited, the timer, and whether the failing
-/// entry is the reply. Times are in ms.
-#[derive(Clone, Copy)]
-pub struct Overdue {
-    pub request: Header,
-    pub line: u64,
-    pub waited: u64,
-    pub timer: &'static str,
-    pub limit: u32,
-    pub is_reply: bool,
-}
-
-impl Overdue {
-    // Returns how long after the timer expired.
-    fn late(&self) -> u64 {
-        self.waited.saturating_sub(u64::from(self.limit))
-    }
-}
-
-impl fmt::Display for Overdue {
-    fn fmt<W: fmt::Write>(&self, f: &mut fmt::Formatter<W>) -> fmt::Result {
-        write_request(f, self.request)?;
-        let Overdue {
-            line,
-            waited,
-            timer,
-            limit,
-            ..
-        } = *self;
-        write!(f, " of line {line} waited {waited} ms ({timer} {limit})")?;
-        if self.is_reply {
-            let late = self.late();
-            return write!(f, "; this is its reply, {late} ms late");
-        }
-        Ok(())
-    }
-}
-
-// Writes the name of a request and its system bytes.
-fn write_request<W: fmt::Write>(f: &mut fmt::Formatter<W>, request: Header) -> fmt::Result {
-    let system = System(request.system);
-    match kind(request) {
-        Kind::SelectReq => write!(f, "select.req {system}"),
-        Kind::LinktestReq => write!(f, "linktest.req {system}"),
-        _ => write_primary(f, request),
-    }
-}
-
-fn write_primary<W: fmt::Write>(f: &mut fmt::Formatter<W>, primary: Header) -> fmt::Result {
-    let function = Function::of(primary);
-    let system = System(primary.system);
-    write!(f, "{function} W {system}")
 }
 
 /// One or more failures like that of an earlier line. `times` is their number. A failure that involves an open

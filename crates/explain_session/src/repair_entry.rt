@@ -18,7 +18,6 @@ ghost use Rattle.explain_session.specs.RepairSteps.{SaysRule};
 use crate::check_step::check_one_step;
 use crate::context::Known;
 use crate::hint::expected_of;
-use crate::overdue::overdue_of;
 use crate::repaired_session::{Checked, Failure, Opening};
 use cli_options::sentence;
 use explain_lines::{Closing, Failing, Note, Tie, failure_kind_of};
@@ -209,7 +208,6 @@ fn failing(known: &Known, step: Step, text: &[u8], failure: Failure) -> Failing
         why: Why::Broken(failure.rule),
         sentence: sentence_of(step.what, failure.rule),
         concerns: failure.concerns,
-        overdue: overdue_of(known, step, failure.rule),
         expected: expected_of(known, step, text, failure.rule),
         repair_action: Some(failure.repair_action),
     }

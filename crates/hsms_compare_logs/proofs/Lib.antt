@@ -1,5 +1,3 @@
 pub mod Inputs
 pub mod LineEntries
 pub mod Openings
-pub mod LogSteps
-pub mod Refusals

@@ -438,7 +438,7 @@ class Telling:
                 self.left_out = (len(self.entries), number, rule)
             if is_own:
                 self.tell_rule(rule, sentence_of(step, rule), sort_of(before, step, rule))
-                self.tell_concern(before, step, rule)
+                self.tell_concern(step, rule)
                 self.tell_expected(before, step, rule)
                 words = remedy_words(step, remedy, self.is_utc)
                 self.further(words, remedy=words, **({"put": words_of(remedy[1])} if remedy[1] else {}))
@@ -560,28 +560,12 @@ class Telling:
             return None
         return f"the only open primary is line {self.places[at]}: it expects {reply_to(frame)} {frame.system:08x}"
 
-    def tell_overdue(self, opener: Entry, entry: Entry, timer: str, limit: int):
-        """Tells the request whose timer has expired, and whether the entry is its reply."""
-        request, waited = opener.frame, entry.time - opener.time
-        if waited <= limit:
-            return
-        at = next(at for at in self.open() if self.entries[at] is opener)
-        name = f"S{request.stream}F{request.function} W" if request.kind == "primary" else request.kind
-        words = f"{name} {request.system:08x} of line {self.places[at]} waited {waited} ms ({timer} {limit})"
-        if entry.event in (TAKEN, DISCARDED) and session.answers(request, entry.frame):
-            words += f"; this is its reply, {waited - limit} ms late"
-        concerns = {"concerns": self.places[at]} if timer == "T3" else {}
-        self.further(words, **concerns, overdue=words, waited=waited)
-
-    def tell_concern(self, before: Before, entry: Entry, rule: str):
-        if rule == "T3Overdue":
-            return self.tell_overdue(before.sent_data[0], entry, "T3", self.settings.t3)
-        if rule == "LinkOverdue" and before.sent_control:
-            return self.tell_overdue(before.sent_control[0], entry, "T6", self.settings.t6)
+    def tell_concern(self, entry: Entry, rule: str):
         for at in self.open():
             opener = self.entries[at]
+            is_oldest = rule == "T3Overdue" and opener.event == SENT and opener.frame.is_data
             is_meant = rule == "SystemInUse" and opener.event == entry.event
-            if is_meant and opener.frame.system == entry.frame.system:
+            if is_oldest or is_meant and opener.frame.system == entry.frame.system:
                 self.further(f"open transaction: line {self.places[at]}", concerns=self.places[at])
                 return
 

@@ -33,7 +33,7 @@ const LATE_TOLD: &str = "     1         hsms-log 1 host active 0 45000 6000 1000
      5    1000 > data 0000 00000002 S1F1 W .
      6   46001 < data 0000 00000002 S1F2 <L [2] <A [1] \"A\"> <A [1] \"B\">> .
        FAIL T3Overdue: no reply came within T3, and no `t3` is logged
-            S1F1 W 00000002 of line 5 waited 45001 ms (T3 45000); this is its reply, 1 ms late
+            open transaction: line 5
             continues as if `46000 t3 00000002` were logged before it
        FAIL NoTransaction: no matching open transaction
             line 5 has the same system bytes, but already timed out at line 6
@@ -156,7 +156,7 @@ const LATE_FAILURES_TOLD: &str = "       ..
      5    1000 > data 0000 00000002 S1F1 W .
      6   46001 < data 0000 00000002 S1F2 <L [2] <A [1] \"A\"> <A [1] \"B\">> .
        FAIL T3Overdue: no reply came within T3, and no `t3` is logged
-            S1F1 W 00000002 of line 5 waited 45001 ms (T3 45000); this is its reply, 1 ms late
+            open transaction: line 5
             continues as if `46000 t3 00000002` were logged before it
        FAIL NoTransaction: no matching open transaction
             line 5 has the same system bytes, but already timed out at line 6

@@ -1,3 +1,0 @@
-pub mod CompareErrors
-pub mod FactLines
-pub mod Comparison
