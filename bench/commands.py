@@ -235,6 +235,7 @@ def main():
         ("explain --only failures", "ordinary traffic", log, size),
         ("explain", "ordinary traffic", log, size),
         ("explain --format json", "ordinary traffic", log, size),
+        ("explain --format html --all", "ordinary traffic", log, size),
         ("explain --format html", "ordinary traffic", log, size),
         ("capture", "ordinary traffic, each message in a packet", captured, size),
         ("capture", "messages of 16 kB in segments of 1,460 octets", captured_long, size),

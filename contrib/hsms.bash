@@ -11,19 +11,20 @@ _hsms() {
     --max | --depth | --around | --from | --to | --port | --peer | --device | --t3 | --t6 | --t7 | --t8 | --system | --address | --linktest | --first-system | --turns | --mdln | --softrev | --connections | --t5) return ;;
   esac
   if [ "$COMP_CWORD" = 1 ]; then
-    words='show audit explain capture encode serve help --help --verbose --version'
+    words='show audit explain compare capture encode serve help --help --verbose --version'
   else
     case ${COMP_WORDS[1]} in
-      show | audit | explain | capture | encode) [[ $word == -* ]] || return ;;
+      show | audit | explain | compare | capture | encode) [[ $word == -* ]] || return ;;
     esac
     case ${COMP_WORDS[1]} in
       show) words='--max --depth --hex --bare --help --verbose' ;;
       audit) words='--quiet --help --verbose' ;;
-      explain) words='--only --around --from --to --format --utc --help --verbose' ;;
+      explain) words='--only --around --from --to --format --utc --lists --all --help --verbose' ;;
+      compare) words='--help --verbose' ;;
       capture) words='--port --peer --active --log --midstream --device --t3 --t6 --t7 --t8 --max --depth --help --verbose' ;;
       encode) words='--device --system --max --depth --hex --help --verbose' ;;
       serve) words='--role --link --address --port --device --t3 --t6 --t7 --t8 --linktest --max --depth --first-system --turns --mdln --softrev --send --answer --all-sent --reconnect --once --connections --t5 --help --verbose' ;;
-      help) words='show audit explain capture encode serve' ;;
+      help) words='show audit explain compare capture encode serve' ;;
       *) return ;;
     esac
   fi

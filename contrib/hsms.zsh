@@ -8,6 +8,7 @@ _hsms() {
       'show:Decode HSMS messages, one line each'
       'audit:Audit session logs'
       'explain:Show a session log line by line, with its transactions and failures'
+      'compare:Compare the session logs of both ends of a connection'
       'capture:Audit the connections in a packet capture, or extract the log of one end'
       'encode:Encode messages from notation to HSMS bytes'
       'serve:Run one end of an HSMS connection and write its log'
@@ -43,9 +44,17 @@ _hsms() {
         '--to[Last line shown (the audit runs to the end) \[default\: the last one\]]:N:' \
         '--format[Output format\: text, json (one object per line) or html (a page) \[default\: text\]]:FORMAT:(text json html)' \
         '--utc[Show times as UTC dates, if the log has ms since 1970]' \
+        '--lists[List the ten slowest replies, and expired and unanswered primaries (at most 100 each)]' \
+        '--all[With html\: show every line; otherwise only failures and their context after 5000 lines]' \
         '--help[Print help]' \
         '--verbose[Explain errors\: what happened, and what to do]' \
         ':FILE:_files'
+      ;;
+    compare)
+      _arguments \
+        '--help[Print help]' \
+        '--verbose[Explain errors\: what happened, and what to do]' \
+        '*:FILE:_files'
       ;;
     capture)
       _arguments \
@@ -104,7 +113,7 @@ _hsms() {
         '--help[Print help]' \
         '--verbose[Explain errors\: what happened, and what to do]'
       ;;
-    help) _values command show audit explain capture encode serve ;;
+    help) _values command show audit explain compare capture encode serve ;;
   esac
 }
 

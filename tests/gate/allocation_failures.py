@@ -95,6 +95,8 @@ EXAMPLES = [
     (["encode"], "examples/session.txt"),
     (["encode", "--max", "256"], "examples/long.txt"),
     (["audit"], "examples/expired.log"),
+    (["compare", "-", f"{TOP}/tests/compare/skipped-equipment.log"], "tests/compare/skipped-host.log"),
+    (["compare", f"{TOP}/tests/compare/order-host.log", "-"], "tests/compare/order-equipment.log"),
     (["audit", f"{TOP}/examples/expired.log"], "examples/select.bin"),
     (["audit", f"{TOP}/examples/expired.log", f"{TOP}/missing", f"{TOP}/examples/session.log"], "examples/select.bin"),
     (["audit", "--quiet", f"{TOP}/examples/unreadable.log"], "examples/select.bin"),

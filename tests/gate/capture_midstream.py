@@ -26,7 +26,7 @@ sys.path.insert(0, os.path.abspath(f"{__file__}/../../.."))
 from tests.support.command import PROGRAM, TOP, Answer, answer_of
 from tests.support.pcap_writer import ACK, ACTIVE, BEGIN, FIN, PASSIVE, PUSH, RST, SELECT, SYN, Capture, Talk, message
 from tests.support.reference import midstream
-from tests.support.reference.capture_audit import Options
+from tests.support.reference.capture_audit import Options, write_log
 from tests.support.reference.packets import read_file, segment_of
 from tests.support.reference.session import audit
 from tests.support.reference.tcp import Seen
@@ -304,6 +304,50 @@ def wrong_with_two_at_once(program: Optional[str]) -> Optional[str]:
     return None
 
 
+def in_log_behind(octets: bytes, options: Options) -> Answer:
+    """The log of a role, of a connection of port 40001 and then of a session that was running, of port 40000."""
+    *lines, _ = write_log(octets, options).lines
+    told = midstream.told_of(seen_in(octets), options)
+    if midstream.is_too_early(told, int(lines[-1].split()[0])):
+        error = f"hsms: Overlap packet={told.start}\n".encode()
+        return Answer(2, "".join(f"{line}\n" for line in lines).encode(), error)
+    log = midstream.log_of(told, ACTIVE if options.log == options.active else PASSIVE, options).decode()
+    return Answer(0, "".join(f"{line}\n" for line in lines + log.splitlines()[1:]).encode(), b"")
+
+
+def after_another(milliseconds: int) -> bytes:
+    """A connection, and then a short session that was running: its clock is that far from the last entry before."""
+    capture = Capture(ports=(40001, PORT))
+    talk = Talk(capture)
+    talk.say(1, *SELECT[0])
+    talk.say(2, *SELECT[1])
+    talk.end(3)
+    capture.ports = (ACTIVE_PORT, PORT)
+    running = Talk(capture, shakes_hands=False, when=talk.when + 1000 * milliseconds)
+    running.say(0, ACTIVE, "00008101000000000008")
+    running.say(1, PASSIVE, "00000102000000000008")
+    return capture.octets
+
+
+def wrong_with_late(program: Optional[str]) -> Optional[str]:
+    """A session that is found at the end is in the log only behind what happened before it: no time is raised."""
+    with open(f"{TOP}/tests/captures/joined-late.pcap", "rb") as file:
+        late = file.read()
+    told = midstream.told_of(seen_in(late), Options())
+    if "fail line=11 packet=3 rule=T3Overdue" not in verdicts(told, Options())[0]:
+        return f"the late reply is not found: {verdicts(told, Options())}"
+    cases = [(late, 2), (after_another(-1), 2), (after_another(0), 0), (after_another(1), 0)]
+    for octets, status in cases:
+        for role in ("host", "equipment"):
+            options = Options(log=role)
+            wanted = in_log_behind(octets, options)
+            words = ["capture", "--midstream", *options.words()]
+            found = answer_of(words, octets, program) if program else wanted
+            if found != wanted or found.status != status:
+                return f"{' '.join(words)}\n  reference: {wanted}\n  command: {found}"
+    return None
+
+
 # Random sessions.
 
 
@@ -375,6 +419,7 @@ def main():
     wrong += [("a Linktest.req first", wrong_with_linktest_first(program))]
     wrong += [("forgotten", wrong_with_forgotten(program))]
     wrong += [("two at once", wrong_with_two_at_once(program))]
+    wrong += [("a session that is found late", wrong_with_late(program))]
     wrong += [(seed, wrong_with(seed, program)) for seed in seeds]
     told = [f"{name}: {why}" for name, why in wrong if why]
     print("\n".join(told + [f"{len(wrong) - len(told)} passed, {len(told)} failed"]))

@@ -53,7 +53,7 @@ def notation(octets, fault, told, *options):
 
 def cases_of_words():
     usage = "Usage: hsms <COMMAND>"
-    no_command = "'hsms' requires a subcommand but one was not provided [subcommands: show, audit, explain, capture, encode, serve, help]"
+    no_command = "'hsms' requires a subcommand but one was not provided [subcommands: show, audit, explain, compare, capture, encode, serve, help]"
     yield Case([], 2, "command line", [f"{no_command}. {usage}"])
     yield Case(["shwo"], 2, "command line", [f"unrecognized subcommand 'shwo'. {usage}"])
     needed = "the following required arguments were not provided: --port <P>"

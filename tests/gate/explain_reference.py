@@ -89,6 +89,30 @@ def reconnected() -> List[bytes]:
     return [settings + body for settings in (EMPTY, EMPTY.replace(b"log 1", b"log 2")) for body in bodies]
 
 
+def other_settings() -> List[bytes]:
+    """Logs whose first line says another device, version, link or role than their entries show, also in part."""
+    errors = b"10 < 00000901000000000007\n11 > 00000905000000000008\n12 > 00000905000000000009\n"
+    data = b"20 > 00008101000000000002\n21 < 00000102000000000002\n22 < 0000860b00000000000a\n"
+    others = [EMPTY.replace(b" 0 45000", b" %d 45000" % device) for device in (1, 32767)]
+    others += [EMPTY.replace(b"host", b"equipment"), EMPTY.replace(b"active", b"passive"), EMPTY.replace(b"log 1", b"log 2")]
+    bodies = [SELECTED, SELECTED + data, SELECTED + errors + data, SELECTED + errors[:27] + data + b"30 down\n" + SELECTED]
+    bodies += [SELECTED + data.replace(b" 0000", b" 8001"), SELECTED + data[:27], b"0 up\n0 < ffff0000000100000001\n" + data]
+    bodies += [it.replace(b" >", b" |").replace(b" <", b" >").replace(b" |", b" <") for it in bodies]
+    bodies += [it.replace(b" <", b" !") for it in bodies]
+    return [settings + body for settings in [EMPTY, *others] for body in bodies]
+
+
+def long_logs() -> List[bytes]:
+    """Logs of which a page does not have each line: failures after 5,000 lines, also of requests before them."""
+    comments = b"# a comment\n" * (explain.PAGE_LINES - 9)
+    asked = b"10 > 000081010000%08x\n10 < 0000060b0000%08x\n"
+    early = asked % (2, 3) + asked % (4, 5)
+    late = b"".join(b"%d > 00008103000000000%03x\n# one\n# another\n" % (100 + at, 16 + at) for at in range(9))
+    replies = b"50000 < 000001020000%08x\n" % 2 + b"# none\n" * 20 + b"50001 < 000001020000%08x\n" % 4
+    body = SELECTED + early + comments + late + b"# none\n" * 12 + replies + b"50002 down\n"
+    return [EMPTY + SELECTED + early + comments, EMPTY + body, EMPTY + body + b"# none\n" * 30]
+
+
 def markup() -> List[bytes]:
     """Logs whose lines would be markup in a page, or end it, or have a meaning of their own there."""
     words = [b"<script>alert(1)</script>", b"</pre></details></div></main><h1>", b"<!-- ", b"-->", b"<![CDATA["]
@@ -110,7 +134,7 @@ def excerpt_of(log: bytes) -> Excerpt:
     around = chance.one(0, 1, 2, 5) if chance.happens(0.75) else None
     first = chance.randint(1, lines) if chance.happens(0.5) else 1
     last = chance.randint(1, lines) if chance.happens(0.5) else None
-    return Excerpt(around, first, last, chance.happens(0.5))
+    return Excerpt(around, first, last, chance.happens(0.5), chance.happens(0.5), is_every=chance.happens(0.2))
 
 
 def difference(log: bytes) -> Optional[str]:
@@ -125,11 +149,16 @@ def difference(log: bytes) -> Optional[str]:
         if not (are_answers and is_text and objects_of(in_json.output) == [list(it.items()) for it in wanted.objects]):
             shown = f"log: {log[:LONGEST_SHOWN].hex()}\nreference: {wanted}"
             return f"{' '.join(words)}\n{shown}\ncommand: {told}\nin JSON: {in_json}\naudit: {audited}"
-        ends = html_check.Ends(wanted.ladder.gaps, wanted.ladder.open)
-        fault = html_check.fault_of(in_html.output, wanted.unescaped, ends, excerpt.is_utc)
+        page = explain.explain(log, excerpt._replace(is_page=True)) if lines_of(log) > explain.PAGE_LINES else wanted
+        ends = html_check.Ends(page.ladder.gaps, page.ladder.open)
+        fault = html_check.fault_of(in_html.output, page.unescaped, ends, excerpt.is_utc, page.shortened)
         if fault:
             return f"{' '.join(words)} --format html\nlog: {log[:LONGEST_SHOWN].hex()}\n{fault}\npage: {in_html}"
     return None
+
+
+def lines_of(log: bytes) -> int:
+    return log.count(b"\n") + 1
 
 
 def objects_of(output: bytes) -> Optional[List[object]]:
@@ -171,7 +200,7 @@ def help_of_rules() -> Optional[str]:
 def main() -> int:
     count, seed = int(sys.argv[1]) if len(sys.argv) > 1 else 500, sys.argv[2] if len(sys.argv) > 2 else "1"
     random = [random_logs.random_log(Chance(f"{seed} explain {number}")) for number in range(count)]
-    fixed = [*example_logs(), *random_logs.logs_at_edges(), *edge_cases.logs(), *markup(), overdue(), *reconnected()]
+    fixed = [*example_logs(), *random_logs.logs_at_edges(), *edge_cases.logs(), *markup(), overdue(), *reconnected(), *other_settings(), *long_logs()]
     logs = [*fixed, *random, *reasons.damaged_logs(seed, 2 * count)]
     logs += [many_sorts(), many_kinds(), *(repeated(log) for log in random + example_logs())]
     with ProcessPoolExecutor() as pool:

@@ -34,6 +34,7 @@ SMALL = [
     (["encode", "--hex"], "examples/report.txt"),
     (["audit"], "examples/session.log"),
     (["audit"], "examples/late-reply.log"),
+    (["compare", "-", f"{TOP}/tests/compare/skipped-equipment.log"], "tests/compare/skipped-host.log"),
     (["explain"], "examples/late-reply.log"),
     (["explain", "--utc"], "examples/late-reply.log"),
     (["explain", "--format", "json"], "examples/late-reply.log"),

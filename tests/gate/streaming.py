@@ -91,7 +91,7 @@ LATE_TOLD = b"""\
      5      10 > data 0000 00000002 S1F1 W .
      6   46000 down
        FAIL T3Overdue: no reply came within T3, and no `t3` is logged
-            open transaction: line 5
+            S1F1 W 00000002 of line 5 waited 45990 ms (T3 45000)
             continues as if `45010 t3 00000002` were logged before it
 """
 
@@ -110,6 +110,7 @@ LATE_OBJECTS = b"""\
 "stream":1,"function":1,"wait":true,"notation":"S1F1 W ."}
 {"type":"line","line":6,"time":46000,"kind":"down",\
 "failures":[{"rule":"T3Overdue","sentence":"no reply came within T3, and no `t3` is logged","concerns":5,\
+"overdue":"S1F1 W 00000002 of line 5 waited 45990 ms (T3 45000)","waited":45990,\
 "remedy":"continues as if `45010 t3 00000002` were logged before it","put":"45010 t3 00000002"}]}
 """
 

@@ -257,10 +257,18 @@ def check_end(section: Node, told: Told):
     """The head is what the text has at its end."""
     rows = [[cell.text() for cell in row.all("td")] for row in section.all("tr")][1:]
     counts = [node.text() for node in section.all("p", "counts")]
+    doubts = [node.text() for node in section.all("p", "doubt")]
     unjudged = [node.text() for node in section.nodes() if node.tag == "p" and not node.attributes]
     verdict = section.nodes()[-1]
-    if rows != [cells_of(it) for it in told.end if " W " in it]:
+    lists = [node.text() for node in section.all("p", "list")]
+    if rows != [cells_of(it) for it in told.end if re.match(r"(S\d+F\d+|others) W ", it)]:
         raise Fault(f"primaries {rows}")
+    if lists != [it for it in told.end if re.match(r"(slowest|expired|unanswered): ", it)]:
+        raise Fault(f"lists {lists}")
+    for link in (link for node in section.all("p", "list") for link in node.all("a")):
+        check_link(link)
+    if doubts != [it for it in told.end if " line 1 says " in it or it.startswith("line 1 is of")]:
+        raise Fault(f"doubts {doubts}")
     if counts != [it for it in told.end if it.startswith("failures=")]:
         raise Fault(f"counts {counts}")
     if [it for it in unjudged if "nothing" in it] != [it for it in told.end if it.startswith("nothing")]:
@@ -269,9 +277,17 @@ def check_end(section: Node, told: Told):
         raise Fault(f"verdict {verdict.text()}")
 
 
-def fault_of(page: bytes, text: bytes, ends: Ends, is_utc: bool = False) -> Optional[str]:
+def check_shortened(section: Node, line: Optional[int]):
+    """The head says from which line on there are only failures."""
+    words = [node.text() for node in section.all("p", "short")]
+    end = "on, only failures and the lines around them are shown: --all shows every line."
+    if words != ([] if line is None else [f"From line {line} {end}"]):
+        raise Fault(f"shortened {words}")
+
+
+def fault_of(page: bytes, text: bytes, ends: Ends, is_utc: bool = False, shortened: Optional[int] = None) -> Optional[str]:
     """What is wrong with a page of the log that has this text, if anything is. The text has control characters as they
-    are in the log."""
+    are in the log. From the line `shortened` on it has only failures."""
     told = told_by(text, is_utc)
     try:
         top = read(page)
@@ -283,6 +299,7 @@ def fault_of(page: bytes, text: bytes, ends: Ends, is_utc: bool = False) -> Opti
         check_ends(top, ends)
         check_groups(top.one("section"), told)
         check_end(top.one("section"), told)
+        check_shortened(top.one("section"), shortened)
     except (Fault, UnicodeDecodeError) as fault:
         return str(fault)
     return None

@@ -1,11 +1,12 @@
 -- The log of one end of one connection after another, as it is written.
-use Rattle.std.specs.Prelude.{◌≡◌, ◌⊎◌, ℕ, true, false, Option, None, Some, List, [], ◌∷◌, ◌++◌, codes, decimal, string_bytes}
+use Rattle.std.specs.Prelude.{◌≡◌, ◌<◌, ◌⊎◌, ℕ, true, false, Option, None, Some, List, [], ◌∷◌, ◌++◌}
 use Rattle.hsms_machine.specs.Settings.{Parameters}
 use Rattle.hsms_log.specs.LineFormat.{settings_line}
 use Rattle.capture_tcp.specs.declared.packet.Side.{Side}
 use Rattle.capture_tcp.specs.declared.events.Event.{Event as Happens}
 use Rattle.capture_tcp.specs.declared.events.Event.TheVariants as happens
 use Rattle.capture_tcp.specs.declared.events.TimedEvent.{TimedEvent}
+use Rattle.capture_errors.specs.declared.rejection.Rejection.TheVariants.{Overlap, Peer}
 use Rattle.capture_log.specs.declared.both_logs.LogResult.{LogResult}
 use Rattle.capture_log.specs.declared.both_logs.LogResult.TheVariants as reception
 use Rattle.capture_log.specs.declared.written_log.Begun.{Begun}
@@ -38,6 +39,15 @@ MayHappen begun pair happens.Up = MayComeUp begun pair
 MayHappen begun pair (happens.Message from octets) = Unit {0}
 MayHappen begun pair happens.Down = Unit {0}
 
+-- it has the same addresses, and the last entry of the log is later than this time
+abbrev pub IsLater : Option Begun → Pair → ℕ → ℕ → Type 0
+IsLater None pair last time = ⊥
+IsLater (Some begun) pair last time = HaveSameAddresses begun.pair pair × (time < last)
+
+-- one that is assumed to have come up at this time: its entries come after those of the log, with their own times
+abbrev pub MayBeAssumed : Option Begun → Pair → ℕ → ℕ → Type 0
+MayBeAssumed begun pair last time = MayComeUp begun pair × (IsLater begun pair last time → ⊥)
+
 abbrev pub came_up : Pair → Option Begun
 came_up pair = Some (record { pair = pair; is_up = true })
 
@@ -55,10 +65,14 @@ begun_by begun pair happens.Down = went_down begun
 
 -- a connection doesn't come up at this packet, where the one before has other addresses or is up; or memory is wanting
 abbrev pub Refuses : Option Begun → Pair → ℕ → Stop → Type 0
-Refuses begun pair packet (stop.Refused emitted) =
-    (HasOthers begun pair × (string_bytes emitted ≡ codes "Peer packet=" ++ decimal packet))
-    ⊎ (IsStillUp begun pair × (string_bytes emitted ≡ codes "Overlap packet=" ++ decimal packet))
+Refuses begun pair packet (stop.Refused rejection) =
+    (HasOthers begun pair × (rejection ≡ Peer packet)) ⊎ (IsStillUp begun pair × (rejection ≡ Overlap packet))
 Refuses begun pair packet stop.Memory = Unit {0}
+
+-- the same for one that is assumed to have come up at this time: the log may also have a later entry
+abbrev pub RefusesAssumed : Option Begun → Pair → ℕ → ℕ → ℕ → Stop → Type 0
+RefusesAssumed begun pair packet last time why =
+    Refuses begun pair packet why ⊎ (IsLater begun pair last time × (why ≡ stop.Refused (Overlap packet)))
 
 -- only what comes up is refused
 abbrev pub Stops : Option Begun → Pair → ℕ → Happens → Stop → Type 0
@@ -68,7 +82,7 @@ Stops begun pair packet happens.Down why = why ≡ stop.Memory
 
 -- what is refused leaves the connection that came up last as it was
 abbrev pub Leaves : Stop → Option Begun → Option Begun → Type 0
-Leaves (stop.Refused emitted) old new = new ≡ old
+Leaves (stop.Refused rejection) old new = new ≡ old
 Leaves stop.Memory old new = Unit {0}
 
 -- ---- what is told

@@ -3,13 +3,14 @@
 ghost use Rattle.std.specs.Prelude.{◌≡◌};
 ghost use Rattle.capture_log.specs.declared.stop.Stop.TheVariants.{Memory};
 
+use capture_errors::Rejection;
 use std::alloc::AllocError;
 
 /// Why nothing more is told of a capture, beside what its devices do.
-#[derive(Drop)]
+#[derive(Clone, Copy)]
 pub enum Stop {
-    /// What comes is refused, in these words.
-    Refused(String),
+    /// The capture is rejected.
+    Refused(Rejection),
     /// Memory is wanting, or a log may have more than 2^62 lines.
     Memory,
 }

@@ -1,7 +1,7 @@
 //! The log of one end, of one connection after another.
 
-ghost use Rattle.std.specs.Prelude.{◌≡◌, IfErr, OnOk, Some, ◌++◌, IfOk, None, OnErr, max};
-ghost use Rattle.capture_log.specs.WrittenLog.{MayComeUp, Refuses, Leaves, MayHappen, Stops, WritesEventAs, begun_by, came_up, front_of, went_down};
+ghost use Rattle.std.specs.Prelude.{◌≡◌, ◌<◌, IfErr, OnOk, Some, ◌++◌, IfOk, None, OnErr, max, true, false};
+ghost use Rattle.capture_log.specs.WrittenLog.{IsLater, MayBeAssumed, MayComeUp, Refuses, RefusesAssumed, Leaves, MayHappen, Stops, WritesEventAs, begun_by, came_up, front_of, went_down};
 ghost use Rattle.hsms_machine.specs.declared.entry.Event.TheVariants.{Down, Up};
 ghost use Rattle.capture_log.specs.declared.audited_log.LogComment.TheVariants.{LeftOut, Packet, Replaced, Assumption};
 ghost use Rattle.capture_log.specs.declared.stop.Stop.TheVariants.{Memory};
@@ -14,10 +14,10 @@ use crate::both_logs::{LogResult, frame_within};
 use crate::byte_buffer::Text;
 use crate::socket_pair::Pair;
 use crate::stop::Stop;
+use capture_errors::Rejection;
 use capture_tcp::{Event as Happens, Side, TimedEvent};
 use hsms_frame::Frame;
 use hsms_machine::{Entry, Event, Settings};
-use std::alloc::Global;
 
 /// The log of the ends with these settings, on this side of each connection between the same two addresses.
 #[derive(Drop)]
@@ -38,15 +38,15 @@ struct Begun {
 
 impl Begun {
     // Whether another connection may come up behind it.
-    fn may_follow(&self, alloc: Global, pair: &Pair, packet: u64) -> Result<(), Stop>
+    fn may_follow(&self, pair: &Pair, packet: u64) -> Result<(), Stop>
         ensures may { OnOk result (MayComeUp (Some self.now) pair.now) }
         ensures refused { IfErr result (λ stop. Refuses (Some self.now) pair.now packet stop) }
     {
         if !self.pair.has_addresses_of(pair) {
-            return Err(Stop::Refused(format!(in alloc; "Peer packet={packet}")?));
+            return Err(Stop::Refused(Rejection::Peer { packet }));
         }
         if self.is_up {
-            return Err(Stop::Refused(format!(in alloc; "Overlap packet={packet}")?));
+            return Err(Stop::Refused(Rejection::Overlap { packet }));
         }
         Ok(())
     }
@@ -79,12 +79,11 @@ impl WrittenLog {
     ///
     /// # Errors
     ///
-    /// `Refused`, in the words `Overlap packet=N` where another connection is up, and `Peer packet=N` where it has other
-    /// addresses; `Memory`. The page stays as it was then.
+    /// `Refused`: `Overlap` where another connection is up, and `Peer` where it has other addresses; `Memory`. The page
+    /// stays as it was then.
     #[tactic(auto, using(crate::proofs::ByteBuffers::cut))]
     pub fn process_input(
         &mut self,
-        alloc: Global,
         page: &mut Text,
         pair: &Pair,
         happening: TimedEvent,
@@ -101,7 +100,7 @@ impl WrittenLog {
         ensures same { (self.new.settings ≡ self.old.settings) × (self.new.side ≡ self.old.side) }
     {
         let length = page.octets().len();
-        match self.submit(alloc, page, pair, happening) {
+        match self.submit(page, pair, happening) {
             Ok(reception) => Ok(reception),
             Err(stop) => {
                 page.cut(length);
@@ -113,7 +112,6 @@ impl WrittenLog {
     // The same, where what is told before a fault may stay on the page.
     fn submit(
         &mut self,
-        alloc: Global,
         page: &mut Text,
         pair: &Pair,
         happening: TimedEvent,
@@ -133,7 +131,7 @@ impl WrittenLog {
         self.time = self.time.max(happening.time);
         match happening.event {
             Happens::Up => {
-                self.come_up(alloc, page, pair, happening.packet, remark)?;
+                self.come_up(page, pair, happening.packet, remark)?;
                 Ok(LogResult::Proceeds)
             }
             Happens::Down => {
@@ -182,11 +180,11 @@ impl WrittenLog {
     ///
     /// # Errors
     ///
-    /// As what happens. The page stays as it was then.
+    /// As what happens; and `Overlap` where the last entry of the log is later: the times of the session would be
+    /// raised. The page stays as it was then.
     #[tactic(auto, using(crate::proofs::ByteBuffers::cut))]
     pub fn assume_up(
         &mut self,
-        alloc: Global,
         page: &mut Text,
         pair: &Pair,
         packet: u64,
@@ -195,8 +193,8 @@ impl WrittenLog {
         ensures emitted { OnOk result (page.new.octets
             ≡ (page.old.octets ++ front_of self.old.begun self.old.settings)
             ++ note_text (note_of Assumption (max self.old.time time) Up)) }
-        ensures may { OnOk result (MayComeUp self.old.begun pair.now) }
-        ensures stops { IfErr result (λ stop. Refuses self.old.begun pair.now packet stop) }
+        ensures may { OnOk result (MayBeAssumed self.old.begun pair.now self.old.time time) }
+        ensures stops { IfErr result (λ stop. RefusesAssumed self.old.begun pair.now packet self.old.time time stop) }
         ensures kept { OnErr result (page.new.octets ≡ page.old.octets) }
         ensures begun { OnOk result (self.new.begun ≡ came_up pair.now) }
         ensures refused { IfErr result (λ stop. Leaves stop self.old.begun self.new.begun) }
@@ -204,8 +202,13 @@ impl WrittenLog {
         ensures same { (self.new.settings ≡ self.old.settings) × (self.new.side ≡ self.old.side) }
     {
         let length = page.octets().len();
+        let is_later = self.is_later(pair, time);
         self.time = self.time.max(time);
-        match self.come_up(alloc, page, pair, packet, LogComment::Assumption) {
+        if is_later {
+            let overlap = Rejection::Overlap { packet };
+            return Err(Stop::Refused(overlap));
+        }
+        match self.come_up(page, pair, packet, LogComment::Assumption) {
             Ok(()) => Ok(()),
             Err(stop) => {
                 page.cut(length);
@@ -262,7 +265,6 @@ impl WrittenLog {
     #[tactic(auto, using(crate::proofs::ByteBuffers::come_up, crate::proofs::ByteBuffers::follow))]
     fn come_up(
         &mut self,
-        alloc: Global,
         page: &mut Text,
         pair: &Pair,
         packet: u64,
@@ -279,7 +281,7 @@ impl WrittenLog {
         ensures same { (self.new.settings ≡ self.old.settings) × (self.new.side ≡ self.old.side)
             × (self.new.time ≡ self.old.time) }
     {
-        self.begin(alloc, page, pair, packet)?;
+        self.begin(page, pair, packet)?;
         self.begun = Some(Begun {
             pair: *pair,
             is_up: true,
@@ -289,7 +291,7 @@ impl WrittenLog {
 
     // The front of the log, where the connection is the first one; and whether it may come up.
     #[tactic(auto, using(crate::proofs::ByteBuffers::stay, crate::proofs::ByteBuffers::same))]
-    fn begin(&self, alloc: Global, page: &mut Text, pair: &Pair, packet: u64) -> Result<(), Stop>
+    fn begin(&self, page: &mut Text, pair: &Pair, packet: u64) -> Result<(), Stop>
         ensures emitted { OnOk result
             (page.new.octets ≡ page.old.octets ++ front_of self.now.begun self.now.settings) }
         ensures may { OnOk result (MayComeUp self.now.begun pair.now) }
@@ -298,7 +300,18 @@ impl WrittenLog {
     {
         match &self.begun {
             None => Ok(append_settings(page, &self.settings)?),
-            Some(begun) => begun.may_follow(alloc, pair, packet),
+            Some(begun) => begun.may_follow(pair, packet),
+        }
+    }
+
+    // Returns true if the log of the same two addresses has an entry later than this time.
+    fn is_later(&self, pair: &Pair, time: u64) -> bool
+        ensures yes { result ≡ true → IsLater self.now.begun pair.now self.now.time time }
+        ensures no { result ≡ false → IsLater self.now.begun pair.now self.now.time time → ⊥ }
+    {
+        match &self.begun {
+            None => false,
+            Some(begun) => time < self.time && begun.pair.has_addresses_of(pair),
         }
     }
 

@@ -6,3 +6,4 @@ pub mod File
 pub mod Laws
 pub mod BlockReader
 pub mod InnerBlockReader
+pub mod Fault

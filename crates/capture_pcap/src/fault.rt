@@ -1,46 +1,59 @@
 //! Errors of reading a capture.
 
-ghost use Rattle.std.specs.Prelude.{◌≡◌};
+ghost use Rattle.std.specs.Prelude.{◌≡◌, Some};
 ghost use Rattle.capture_pcap.specs.declared.fault.CaptureFault.TheVariants.{Memory};
 ghost use Rattle.capture_pcap.specs.declared.fault.FileFault.TheVariants as stop;
 ghost use Rattle.capture_pcap.specs.BlockReader.{of_ahead};
+ghost use Rattle.capture_pcap.specs.Fault.{capture_fault_text, file_fault_text};
 
 use hsms_frame::AheadFault;
 use std::alloc::{AllocError, AllocFailed};
-use thiserror::Error;
+use std::error::Error;
+use std::fmt;
 
-/// Why bytes cannot be read as a capture.
-#[derive(Clone, Copy, Debug, PartialEq, Eq, Error)]
+/// Why bytes cannot be read as a capture. Each error is shown as its name.
+#[derive(Clone, Copy, Debug, PartialEq, Eq)]
 pub enum CaptureFault {
     /// The first bytes belong to no supported format.
-    #[error("Unknown")]
     Unknown,
     /// The first bytes are those of a gzip file.
-    #[error("Gzip")]
     Gzip,
     /// The first bytes are those of a zstd file.
-    #[error("Zstd")]
     Zstd,
     /// A record or block claims more bytes than the maximum, or fewer than its own fields need. Or a block's length is
     /// not a multiple of the word size.
-    #[error("Length")]
     Length,
     /// A block's second length differs from its first.
-    #[error("Trailer")]
     Trailer,
     /// A section's byte order is neither of the two.
-    #[error("Order")]
     Order,
     /// A packet names an interface that no block of its section describes.
-    #[error("Interface")]
     Interface,
     /// An interface's resolution is finer than 2^-63 or 10^-19 seconds.
-    #[error("Resolution")]
     Resolution,
     /// An allocation failed.
-    #[error("Memory")]
     Memory,
 }
+
+impl fmt::Display for CaptureFault {
+    ghost output = { λ fault. Some (capture_fault_text fault) };
+
+    fn fmt<W: fmt::Write>(&self, f: &mut fmt::Formatter<W>) -> fmt::Result {
+        match *self {
+            CaptureFault::Unknown => write!(f, "Unknown"),
+            CaptureFault::Gzip => write!(f, "Gzip"),
+            CaptureFault::Zstd => write!(f, "Zstd"),
+            CaptureFault::Length => write!(f, "Length"),
+            CaptureFault::Trailer => write!(f, "Trailer"),
+            CaptureFault::Order => write!(f, "Order"),
+            CaptureFault::Interface => write!(f, "Interface"),
+            CaptureFault::Resolution => write!(f, "Resolution"),
+            CaptureFault::Memory => write!(f, "Memory"),
+        }
+    }
+}
+
+impl Error for CaptureFault {}
 
 impl<T: Drop> From<AllocFailed<T>> for CaptureFault {
     ghost from_gives = { λ _ f. f ≡ Memory };
@@ -50,22 +63,34 @@ impl<T: Drop> From<AllocFailed<T>> for CaptureFault {
     }
 }
 
-/// Why reading a capture file stopped.
-#[derive(Clone, Copy, Debug, PartialEq, Eq, Error)]
+/// Why reading a capture file stopped. Each error is shown as its name, and the offset if it has one, as in
+/// `Length octet=24`.
+#[derive(Clone, Copy, Debug, PartialEq, Eq)]
 pub enum FileFault {
     /// At this offset the file has no valid record or block, or the file is not a capture.
-    #[error("{fault} octet={place}")]
     Capture { place: u64, fault: CaptureFault },
     /// The file ends within a record or block, or within its header.
-    #[error("CutOff")]
     CutOff,
     /// The read failed.
-    #[error("Read")]
     Read,
     /// An allocation failed.
-    #[error("Memory")]
     Memory,
 }
+
+impl fmt::Display for FileFault {
+    ghost output = { λ fault. Some (file_fault_text fault) };
+
+    fn fmt<W: fmt::Write>(&self, f: &mut fmt::Formatter<W>) -> fmt::Result {
+        match *self {
+            FileFault::Capture { place, fault } => write!(f, "{fault} octet={place}"),
+            FileFault::CutOff => write!(f, "CutOff"),
+            FileFault::Read => write!(f, "Read"),
+            FileFault::Memory => write!(f, "Memory"),
+        }
+    }
+}
+
+impl Error for FileFault {}
 
 impl From<AllocError> for FileFault {
     ghost from_gives = { λ _ f. f ≡ stop.Memory };

@@ -1,15 +1,14 @@
 //! What the command writes on what is not audited, and what it returns.
 
-ghost use Rattle.std.specs.Prelude.{IfErr, OnOk, codes};
+ghost use Rattle.std.specs.Prelude.{◌≡◌, IfErr, OnOk};
+ghost use Rattle.capture_errors.specs.Errors.{writes_after};
 ghost use Rattle.capture_unjudged.specs.UnjudgedOutput.{IsDone, IsFailure, Returns, line_if};
 ghost use Rattle.hsms_frame.specs.Io.{Grows};
-ghost use Rattle.cli_output.specs.IoErrors.{CountsFailure};
 
 use crate::line::line_of;
 use crate::unjudged::Unjudged;
-use cli_options::{ToolFault, refused};
-use cli_output::put;
-use hsms_frame::Sink;
+use capture_errors::{CaptureError, Rejection};
+use hsms_frame::{Sink, give_all};
 use std::alloc::Global;
 
 /// Writes the line on what is not audited after the output of `hsms capture`, and returns the result of `hsms capture`.
@@ -24,23 +23,23 @@ pub fn emit_unjudged<W: Sink>(
     sink: &mut W,
     unjudged: &Unjudged,
     has_port: bool,
-    answer: Result<bool, ToolFault>,
-) -> Result<bool, ToolFault>
+    answer: Result<bool, CaptureError>,
+) -> Result<bool, CaptureError>
     ensures returns { Returns has_port unjudged.now answer result }
     ensures line { IsDone result → Grows (W.state sink.old).written (W.state sink.new).written (line_if unjudged.now) }
-    ensures writes { IsDone answer → CountsFailure (codes "Write") result (W.state sink.old).failures (W.state sink.new).failures }
+    ensures writes { IsDone answer → (W.state sink.new).failures ≡ writes_after result (W.state sink.old).failures }
 {
     match answer {
         Ok(well) => {
             put_line(alloc, sink, unjudged)?;
             if well && unjudged.is_refused(has_port) {
-                return Err(refused(alloc, "NotJudged"));
+                return Err(CaptureError::Refused(Rejection::NotJudged));
             }
             Ok(well)
         }
-        Err(ToolFault::Refused(words)) => {
+        Err(CaptureError::Refused(rejection)) => {
             put_line(alloc, sink, unjudged)?;
-            Err(ToolFault::Refused(words))
+            Err(CaptureError::Refused(rejection))
         }
         Err(fault) => Err(fault),
     }
@@ -48,14 +47,15 @@ pub fn emit_unjudged<W: Sink>(
 
 // Writes the line, if the capture was read up to where it is audited.
 #[tactic(auto, using(crate::proofs::Recursions::line_written))]
-fn put_line<W: Sink>(alloc: Global, sink: &mut W, unjudged: &Unjudged) -> Result<(), ToolFault>
+fn put_line<W: Sink>(alloc: Global, sink: &mut W, unjudged: &Unjudged) -> Result<(), CaptureError>
     ensures ok { OnOk result (Grows (W.state sink.old).written (W.state sink.new).written (line_if unjudged.now)) }
     ensures err { IfErr result IsFailure }
-    ensures writes { CountsFailure (codes "Write") result (W.state sink.old).failures (W.state sink.new).failures }
+    ensures writes { (W.state sink.new).failures ≡ writes_after result (W.state sink.old).failures }
 {
     if !unjudged.is_complete() {
         return Ok(());
     }
     let line = line_of(alloc, unjudged)?;
-    put(sink, line.as_bytes())
+    give_all(sink, line.as_bytes())?;
+    Ok(())
 }

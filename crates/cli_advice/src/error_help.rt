@@ -1,6 +1,8 @@
 //! Explanations for people: what an error means, and what to do about it.
 
 use crate::caret::placed;
+use capture_errors::{CaptureError, Rejection, Shortfall};
+use capture_pcap::FileFault;
 use cli_filters::{AuditError, Cause, CommandError, EncodeError, Refusal};
 use cli_options::{ToolFault, exit_status};
 use cli_serve::ConnectError;
@@ -176,6 +178,12 @@ impl From<AuditError> for Failure {
     }
 }
 
+impl From<CaptureError> for Failure {
+    fn from(error: CaptureError) -> Failure {
+        Failure::of_command(CommandError::Capture(error), Known::Nothing)
+    }
+}
+
 impl From<AllocError> for Failure {
     fn from(_: AllocError) -> Failure {
         Failure::from(ToolFault::Memory)
@@ -284,6 +292,7 @@ fn advice(fault: &Fault) -> &'static str {
         Fault::Command(CommandError::Show(error)) => show_advice(*error),
         Fault::Command(CommandError::Encode(error)) => encode_advice(*error),
         Fault::Command(CommandError::Audit(error)) => audit_advice(*error),
+        Fault::Command(CommandError::Capture(error)) => capture_advice(*error),
         Fault::Tool(ToolFault::Refused(words)) => refused_advice(words.as_str()),
         Fault::Tool(ToolFault::Device(word)) => device_advice(word),
         Fault::Tool(ToolFault::Memory) => MEMORY,
@@ -378,51 +387,85 @@ const OPEN: &str = "this file cannot be opened: check its name and its permissio
 
 const NO_ADVICE: &str = "see docs/CLI.md";
 
-// Returns what the first word of the text of an error of the command line or of `capture` means, and what to do.
+// Returns what the first word of the text of an error of the command line or of a file means, and what to do.
 fn refused_advice(words: &str) -> &'static str {
     let (word, _) = words.split_once(' ').unwrap_or((words, ""));
     match word {
         "command" => "run hsms --help, or hsms COMMAND --help",
         "Open" => OPEN,
-        word => capture_advice(word),
+        word => compare_advice(word),
     }
 }
 
-fn capture_advice(word: &str) -> &'static str {
+fn compare_advice(word: &str) -> &'static str {
     match word {
-        "Lost" => {
-            "this packet shows that the capture lost data: capture at the end itself, whole packets (-s 0), without drops"
-        }
-        "Length" => {
-            "a message is shorter than 10 bytes or longer than --max: is this the HSMS port? If so, raise --max"
-        }
-        "Differs" => {
-            "a retransmission carries other data than the original: capture closer to the end, where one device sends it"
-        }
-        "Full" => {
-            "too much data waits for missing packets: capture at the end itself, whole packets, without drops"
-        }
-        "CutOff" => {
-            "the file is empty or ends inside a packet: stop the capturing program first, or check what truncated it"
-        }
-        "Capture" => {
-            "not a valid pcap or pcapng file here: use an uncompressed file from tcpdump, tshark or Wireshark"
-        }
-        "Time" => {
-            "this packet has no usable time stamp: capture with time stamps, or remove the packet"
-        }
-        "Overlap" => {
+        "FirstLine" => "line 1 of this log has no settings: is it a session log?",
+        "SameRole" => "both logs are of a host, or both of equipment: name one of each",
+        "SameLink" => "both logs are of the active end, or both of the passive one",
+        "Device" => "the logs have different device IDs",
+        "Undecided" => "both logs pass, and do not show whether they agree (docs/COMPARE.md)",
+        _ => NO_ADVICE,
+    }
+}
+
+fn capture_advice(error: CaptureError) -> &'static str {
+    match error {
+        CaptureError::Refused(rejection) => rejection_advice(rejection),
+        CaptureError::Read => READ,
+        CaptureError::Write => WRITE,
+        CaptureError::Endless => ENDLESS,
+        CaptureError::Memory => MEMORY,
+    }
+}
+
+fn rejection_advice(rejection: Rejection) -> &'static str {
+    match rejection {
+        Rejection::Incomplete(shortfall) => shortfall_advice(shortfall),
+        Rejection::Overlap { .. } => {
             "a connection starts while another is up, and a log holds one at a time: leave out --log to audit each"
         }
-        "Peer" => {
+        Rejection::Peer { .. } => {
             "this connection has other addresses, and a log holds one pair of addresses: choose one with --peer"
         }
-        "NoConnection" => {
+        Rejection::NoConnection => {
             "no connection came up at --port: check the port; if the capture starts inside a session, add --midstream"
         }
-        "NotJudged" => {
+        Rejection::NotJudged => {
             "the last line of the output names HSMS data that was not audited: add --midstream, its --device or its --port"
         }
-        _ => NO_ADVICE,
+    }
+}
+
+fn shortfall_advice(shortfall: Shortfall) -> &'static str {
+    match shortfall {
+        Shortfall::Lost(_) => {
+            "this packet shows that the capture lost data: capture at the end itself, whole packets (-s 0), without drops"
+        }
+        Shortfall::Length(_) => {
+            "a message is shorter than 10 bytes or longer than --max: is this the HSMS port? If so, raise --max"
+        }
+        Shortfall::Differs(_) => {
+            "a retransmission carries other data than the original: capture closer to the end, where one device sends it"
+        }
+        Shortfall::Full(_) => {
+            "too much data waits for missing packets: capture at the end itself, whole packets, without drops"
+        }
+        Shortfall::Time(_) => {
+            "this packet has no usable time stamp: capture with time stamps, or remove the packet"
+        }
+        Shortfall::File(fault, _) => file_advice(fault),
+    }
+}
+
+fn file_advice(fault: FileFault) -> &'static str {
+    match fault {
+        FileFault::Capture { .. } => {
+            "not a valid pcap or pcapng file here: use an uncompressed file from tcpdump, tshark or Wireshark"
+        }
+        FileFault::CutOff => {
+            "the file is empty or ends inside a packet: stop the capturing program first, or check what truncated it"
+        }
+        FileFault::Read => READ,
+        FileFault::Memory => MEMORY,
     }
 }

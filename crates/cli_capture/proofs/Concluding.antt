@@ -22,7 +22,7 @@ use Rattle.cli_capture.specs.declared.progress.Progress.{Progress}
 use Rattle.cli_capture.specs.declared.progress.Progress.TheVariants as progress
 use Rattle.cli_capture.specs.declared.tracked_connection.Logs.{Logs}
 use Rattle.cli_capture.specs.declared.report.Report.{Report}
-use Rattle.cli_capture.specs.declared.incomplete.Shortfall.{Shortfall}
+use Rattle.capture_errors.specs.declared.incomplete.Shortfall.{Shortfall}
 use Rattle.cli_capture.specs.Progress.{lack_behind}
 use Rattle.cli_capture.specs.Report.{HasEmitted, IsVerdictOn, LogOutputState}
 use Rattle.cli_capture.specs.ConnectionLog.{AreEntries, JudgedIf, Shown, TellsIf, ToldOf, bare_resets, came_up, clock_by, clock_of, course_by, entries_logged, hears_entry, is_replaced_by, is_there, lack_by, replaced_at}

@@ -33,8 +33,8 @@ use Rattle.cli_capture.specs.declared.tracked_connection.Open.{Open}
 use Rattle.cli_capture.specs.declared.tracked_connection.Waiting.{Waiting}
 use Rattle.cli_capture.specs.declared.report.OutputMode.TheVariants.{Verdicts}
 use Rattle.cli_capture.specs.declared.report.Report.{Report}
-use Rattle.cli_capture.specs.declared.incomplete.Shortfall.{Shortfall}
-use Rattle.cli_capture.specs.declared.incomplete.Shortfall.TheVariants as lacks
+use Rattle.capture_errors.specs.declared.incomplete.Shortfall.{Shortfall}
+use Rattle.capture_errors.specs.declared.incomplete.Shortfall.TheVariants as lacks
 use Rattle.cli_capture.specs.Progress.{lack_behind}
 use Rattle.cli_capture.specs.ConnectionLog.{Shown, TellsIf, TellsOf, ToldForGood, ToldOf, bare_of, bare_resets, came_up, clock_of, course_by, entries_logged, is_replaced_by, is_there}
 use Rattle.cli_capture.specs.TrackedConnection.{AllFit, MayTellMore, GivesUp, IsTooMuch, WhenTold, came_up_by, course_by_events, hears_event, logged_by, timed_by}

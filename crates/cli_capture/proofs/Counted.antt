@@ -6,7 +6,7 @@ use Rattle.capture_log.specs.declared.socket_pair.Pair.{Pair}
 use Rattle.cli_capture.specs.declared.report.OutputMode.{OutputMode}
 use Rattle.cli_capture.specs.declared.report.OutputMode.TheVariants.{Verdicts}
 use Rattle.cli_capture.specs.declared.report.Report.{Report}
-use Rattle.cli_capture.specs.declared.incomplete.Shortfall.{Shortfall}
+use Rattle.capture_errors.specs.declared.incomplete.Shortfall.{Shortfall}
 use Rattle.cli_capture.specs.InnerReport.{TellsBy, TellsVerdicts}
 
 pub emits_by : {E : Type 0} (result : Result (Unit {0}) E) (manner : OutputMode) (pair : Pair) (shortfall : Option Shortfall)

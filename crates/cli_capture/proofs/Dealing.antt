@@ -20,7 +20,7 @@ use Rattle.cli_capture.specs.declared.tracked_connection.Waiting.{Waiting}
 use Rattle.cli_capture.specs.declared.report.OutputMode.{OutputMode}
 use Rattle.cli_capture.specs.declared.report.OutputMode.TheVariants.{Log, Verdicts}
 use Rattle.cli_capture.specs.declared.report.Report.{Report}
-use Rattle.cli_capture.specs.declared.incomplete.Shortfall.{Shortfall}
+use Rattle.capture_errors.specs.declared.incomplete.Shortfall.{Shortfall}
 use Rattle.cli_capture.specs.declared.connection_table.Capture.{Capture}
 use Rattle.cli_capture.specs.declared.connection_table.Table.{Table}
 use Rattle.cli_capture.specs.Connections.{Connection, Connections, Deals, DealsBy, DealsOf, DealsPacket, EndsAll, EndsAs, EndsWith, Proceeds, GoesAs, GoesOfSyn, GoesToLog, GoesToVerdicts, ContinuesBy, ContinuesWith, Has, IsGone, HasOne as KnowsOne, IsOpen, IsOpenStill, IsReplaced, NothingIsLeft, Packets, Starts, StartsAny, StartsOne, connection_of, buffered, of_session, of_syn, starting, without}

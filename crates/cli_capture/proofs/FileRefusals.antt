@@ -2,10 +2,9 @@
 use Rattle.std.proofs.Common.{◌≡◌, ◌≤◌, ◌<◌, ◌+◌, ◌-◌, ◌^◌, ◌++◌, ◌∷◌, ℕ, List, [], take, drop, Option, Some, inl, inr, refl, sym, ap, subst, ◌∙◌, append_assoc, arith}
 use Rattle.std.specs.Prelude.{IfErr, Result, Ok, Err}
 use Rattle.hsms_frame.specs.Io.{Grows, IfRecorded}
-use Rattle.cli_output.specs.IoErrors.{IsWrite}
 use Rattle.cli_options.specs.declared.capture_options.Capturing.{Capturing}
-use Rattle.cli_options.specs.declared.fault.ToolFault.{ToolFault}
-use Rattle.cli_options.specs.declared.fault.ToolFault.TheVariants as tool
+use Rattle.capture_errors.specs.declared.capture_error.CaptureError.{CaptureError}
+use Rattle.capture_errors.specs.declared.capture_error.CaptureError.TheVariants as error
 use Rattle.capture_pcap.specs.declared.fault.FileFault.{FileFault}
 use Rattle.capture_pcap.specs.declared.next_block.Record.{Record}
 use Rattle.capture_pcap.specs.declared.packet_reader.Step.{Step}
@@ -19,7 +18,7 @@ use Rattle.capture_pcap.specs.Segment.{segment_at}
 use Rattle.capture_log.specs.declared.stop.Stop.{Stop}
 use Rattle.cli_capture.specs.declared.report.OutputMode.TheVariants.{Verdicts}
 use Rattle.cli_capture.specs.declared.report.Report.{Report}
-use Rattle.cli_capture.specs.declared.incomplete.Shortfall.{Shortfall}
+use Rattle.capture_errors.specs.declared.incomplete.Shortfall.{Shortfall}
 use Rattle.cli_capture.specs.declared.connection_table.Capture.{Capture}
 use Rattle.cli_capture.specs.declared.connection_table.Table.{Table}
 use Rattle.cli_capture.specs.InnerCommand.{IsMissingBy}
@@ -34,7 +33,8 @@ use Rattle.cli_capture.specs.InnerLogRejectionFile.{ConcludesAsRefused, EndsAsRe
 use Rattle.cli_capture.specs.Report.{missing_after}
 use Rattle.cli_capture.specs.InnerReport.{FailsUnrefused}
 use Rattle.cli_capture.specs.Segments.{body_in}
-use Rattle.cli_capture.specs.StopError.{IsRefusal, TellsStop}
+use Rattle.capture_errors.specs.Errors.{IsRefusal}
+use Rattle.cli_capture.specs.StopError.{error_of}
 use Rattle.cli_capture.specs.InnerStopError.{IsRefused}
 use Rattle.cli_capture.proofs.Refusals.{not_empty}
 use Rattle.cli_capture.proofs.Refusing.{finishes_refused, told_refused, write_refuses}
@@ -61,19 +61,19 @@ segments_refused (Ok missing) packet r octets segment capture table before after
 segments_refused (Err st) packet r octets segment capture table before after is packet_is time_is body_is takes =
     segment_refused packet r octets segment capture table st before after is packet_is time_is body_is takes
 
-pub puts_refused : (packet : ℕ) (r : Record) (octets : List ℕ) (table : Table) (st : Stop) (before emitted : Report) (out now : Option (List ℕ)) (fault : ToolFault)
-    → ShowsAsRefused packet r octets table st before emitted → TellsStop st fault → Grows out now emitted.page.octets → PutsAsRefused packet r octets table before out now fault
+pub puts_refused : (packet : ℕ) (r : Record) (octets : List ℕ) (table : Table) (st : Stop) (before emitted : Report) (out now : Option (List ℕ)) (fault : CaptureError)
+    → ShowsAsRefused packet r octets table st before emitted → fault ≡ error_of st → Grows out now emitted.page.octets → PutsAsRefused packet r octets table before out now fault
 puts_refused packet r octets table st before emitted out now fault shows emits grows refusal w last all report past few kept =
     (st, emitted, shows (told_refused st fault emits refusal) w last all report past few kept, record { written = grows; says = emits })
 
-pub never_puts : (packet : ℕ) (r : Record) (octets : List ℕ) (table : Table) (before : Report) (out now : Option (List ℕ)) (fault : ToolFault) → IsWrite fault
+pub never_puts : (packet : ℕ) (r : Record) (octets : List ℕ) (table : Table) (before : Report) (out now : Option (List ℕ)) (fault : CaptureError) → fault ≡ error.Write
     → PutsAsRefused packet r octets table before out now fault
 never_puts packet r octets table before out now fault is refusal = absurd (write_refuses fault is refusal)
 
 -- ---- packets, one after another
 
 pub reads_refused : (first : Reading) (from : Option (List ℕ)) (old : Table) (before : Report) (out : Option (List ℕ)) (was now : Reading) (left new : Option (List ℕ))
-    (table : Table) (between : Report) (put written : Option (List ℕ)) (n : ℕ) (r : Record) (octets : List ℕ) (counter : ℕ) (st : Step) (fault : ToolFault)
+    (table : Table) (between : Report) (put written : Option (List ℕ)) (n : ℕ) (r : Record) (octets : List ℕ) (counter : ℕ) (st : Step) (fault : CaptureError)
     → EachRestIsRead → IsSoFar first from old before out was left table between put → st ≡ step.Packet n r
     → IfRecorded left (λ input. StepsAs was input (Ok st) now new) → CountsOn st was.state.packets now.state.packets → was.state.packets ≤ first.state.packets + counter
     → counter < 2 ^ 64 - 4 → octets ≡ take r.held (drop r.body now.last) → PutsAsRefused n r octets table between put written fault
@@ -109,15 +109,17 @@ reads_refused first from old before out was now left new table between put writt
       },
     )
 
-pub never_reads : (first : Reading) (from : Option (List ℕ)) (old : Table) (before : Report) (out now : Option (List ℕ)) (fault : ToolFault) → (IsRefusal fault → ⊥)
+pub never_reads : (first : Reading) (from : Option (List ℕ)) (old : Table) (before : Report) (out now : Option (List ℕ)) (fault : CaptureError) → (IsRefusal fault → ⊥)
     → ReadsAsRefused first from old before out now fault
 unfolding ReadsAsRefused
 never_reads first from old before out now fault never refusal = absurd (never refusal)
 
-pub missing_refuses : (fault : FileFault) (count : ℕ) (emitted : ToolFault) → IsMissingBy fault count (Err emitted) → IsRefusal emitted → ⊥
-missing_refuses fault count (tool.Device word) missing refusal = refusal
-missing_refuses fault count (tool.Refused words) missing refusal = missing
-missing_refuses fault count tool.Memory missing refusal = refusal
+pub missing_refuses : (fault : FileFault) (count : ℕ) (emitted : CaptureError) → IsMissingBy fault count (Err emitted) → IsRefusal emitted → ⊥
+missing_refuses fault count (error.Refused rejection) missing refusal = missing
+missing_refuses fault count error.Read missing refusal = refusal
+missing_refuses fault count error.Write missing refusal = refusal
+missing_refuses fault count error.Endless missing refusal = refusal
+missing_refuses fault count error.Memory missing refusal = refusal
 
 -- ---- what is left
 
@@ -137,21 +139,21 @@ pub concludes_found : {T : Type 0} (result : Result T Stop) (missing : Option Sh
 concludes_found (Ok well) missing table old new concludes = tt
 concludes_found (Err st) missing table old new concludes = λ refused. inl (concludes refused)
 
-pub finishes_so : (missing : Option Shortfall) (table : Table) (old mid : Report) (out now : Option (List ℕ)) (st : Stop) (fault : ToolFault)
-    → ConcludesAsRefused missing table old mid st → TellsStop st fault → Grows out now mid.page.octets → FinishesAsRefused missing table old out now fault
+pub finishes_so : (missing : Option Shortfall) (table : Table) (old mid : Report) (out now : Option (List ℕ)) (st : Stop) (fault : CaptureError)
+    → ConcludesAsRefused missing table old mid st → fault ≡ error_of st → Grows out now mid.page.octets → FinishesAsRefused missing table old out now fault
 finishes_so missing table old mid out now st fault concludes emits grows refusal = elim (concludes (told_refused st fault emits refusal)) [
   | inl dealt ↦ inl (finishes_refused missing table old mid out now st fault dealt emits grows refusal)
   | inr left ↦ inr (λ w last all report kept. (st, mid, left w last all report kept, record { written = grows; says = emits }))
 ]
 
-pub never_finishes : (missing : Option Shortfall) (table : Table) (old : Report) (out now : Option (List ℕ)) (fault : ToolFault) → IsWrite fault
+pub never_finishes : (missing : Option Shortfall) (table : Table) (old : Report) (out now : Option (List ℕ)) (fault : CaptureError) → fault ≡ error.Write
     → FinishesAsRefused missing table old out now fault
 never_finishes missing table old out now fault is refusal = absurd (write_refuses fault is refusal)
 
 -- ---- the whole of it
 
 pub refuses_opened : (options : Capturing) (reading : Reading) (missing : Option Shortfall) (first last : Report) (table end : Table) (from left : Option (List ℕ))
-    (out put now : Option (List ℕ)) (fault : ToolFault) → IsBlank (wanted_of options) first
+    (out put now : Option (List ℕ)) (fault : CaptureError) → IsBlank (wanted_of options) first
     → (table.port ≡ options.port) × (table.peer ≡ options.peer) × (table.is_joined ≡ options.joined) → (table.flows.entries ≡ []) × (table.begun ≡ 0)
     → IfRecorded from (λ input. OpensAs input (Ok reading) left) → reading.state.packets ≡ 0 → ReadsAsDealt reading missing left table end first last out put
     → (IsRefusal fault → last.manner ≡ Verdicts → FinishesAsDealt missing end last put now (Err fault)) → FinishesAsRefused missing end last put now fault
@@ -189,7 +191,7 @@ refuses_opened options reading missing first last table end from left out put no
           }))
     ]
 
-pub refuses_reading : (options : Capturing) (reading : Reading) (first : Report) (table : Table) (from left out now : Option (List ℕ)) (fault : ToolFault)
+pub refuses_reading : (options : Capturing) (reading : Reading) (first : Report) (table : Table) (from left out now : Option (List ℕ)) (fault : CaptureError)
     → IsBlank (wanted_of options) first
     → (table.port ≡ options.port) × (table.peer ≡ options.peer) × (table.is_joined ≡ options.joined) → (table.flows.entries ≡ []) × (table.begun ≡ 0)
     → IfRecorded from (λ input. OpensAs input (Ok reading) left) → reading.state.packets ≡ 0 → FailsUnrefused first fault
@@ -213,7 +215,7 @@ refuses_reading options reading first table from left out now fault blank of_it 
         }))
 
 -- it has no packet
-pub refuses_none : (options : Capturing) (fault : FileFault) (shortfall : Shortfall) (first : Report) (table : Table) (from left out now : Option (List ℕ)) (emitted : ToolFault)
+pub refuses_none : (options : Capturing) (fault : FileFault) (shortfall : Shortfall) (first : Report) (table : Table) (from left out now : Option (List ℕ)) (emitted : CaptureError)
     → IsBlank (wanted_of options) first
     → (table.port ≡ options.port) × (table.peer ≡ options.peer) × (table.is_joined ≡ options.joined) → (table.flows.entries ≡ []) × (table.begun ≡ 0)
     → IfRecorded from (λ input. OpensAs input (Err fault) left) → IsMissingBy fault 0 (Ok shortfall)
@@ -235,7 +237,7 @@ refuses_none options fault shortfall first table from left out now emitted blank
     ]
 
 -- of what is answered
-pub file_refused : {T : Type 0} (result : Result T ToolFault) (V S : ToolFault → Type 0) {R : ToolFault → Type 0} → ((fault : ToolFault) → V fault → S fault → R fault)
+pub file_refused : {T : Type 0} (result : Result T CaptureError) (V S : CaptureError → Type 0) {R : CaptureError → Type 0} → ((fault : CaptureError) → V fault → S fault → R fault)
     → IfErr result V → IfErr result S → IfErr result R
 file_refused (Ok well) V S f verdicts stops = tt
 file_refused (Err fault) V S f verdicts stops = f fault verdicts stops

@@ -17,7 +17,7 @@ use Rattle.cli_capture.specs.declared.progress.Progress.{Progress}
 use Rattle.cli_capture.specs.declared.progress.Progress.TheVariants as progress
 use Rattle.cli_capture.specs.declared.tracked_connection.Logs.{Logs}
 use Rattle.cli_capture.specs.declared.report.Report.{Report}
-use Rattle.cli_capture.specs.declared.incomplete.Shortfall.{Shortfall}
+use Rattle.capture_errors.specs.declared.incomplete.Shortfall.{Shortfall}
 use Rattle.cli_capture.specs.Progress.{course_behind}
 use Rattle.cli_capture.specs.ConnectionLog.{and_course, and_goes, and_logged}
 use Rattle.cli_capture.specs.TrackedConnection.{came_up_by, course_by_events, is_up_event, logged_by, timed_by}

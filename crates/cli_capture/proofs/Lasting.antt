@@ -20,7 +20,7 @@ use Rattle.capture_log.specs.BothLogs.{reception_of}
 use Rattle.capture_log.specs.declared.both_logs.LogResult.{LogResult}
 use Rattle.capture_log.specs.declared.both_logs.LogResult.TheVariants as reception
 use Rattle.cli_capture.specs.declared.progress.Progress.TheVariants as progress
-use Rattle.cli_capture.specs.declared.incomplete.Shortfall.{Shortfall}
+use Rattle.capture_errors.specs.declared.incomplete.Shortfall.{Shortfall}
 use Rattle.cli_capture.specs.Progress.{lack_behind}
 use Rattle.cli_capture.specs.ConnectionLog.{and_course, and_logged, bare_if, bare_of, bare_resets, hears_entry, is_among, logged}
 use Rattle.cli_capture.specs.TrackedConnection.{came_up_by, course_by_events, logged_by, time_by, timed_by}

@@ -15,7 +15,7 @@ use Rattle.capture_log.specs.declared.both_logs.LogResult.{LogResult}
 use Rattle.capture_log.specs.declared.both_logs.LogResult.TheVariants as reception
 use Rattle.cli_capture.specs.declared.progress.Progress.{Progress}
 use Rattle.cli_capture.specs.declared.progress.Progress.TheVariants as progress
-use Rattle.cli_capture.specs.declared.incomplete.Shortfall.{Shortfall}
+use Rattle.capture_errors.specs.declared.incomplete.Shortfall.{Shortfall}
 use Rattle.cli_capture.specs.ConnectionLog.{AreEntries, EntryIs, EventIs, and_course, and_logged, came_up, clock_by, course_by, course_of, entries_logged, processed_as, hears_entry, is_among, is_up, logged, moment_of}
 use Rattle.cli_capture.specs.TrackedConnection.{came_up_by, course_by_events, hears_event, is_up_event, logged_by, time_by, timed_by}
 use Rattle.cli_capture.specs.InnerTrackedConnection.{AreNotes}

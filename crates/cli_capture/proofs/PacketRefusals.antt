@@ -14,7 +14,7 @@ use Rattle.capture_tcp.specs.ReaderInvariant.{EndsAs, StateInvariant, TakesOn}
 use Rattle.capture_tcp.specs.Timestamps.{TakesInTime}
 use Rattle.capture_tcp.proofs.Connecting.{emitted_at_once}
 use Rattle.capture_tcp.proofs.LastingFacts.{ending_sure, numbered_front}
-use Rattle.capture_log.specs.WrittenLog.{Refuses}
+use Rattle.capture_log.specs.WrittenLog.{RefusesAssumed}
 use Rattle.capture_log.specs.declared.written_log.WrittenLog.{WrittenLog}
 use Rattle.capture_log.specs.declared.socket_pair.Pair.{Pair}
 use Rattle.capture_log.specs.declared.stop.Stop.{Stop}
@@ -30,7 +30,7 @@ use Rattle.cli_capture.specs.declared.midstream_log.Joined.{Joined}
 use Rattle.cli_capture.specs.declared.midstream_sync.Joining.TheVariants as joining
 use Rattle.cli_capture.specs.declared.report.OutputMode.TheVariants.{Log, Verdicts}
 use Rattle.cli_capture.specs.declared.report.Report.{Report}
-use Rattle.cli_capture.specs.declared.incomplete.Shortfall.{Shortfall}
+use Rattle.capture_errors.specs.declared.incomplete.Shortfall.{Shortfall}
 use Rattle.cli_capture.specs.declared.progress.Followed.{Followed}
 use Rattle.cli_capture.specs.declared.progress.Followed.TheVariants as followed
 use Rattle.cli_capture.specs.declared.midstream_connection.Within.{Within}
@@ -87,8 +87,8 @@ log_after_away (to_log settings side) a p pair start had has now st j k old mid 
       none = both_empty had further.0 has further.1 up.none;
       some = up.some;
       down = (
-        subst (λ (q : Page). Refuses q.begun pair start.packet st) page
-            (subst (λ (x : WrittenLog). Refuses x.begun pair start.packet st) same up.down.0),
+        subst (λ (q : Page). RefusesAssumed q.begun pair start.packet q.time start.time st) page
+            (subst (λ (x : WrittenLog). RefusesAssumed x.begun pair start.packet x.time start.time st) same up.down.0),
         up.down.1 ∙ ap (λ (q : Page). q.text) page,
       );
     }

@@ -37,8 +37,8 @@ use Rattle.cli_capture.specs.declared.tracked_connection.Logs.{Logs}
 use Rattle.cli_capture.specs.declared.tracked_connection.Open.{Open}
 use Rattle.cli_capture.specs.declared.report.OutputMode.TheVariants.{Log, Verdicts}
 use Rattle.cli_capture.specs.declared.report.Report.{Report}
-use Rattle.cli_capture.specs.declared.incomplete.Shortfall.{Shortfall}
-use Rattle.cli_capture.specs.declared.incomplete.Shortfall.TheVariants as lacks
+use Rattle.capture_errors.specs.declared.incomplete.Shortfall.{Shortfall}
+use Rattle.capture_errors.specs.declared.incomplete.Shortfall.TheVariants as lacks
 use Rattle.cli_capture.specs.Progress.{course_behind, lack_behind}
 use Rattle.cli_capture.specs.ConnectionLog.{and_goes, and_logged, bare_resets, came_up, clock_by, clock_of, course_by, entries_logged, lack_by}
 use Rattle.cli_capture.specs.TrackedConnection.{MayTellMore, came_up_by, course_by_events, hears_event, is_up_event, logged_by, timed_by}

@@ -1,14 +1,13 @@
 -- How much of a capture is passed by steps: `Endless` is answered only of one that has as many octets.
-use Rattle.std.proofs.Common.{◌≡◌, ◌≤◌, ◌+◌, ◌-◌, ◌^◌, ◌++◌, ◌∙◌, ℕ, List, length, Option, Result, Ok, Err, sym, ap, arith, codes, get_or, length-append}
+use Rattle.std.proofs.Common.{◌≡◌, ◌≤◌, ◌+◌, ◌-◌, ◌^◌, ◌++◌, ◌∙◌, ℕ, List, length, Option, Result, Ok, Err, ap, arith, length-append}
 use Rattle.std.specs.Prelude.{IfErr}
 use Rattle.hsms_frame.specs.Io.{IfRecorded}
-use Rattle.cli_output.specs.InnerIoErrors.{HasWord}
-use Rattle.cli_options.specs.declared.fault.ToolFault.{ToolFault}
-use Rattle.cli_options.specs.declared.fault.ToolFault.TheVariants as tool
+use Rattle.capture_errors.specs.declared.capture_error.CaptureError.{CaptureError}
+use Rattle.capture_errors.specs.declared.capture_error.CaptureError.TheVariants as error
 use Rattle.capture_pcap.specs.declared.fault.FileFault.{FileFault}
 use Rattle.capture_pcap.specs.BlockReader.{Reading, TakesFront, TakesHeader}
 use Rattle.cli_capture.specs.Command.{HasMany, IsEndless}
-use Rattle.cli_capture.specs.InnerCommand.{HasPassed, IsMissingBy}
+use Rattle.cli_capture.specs.InnerCommand.{HasPassed, IsMissingBy, IsNoRead}
 
 pub none_passed : (ahead : List ℕ) (from : Option (List ℕ)) → HasPassed 0 ahead from ahead from
 none_passed ahead from input emitted = (input, emitted, omega arith)
@@ -46,23 +45,20 @@ many_in now from left opens many = λ input emitted.
 
 -- ---- what isn't told so
 
--- words that differ by their first letter
-write_is_no_endless : (given : List ℕ) → given ≡ codes "Write" → given ≡ codes "Endless" → ⊥
-write_is_no_endless given w e = let first : ◌≡◌ {A = ℕ} 87 69 = ap (λ xs. get_or xs 0 0) (sym w ∙ e) in omega arith
+pub write_ends : (fault : CaptureError) (P : Type 0) → IsNoRead fault → IsEndless fault → P
+write_ends (error.Refused rejection) P is endless = absurd endless
+write_ends error.Read P is endless = absurd endless
+write_ends error.Write P is endless = absurd endless
+write_ends error.Endless P is endless = absurd is
+write_ends error.Memory P is endless = absurd endless
 
-read_is_no_endless : (given : List ℕ) → given ≡ codes "Read" → given ≡ codes "Endless" → ⊥
-read_is_no_endless given r e = let first : ◌≡◌ {A = ℕ} 82 69 = ap (λ xs. get_or xs 0 0) (sym r ∙ e) in omega arith
-
-pub write_ends : (fault : ToolFault) (P : Type 0) → HasWord (codes "Write") fault → IsEndless fault → P
-write_ends (tool.Device word) P is endless = absurd (write_is_no_endless word.now is endless)
-write_ends (tool.Refused words) P is endless = absurd endless
-write_ends tool.Memory P is endless = absurd endless
-
-pub never_endless : {T : Type 0} (result : Result T ToolFault) (P : Type 0) → IfErr result (HasWord (codes "Write")) → IfErr result (λ fault. IsEndless fault → P)
+pub never_endless : {T : Type 0} (result : Result T CaptureError) (P : Type 0) → IfErr result IsNoRead → IfErr result (λ fault. IsEndless fault → P)
 never_endless (Ok done) P word = tt
 never_endless (Err fault) P word = write_ends fault P word
 
-pub missing_ends : (fault : FileFault) (packets : ℕ) (P : Type 0) (emitted : ToolFault) → IsMissingBy fault packets (Err emitted) → IsEndless emitted → P
-missing_ends fault packets P (tool.Device word) is endless = absurd (read_is_no_endless word.now is.1 endless)
-missing_ends fault packets P (tool.Refused words) is endless = absurd endless
-missing_ends fault packets P tool.Memory is endless = absurd endless
+pub missing_ends : (fault : FileFault) (packets : ℕ) (P : Type 0) (emitted : CaptureError) → IsMissingBy fault packets (Err emitted) → IsEndless emitted → P
+missing_ends fault packets P (error.Refused rejection) is endless = absurd endless
+missing_ends fault packets P error.Read is endless = absurd endless
+missing_ends fault packets P error.Write is endless = absurd endless
+missing_ends fault packets P error.Endless is endless = absurd is
+missing_ends fault packets P error.Memory is endless = absurd endless

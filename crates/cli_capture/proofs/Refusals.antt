@@ -27,8 +27,8 @@ use Rattle.cli_capture.specs.declared.tracked_connection.Logs.{Logs}
 use Rattle.cli_capture.specs.declared.tracked_connection.Open.{Open}
 use Rattle.cli_capture.specs.declared.report.OutputMode.TheVariants.{Log, Verdicts}
 use Rattle.cli_capture.specs.declared.report.Report.{Report}
-use Rattle.cli_capture.specs.declared.incomplete.Shortfall.{Shortfall}
-use Rattle.cli_capture.specs.declared.incomplete.Shortfall.TheVariants as lacks
+use Rattle.capture_errors.specs.declared.incomplete.Shortfall.{Shortfall}
+use Rattle.capture_errors.specs.declared.incomplete.Shortfall.TheVariants as lacks
 use Rattle.cli_capture.specs.TrackedConnection.{IsTooMuch, course_by_events, hears_event, logged_by, timed_by}
 use Rattle.cli_capture.specs.InnerTrackedConnection.{TakesSegment, times}
 use Rattle.cli_capture.specs.ConnectionLog.{and_logged, bare_resets, clock_by, clock_of, entries_logged}

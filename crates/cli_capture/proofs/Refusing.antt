@@ -2,17 +2,16 @@
 use Rattle.std.proofs.Common.{◌≡◌, ◌++◌, List, ℕ, Bool, [], Option, sym, ap, subst, ◌∙◌}
 use Rattle.std.specs.Prelude.{Result, Ok, Err, IfErr, IfOk}
 use Rattle.hsms_frame.specs.Io.{Grows, IfRecorded}
-use Rattle.cli_output.specs.IoErrors.{IsWrite}
 use Rattle.cli_options.specs.declared.capture_options.Capturing.{Capturing}
-use Rattle.cli_options.specs.declared.fault.ToolFault.{ToolFault}
-use Rattle.cli_options.specs.declared.fault.ToolFault.TheVariants as tool
+use Rattle.capture_errors.specs.declared.capture_error.CaptureError.{CaptureError}
+use Rattle.capture_errors.specs.declared.capture_error.CaptureError.TheVariants as error
 use Rattle.capture_pcap.specs.declared.fault.FileFault.{FileFault}
 use Rattle.capture_log.specs.declared.stop.Stop.{Stop}
 use Rattle.capture_log.specs.declared.stop.Stop.TheVariants as stop
 use Rattle.capture_log.specs.Stop.{IsNoRefusal}
 use Rattle.cli_capture.specs.declared.report.OutputMode.TheVariants.{Verdicts}
 use Rattle.cli_capture.specs.declared.report.Report.{Report}
-use Rattle.cli_capture.specs.declared.incomplete.Shortfall.{Shortfall}
+use Rattle.capture_errors.specs.declared.incomplete.Shortfall.{Shortfall}
 use Rattle.cli_capture.specs.declared.connection_table.Table.{Table}
 use Rattle.cli_capture.specs.InnerCommand.{IsMissingBy}
 use Rattle.cli_capture.specs.Connections.{EndsAll}
@@ -23,25 +22,24 @@ use Rattle.cli_capture.specs.InnerOutputMode.{TellsTo}
 use Rattle.cli_capture.specs.SkippedPackets.{line_of}
 use Rattle.cli_capture.specs.Report.{Answers, Found, found_of, missing_after}
 use Rattle.cli_capture.specs.InnerReport.{Concludes, EndsWith, FailsUnrefused, Finishes, StopsUnrefused, Writes}
-use Rattle.cli_capture.specs.StopError.{IsRefusal, TellsStop}
+use Rattle.capture_errors.specs.Errors.{IsRefusal}
+use Rattle.cli_capture.specs.StopError.{error_of}
 use Rattle.cli_capture.specs.InnerStopError.{IsRefused}
 use Rattle.cli_capture.proofs.Tellings.{ends_with}
 
 -- ---- what is no refusal
 
 pub none_refused : (st : Stop) → IsNoRefusal st → IsRefused st → ⊥
-none_refused (stop.Refused words) none refused = none
+none_refused (stop.Refused rejection) none refused = none
 none_refused stop.Memory none refused = refused
 
 pub memory_refuses : (st : Stop) (P : Type 0) → st ≡ stop.Memory → IsRefused st → P
 memory_refuses st P is refused = let none : ⊥ = subst IsRefused is refused in absurd none
 
-pub write_refuses : (fault : ToolFault) → IsWrite fault → IsRefusal fault → ⊥
-write_refuses (tool.Device word) is refusal = refusal
-write_refuses (tool.Refused words) is refusal = is
-write_refuses tool.Memory is refusal = refusal
+pub write_refuses : (fault : CaptureError) → fault ≡ error.Write → IsRefusal fault → ⊥
+write_refuses fault is refusal = subst IsRefusal is refusal
 
-pub write_holds : (fault : ToolFault) (P : Type 0) → IsWrite fault → IsRefusal fault → P
+pub write_holds : (fault : CaptureError) (P : Type 0) → fault ≡ error.Write → IsRefusal fault → P
 write_holds fault P is refusal = absurd (write_refuses fault is refusal)
 
 pub err_holds : {T : Type 0} (result : Result T Stop) (P : Type 0) → P → IfErr result (λ st. IsRefused st → P)
@@ -49,34 +47,36 @@ err_holds (Ok done) P holds = tt
 err_holds (Err st) P holds = λ refused. holds
 
 -- a refusal is told as one, and nothing else is
-pub told_refused : (st : Stop) (fault : ToolFault) → TellsStop st fault → IsRefusal fault → IsRefused st
-told_refused (stop.Refused words) fault emits refusal = tt
+pub told_refused : (st : Stop) (fault : CaptureError) → fault ≡ error_of st → IsRefusal fault → IsRefused st
+told_refused (stop.Refused rejection) fault emits refusal = tt
 told_refused stop.Memory fault emits refusal = let none : ⊥ = subst IsRefusal emits refusal in absurd none
 
 -- ---- before the end
 
-pub fails_write : (report : Report) (fault : ToolFault) → IsWrite fault → FailsUnrefused report fault
+pub fails_write : (report : Report) (fault : CaptureError) → fault ≡ error.Write → FailsUnrefused report fault
 unfolding FailsUnrefused
 fails_write report fault is = λ verdicts refusal. write_refuses fault is refusal
 
-pub fails_device : (report : Report) (fault : ToolFault) → (IsRefusal fault → ⊥) → FailsUnrefused report fault
+pub fails_device : (report : Report) (fault : CaptureError) → (IsRefusal fault → ⊥) → FailsUnrefused report fault
 unfolding FailsUnrefused
 fails_device report fault never = λ verdicts refusal. never refusal
 
-pub fails_told : (report : Report) (st : Stop) (fault : ToolFault) → StopsUnrefused report st → TellsStop st fault → FailsUnrefused report fault
+pub fails_told : (report : Report) (st : Stop) (fault : CaptureError) → StopsUnrefused report st → fault ≡ error_of st → FailsUnrefused report fault
 unfolding StopsUnrefused FailsUnrefused
 fails_told report st fault stops emits = λ verdicts refusal. none_refused st (stops verdicts) (told_refused st fault emits refusal)
 
-pub fails_behind : (old new : Report) (before after : Option (List ℕ)) (fault : ToolFault) → Writes old before new after → FailsUnrefused new fault
+pub fails_behind : (old new : Report) (before after : Option (List ℕ)) (fault : CaptureError) → Writes old before new after → FailsUnrefused new fault
     → old.page.octets ≡ [] → FailsUnrefused old fault
 unfolding Writes FailsUnrefused
 fails_behind old new before after fault writes fails empty = λ verdicts. fails (writes verdicts empty).1.manner
 
-pub missing_fails : (fault : FileFault) (count : ℕ) (report : Report) (emitted : ToolFault) → IsMissingBy fault count (Err emitted) → FailsUnrefused report emitted
+pub missing_fails : (fault : FileFault) (count : ℕ) (report : Report) (emitted : CaptureError) → IsMissingBy fault count (Err emitted) → FailsUnrefused report emitted
 unfolding FailsUnrefused
-missing_fails fault count report (tool.Device word) missing = λ verdicts refusal. refusal
-missing_fails fault count report (tool.Refused words) missing = λ verdicts refusal. missing
-missing_fails fault count report tool.Memory missing = λ verdicts refusal. refusal
+missing_fails fault count report (error.Refused rejection) missing = λ verdicts refusal. missing
+missing_fails fault count report error.Read missing = λ verdicts refusal. refusal
+missing_fails fault count report error.Write missing = λ verdicts refusal. refusal
+missing_fails fault count report error.Endless missing = λ verdicts refusal. refusal
+missing_fails fault count report error.Memory missing = λ verdicts refusal. refusal
 
 -- ---- at the end
 
@@ -104,12 +104,12 @@ concludes_refused missing table old noted mid new (Err st) is ends finishes page
       finishes,
     )
 
-answers_refused : (found : Found) (st : Stop) (fault : ToolFault) → Finishes found (Err st) → TellsStop st fault → IsRefusal fault → Answers found (Err fault)
-answers_refused found (stop.Refused words) fault finishes emits refusal = subst (λ (f : ToolFault). Answers found (Err f)) (sym emits) finishes
+answers_refused : (found : Found) (st : Stop) (fault : CaptureError) → Finishes found (Err st) → fault ≡ error_of st → IsRefusal fault → Answers found (Err fault)
+answers_refused found (stop.Refused rejection) fault finishes emits refusal = subst (λ (f : CaptureError). Answers found (Err f)) (sym emits) finishes
 answers_refused found stop.Memory fault finishes emits refusal = let none : ⊥ = subst IsRefusal emits refusal in absurd none
 
-pub finishes_refused : (missing : Option Shortfall) (table : Table) (old mid : Report) (out now : Option (List ℕ)) (st : Stop) (fault : ToolFault)
-    → ConcludesAsDealt missing table old mid (Err st) → TellsStop st fault → Grows out now mid.page.octets
+pub finishes_refused : (missing : Option Shortfall) (table : Table) (old mid : Report) (out now : Option (List ℕ)) (st : Stop) (fault : CaptureError)
+    → ConcludesAsDealt missing table old mid (Err st) → fault ≡ error_of st → Grows out now mid.page.octets
     → IsRefusal fault → FinishesAsDealt missing table old out now (Err fault)
 finishes_refused missing table old mid out now st fault concludes emits grows refusal = λ w last all report kept.
     let on = concludes w last all report kept in record {
@@ -126,8 +126,8 @@ unfolding StopsUnrefused
 left_told missing old noted new st is stops refused = λ verdicts.
     let none : ⊥ = none_refused st (stops (ap (λ (r : Report). r.manner) is ∙ verdicts)) refused in absurd none
 
-pub ends_told : (missing : Option Shortfall) (old mid : Report) (out now : Option (List ℕ)) (st : Stop) (fault : ToolFault)
-    → (IsRefused st → Concludes missing old mid (Err st)) → TellsStop st fault → Grows out now mid.page.octets
+pub ends_told : (missing : Option Shortfall) (old mid : Report) (out now : Option (List ℕ)) (st : Stop) (fault : CaptureError)
+    → (IsRefused st → Concludes missing old mid (Err st)) → fault ≡ error_of st → Grows out now mid.page.octets
     → IsRefusal fault → EndsWith missing old out now (Err fault)
 ends_told missing old mid out now st fault concludes emits grows refusal =
     ends_with missing old mid out now (Err st) (Err fault) (concludes (told_refused st fault emits refusal))
@@ -136,16 +136,16 @@ ends_told missing old mid out now st fault concludes emits grows refusal =
 -- ---- of what is answered
 
 -- what is told of a file, where this is answered
-abbrev pub FileAs : Capturing → Option (List ℕ) → Option (List ℕ) → Option (List ℕ) → Result Bool ToolFault → Type 0
+abbrev pub FileAs : Capturing → Option (List ℕ) → Option (List ℕ) → Option (List ℕ) → Result Bool CaptureError → Type 0
 FileAs options from out now answer = IfRecorded from (λ input. CapturesFile (wanted_of options) input out now answer)
 
-pub ok_file : (result : Result Bool ToolFault) (options : Capturing) (from out now : Option (List ℕ)) (F : Result Bool ToolFault → Type 0)
-    → ((answer : Result Bool ToolFault) → F answer → FileAs options from out now answer)
+pub ok_file : (result : Result Bool CaptureError) (options : Capturing) (from out now : Option (List ℕ)) (F : Result Bool CaptureError → Type 0)
+    → ((answer : Result Bool CaptureError) → F answer → FileAs options from out now answer)
     → IfOk result (λ well. F (Ok well)) → IfOk result (λ well. FileAs options from out now (Ok well))
 ok_file (Ok well) options from out now F then_so so = then_so (Ok well) so
 ok_file (Err fault) options from out now F then_so so = tt
 
-pub fails_file : (report : Report) (fault : ToolFault) (IsReported C : Type 0) → (IsReported → report.manner ≡ Verdicts) → FailsUnrefused report fault
+pub fails_file : (report : Report) (fault : CaptureError) (IsReported C : Type 0) → (IsReported → report.manner ≡ Verdicts) → FailsUnrefused report fault
     → IsRefusal fault → IsReported → C
 unfolding FailsUnrefused
 fails_file report fault IsReported C manner fails refusal emitted = let none : ⊥ = fails (manner emitted) refusal in absurd none

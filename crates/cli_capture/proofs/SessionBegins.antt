@@ -18,7 +18,7 @@ use Rattle.cli_capture.specs.declared.progress.Progress.TheVariants as progress
 use Rattle.cli_capture.specs.declared.midstream_sync.Joining.{Joining}
 use Rattle.cli_capture.specs.declared.midstream_sync.Joining.TheVariants as joining
 use Rattle.cli_capture.specs.declared.report.Report.{Report}
-use Rattle.cli_capture.specs.declared.incomplete.Shortfall.{Shortfall}
+use Rattle.capture_errors.specs.declared.incomplete.Shortfall.{Shortfall}
 use Rattle.cli_capture.specs.declared.midstream_connection.Within.{Within}
 use Rattle.cli_capture.specs.OutputMode.{Way, to_log, to_verdicts}
 use Rattle.cli_capture.specs.InnerOutputMode.{IsReport}

@@ -17,7 +17,7 @@ use Rattle.cli_capture.specs.declared.midstream_sync.Joining.{Joining}
 use Rattle.cli_capture.specs.declared.midstream_sync.Joining.TheVariants as joining
 use Rattle.cli_capture.specs.declared.report.OutputMode.{OutputMode}
 use Rattle.cli_capture.specs.declared.report.Report.{Report}
-use Rattle.cli_capture.specs.declared.incomplete.Shortfall.{Shortfall}
+use Rattle.capture_errors.specs.declared.incomplete.Shortfall.{Shortfall}
 use Rattle.cli_capture.specs.declared.midstream_connection.Within.{Within}
 use Rattle.cli_capture.specs.Connections.{EndsKept, EndsRunning, Proceeds, GoesKept, GoesRunning, Packets, Session, buffered, of_session, way_as}
 use Rattle.cli_capture.specs.MidstreamLog.{most_by}

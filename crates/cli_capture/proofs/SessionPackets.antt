@@ -30,7 +30,7 @@ use Rattle.cli_capture.specs.declared.progress.Progress.{Progress}
 use Rattle.cli_capture.specs.declared.progress.Progress.TheVariants as progress
 use Rattle.cli_capture.specs.declared.midstream_log.Joined.{Joined}
 use Rattle.cli_capture.specs.declared.report.Report.{Report}
-use Rattle.cli_capture.specs.declared.incomplete.Shortfall.{Shortfall}
+use Rattle.capture_errors.specs.declared.incomplete.Shortfall.{Shortfall}
 use Rattle.cli_capture.specs.declared.progress.Followed.{Followed}
 use Rattle.cli_capture.specs.declared.progress.Followed.TheVariants as followed
 use Rattle.cli_capture.specs.declared.midstream_connection.Within.{Within}

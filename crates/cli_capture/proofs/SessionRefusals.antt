@@ -8,7 +8,7 @@ use Rattle.hsms_machine.specs.Settings.{Parameters}
 use Rattle.capture_tcp.specs.declared.packet.Side.{Side}
 use Rattle.capture_tcp.specs.declared.packet.Side.TheVariants as side
 use Rattle.capture_tcp.specs.declared.events.TimedEvent.{TimedEvent}
-use Rattle.capture_log.specs.WrittenLog.{Refuses}
+use Rattle.capture_log.specs.WrittenLog.{RefusesAssumed}
 use Rattle.capture_log.specs.declared.written_log.WrittenLog.{WrittenLog}
 use Rattle.capture_log.specs.declared.socket_pair.Pair.{Pair}
 use Rattle.capture_log.specs.declared.stop.Stop.{Stop}
@@ -25,7 +25,7 @@ use Rattle.cli_capture.specs.declared.midstream_log.Part.TheVariants as part
 use Rattle.cli_capture.specs.declared.report.OutputMode.TheVariants.{Log, Verdicts}
 use Rattle.cli_capture.specs.declared.report.Report.{Report}
 use Rattle.cli_capture.specs.declared.pending_requests.Said.{Said}
-use Rattle.cli_capture.specs.declared.incomplete.Shortfall.{Shortfall}
+use Rattle.capture_errors.specs.declared.incomplete.Shortfall.{Shortfall}
 use Rattle.cli_capture.specs.TrackedConnection.{came_up_by, course_by_events, hears_event, is_up_event, logged_by}
 use Rattle.cli_capture.specs.MidstreamItems.{Item, emits}
 use Rattle.cli_capture.specs.InnerMidstreamItems.{most_of}
@@ -51,20 +51,22 @@ use Rattle.cli_capture.proofs.Unrefused.{verdicts_in_log}
 
 -- ---- it can't come up
 
-pub cant_refused : {T : Type 0} (result : Result T Stop) (pair : Pair) (packet : ℕ) (j next : WrittenLog) (text : Text) (old new : Report) → old.manner ≡ Log j
-    → new ≡ record old { manner = Log next; page = text } → IfErr result (λ st. Refuses j.begun pair packet st) → OnErr result (text.octets ≡ old.page.octets)
-    → IfErr result (λ st. CantComeUp pair packet st old new)
+pub cant_refused : {T : Type 0} (result : Result T Stop) (pair : Pair) (start : Start) (j next : WrittenLog) (text : Text) (old new : Report) → old.manner ≡ Log j
+    → new ≡ record old { manner = Log next; page = text } → IfErr result (λ st. RefusesAssumed j.begun pair start.packet j.time start.time st)
+    → OnErr result (text.octets ≡ old.page.octets) → IfErr result (λ st. CantComeUp pair start st old new)
 unfolding InLog
-cant_refused (Ok done) pair packet j next text old new of is stops kept = tt
-cant_refused (Err st) pair packet j next text old new of is stops kept = λ refused k log.
-    (subst (λ (x : WrittenLog). Refuses x.begun pair packet st) (same_log old j k of log) stops, ap (λ (r : Report). r.page.octets) is ∙ kept)
+cant_refused (Ok done) pair start j next text old new of is stops kept = tt
+cant_refused (Err st) pair start j next text old new of is stops kept = λ refused k log. (
+  subst (λ (x : WrittenLog). RefusesAssumed x.begun pair start.packet x.time start.time st) (same_log old j k of log) stops,
+  ap (λ (r : Report). r.page.octets) is ∙ kept,
+)
 
-pub never_cant : {T : Type 0} (result : Result T Stop) (pair : Pair) (packet : ℕ) (old new : Report) → old.manner ≡ Verdicts
-    → IfErr result (λ st. CantComeUp pair packet st old new)
-never_cant (Ok done) pair packet old new is = tt
-never_cant (Err st) pair packet old new is = verdicts_in_log st old _ is
+pub never_cant : {T : Type 0} (result : Result T Stop) (pair : Pair) (start : Start) (old new : Report) → old.manner ≡ Verdicts
+    → IfErr result (λ st. CantComeUp pair start st old new)
+never_cant (Ok done) pair start old new is = tt
+never_cant (Err st) pair start old new is = verdicts_in_log st old _ is
 
-pub up_refused : (pair : Pair) (joined : Joined) (st : Stop) (old new : Report) → joined.is_up ≡ false → CantComeUp pair joined.start.packet st old new
+pub up_refused : (pair : Pair) (joined : Joined) (st : Stop) (old new : Report) → joined.is_up ≡ false → CantComeUp pair joined.start st old new
     → ComesUpRefused pair joined st old new
 unfolding InLog
 up_refused pair joined st old new down cant = λ refused j log. (down, cant refused j log)
@@ -150,19 +152,21 @@ tell_refused pair h which old mid st before after same by refused_as = λ refuse
     let it = refused_as refused j log (parts_of_or (is_up_event h.event) (came_up_by []) no_up).0 in
     let is_part = (by how a p start (latest_after 0 hs) (spoken_behind t.most (asked b) hs) report output_state.0.start_is output_state.1).0 in
     let down : old.is_up ≡ false = sym (ap (λ (j : Joined). j.is_up) same) ∙ it.1 in
-    let first : mid.start.packet ≡ start.packet = ap (λ (j : Joined). j.start.packet) same ∙ ap (λ (s : Start). s.packet) output_state.0.start_is in
+    let first : mid.start ≡ start = ap (λ (j : Joined). j.start) same ∙ output_state.0.start_is in
     record {
       none = none_before t b hs output_state.0.proceeds (sym output_state.0.up ∙ down);
       some = last_told t b hs h which it.0 output_state.0.proceeds is_part;
-      down = subst (λ (n : ℕ). StaysDown pair n st j before after) first it.2;
+      down = subst (λ (s : Start). StaysDown pair s st j before after) first it.2;
     }
 
 -- it is refused behind what left the report as it was
-pub down_then : (pair : Pair) (packet : ℕ) (st : Stop) (j next : WrittenLog) (before between after : Report) → between ≡ before → before.manner ≡ Log j → between.manner ≡ Log next
-    → StaysDown pair packet st next between after → StaysDown pair packet st j before after
-down_then pair packet st j next before between after still log here down =
-    let same : next ≡ j = same_log between next j here (ap (λ (r : Report). r.manner) still ∙ log) in
-    (subst (λ (x : WrittenLog). Refuses x.begun pair packet st) same down.0, down.1 ∙ ap (λ (r : Report). r.page.octets) still)
+pub down_then : (pair : Pair) (start : Start) (st : Stop) (j next : WrittenLog) (before between after : Report) → between ≡ before → before.manner ≡ Log j → between.manner ≡ Log next
+    → StaysDown pair start st next between after → StaysDown pair start st j before after
+down_then pair start st j next before between after still log here down =
+    let same : next ≡ j = same_log between next j here (ap (λ (r : Report). r.manner) still ∙ log) in (
+      subst (λ (x : WrittenLog). RefusesAssumed x.begun pair start.packet x.time start.time st) same down.0,
+      down.1 ∙ ap (λ (r : Report). r.page.octets) still,
+    )
 
 -- of several
 pub tell_all_refused : (pair : Pair) (all yielded rest : List TimedEvent) (h : TimedEvent) (old mid : Joined) (st : Stop) (before between after : Report)
@@ -184,7 +188,7 @@ tell_all_refused pair all yielded rest h old mid st before between after whole e
     record {
       none = both_empty (session_items t b hs) so_far.0.0 (session_items t b (hs ++ yielded)) so_far.0.1 it.none;
       some = ap (λ (xs : List TimedEvent). is_there (session_items t b xs)) front ∙ there_more t b ((hs ++ yielded) ++ h ∷ []) rest it.some;
-      down = down_then pair start.packet st j kept.0 before between after still.1 log kept.1 it.down;
+      down = down_then pair start st j kept.0 before between after still.1 log kept.1 it.down;
     }
 
 -- ---- what stood before is decided
@@ -231,7 +235,7 @@ settle_refused pair old st before after some decided = λ refused j log.
 with_more : (how : Way) (a p : Parameters) (start : Start) (b : Before) (hs : List TimedEvent) (h : TimedEvent) (pair : Pair) (st : Stop) (j : WrittenLog) (before after : Report)
     → length hs < looked_at → decided_by (most_by how a) nothing_spoken hs ≡ false → before_of (most_by how a) (hs ++ h ∷ []) ≡ b
     → decided_by (most_by how a) nothing_spoken (hs ++ h ∷ []) ≡ true → is_there (session_items (terms_by how a start) b (hs ++ h ∷ [])) ≡ true
-    → StaysDown pair start.packet st j before after
+    → StaysDown pair start st j before after
     → LogRefused pair start (sure_log (terms_by how a start) hs) (sure_log (terms_by how a start) (hs ++ h ∷ [])) st j before after
 with_more how a p start b hs h pair st j before after few still is decided some down =
     let t = terms_by how a start in
@@ -254,7 +258,7 @@ with_one how a p start b hs h pair old mid st j before between after few still n
     let it = them refused kept.0 kept.1 how a p start b hs there output_state (or_none (is_up_event h.event) ∙ no_up) in
     let down : mid.is_up ≡ false = output_state.0.up ∙ none_tells t b hs output_state.0.proceeds it.none in
     with_more how a p start b hs h pair st j before after few still is decided it.some
-    (down_then pair start.packet st j kept.0 before between after (quiet down).1 log kept.1 it.down)
+    (down_then pair start st j kept.0 before between after (quiet down).1 log kept.1 it.down)
 
 -- by what no end takes, or that it goes down
 ends_before : (most : ℕ) (hs : List TimedEvent) (h : TimedEvent) → length hs < looked_at → decided_by most nothing_spoken hs ≡ false → said_by most h.event ≡ None
@@ -478,7 +482,7 @@ each_refused pair xs h ys old mid st before between after emitted quiet processe
     record {
       none = both_empty (sure_log t (since start all)) so_far.0.0 (sure_log t (since start (all ++ xs))) so_far.0.1 it.none;
       some = ap (λ (hs : List TimedEvent). is_there (sure_log t hs)) whole ∙ sure_there t (since start ((all ++ xs) ++ h ∷ [])) (since start ys) it.some;
-      down = down_then pair start.packet st j kept.0 before between after (quiet down).1 log kept.1 it.down;
+      down = down_then pair start st j kept.0 before between after (quiet down).1 log kept.1 it.down;
     }
 
 -- of several, each at its packet of the capture

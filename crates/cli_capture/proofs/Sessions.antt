@@ -34,8 +34,8 @@ use Rattle.cli_capture.specs.declared.report.OutputMode.{OutputMode}
 use Rattle.cli_capture.specs.declared.report.OutputMode.TheVariants.{Log, Verdicts}
 use Rattle.cli_capture.specs.declared.report.Report.{Report}
 use Rattle.cli_capture.specs.declared.pending_requests.Said.{Said}
-use Rattle.cli_capture.specs.declared.incomplete.Shortfall.{Shortfall}
-use Rattle.cli_capture.specs.declared.incomplete.Shortfall.TheVariants as lacks
+use Rattle.capture_errors.specs.declared.incomplete.Shortfall.{Shortfall}
+use Rattle.capture_errors.specs.declared.incomplete.Shortfall.TheVariants as lacks
 use Rattle.cli_capture.specs.ConnectionLog.{and_course, and_logged}
 use Rattle.cli_capture.specs.LogOutput.{OnPage, Page, page_of}
 use Rattle.cli_capture.specs.OutputMode.{Way, to_log, to_verdicts}

@@ -17,7 +17,7 @@ use Rattle.capture_tcp.specs.Laws.{AreNumbered}
 use Rattle.cli_capture.specs.declared.tracked_connection.Flow.{Flow}
 use Rattle.cli_capture.specs.declared.tracked_connection.ConnectionState.{ConnectionState}
 use Rattle.cli_capture.specs.declared.report.Report.{Report}
-use Rattle.cli_capture.specs.declared.incomplete.Shortfall.{Shortfall}
+use Rattle.capture_errors.specs.declared.incomplete.Shortfall.{Shortfall}
 use Rattle.cli_capture.specs.declared.connection_table.Capture.{Capture}
 use Rattle.cli_capture.specs.declared.connection_table.Table.{Table}
 use Rattle.cli_capture.specs.declared.midstream_connection.Within.{Within}

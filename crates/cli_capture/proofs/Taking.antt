@@ -120,7 +120,7 @@ never_takes (Ok done) pair x ends mid left old new begins is of = never_none old
 never_takes (Err fault) pair x ends mid left old new begins is of = tt
 
 pub takes_in_log : {T E : Type 0} (result : Result T E) (pair : Pair) (x : Item) (note : Note) (ends left : Option (Box BothLogs Global)) (j next : WrittenLog) (text : Text)
-    (old new : Report) → old.manner ≡ Log j → new ≡ record old { manner = Log next; page = text } → OnOk result (MayBeLogged j.begun pair x)
+    (old new : Report) → old.manner ≡ Log j → new ≡ record old { manner = Log next; page = text } → OnOk result (MayBeLogged j.begun j.time pair x)
     → IsNote j.time j.side x note → OnOk result (text.octets ≡ (old.page.octets ++ front_at j.begun j.settings x) ++ note_text note)
     → OnOk result (next.begun ≡ begun_at j.begun pair x) → OnOk result (next.time ≡ time_behind j.time x) → (next.settings ≡ j.settings) × (next.side ≡ j.side)
     → OnOk result (TakesItems pair progress.Proceeds (x ∷ []) ends old left new)

@@ -6,18 +6,18 @@ use Rattle.std.proofs.lemmas.Grind.{flat_map-append}
 use Rattle.hsms_frame.specs.Io.{Grows}
 use Rattle.hsms_machine.specs.Settings.{Parameters}
 use Rattle.hsms_machine.specs.declared.settings.Role.{Role}
-use Rattle.cli_options.specs.declared.fault.ToolFault.{ToolFault}
+use Rattle.capture_errors.specs.declared.capture_error.CaptureError.{CaptureError}
 use Rattle.capture_log.specs.declared.both_logs.BothLogs.{BothLogs}
 use Rattle.capture_log.specs.declared.written_log.WrittenLog.{WrittenLog}
 use Rattle.capture_log.specs.declared.socket_pair.Pair.{Pair}
 use Rattle.capture_log.specs.declared.byte_buffer.Text.{Text}
 use Rattle.cli_capture.specs.declared.report.OutputMode.TheVariants.{Verdicts, Log}
 use Rattle.cli_capture.specs.declared.report.Report.{Report}
-use Rattle.cli_capture.specs.declared.incomplete.Shortfall.{Shortfall}
+use Rattle.capture_errors.specs.declared.incomplete.Shortfall.{Shortfall}
 use Rattle.capture_log.specs.declared.stop.Stop.{Stop}
 use Rattle.cli_capture.specs.Command.{CapturesTo}
 use Rattle.cli_capture.specs.SkippedPackets.{line_of}
-use Rattle.cli_capture.specs.StopError.{IsRefusal}
+use Rattle.capture_errors.specs.Errors.{IsRefusal}
 use Rattle.cli_capture.specs.InnerStopError.{IsRefused}
 use Rattle.cli_capture.specs.Report.{Answers, Found, HasEmitted, LogOutputState, failed_after, found_after, found_behind, found_of, found_with, lines_of, missing_after, nothing_found, telling_lines}
 use Rattle.cli_capture.specs.InnerReport.{Concludes, EndsWith, Finishes, IsReported, Emits, TellsBehind, TellsBy, TellsVerdicts, Writes}
@@ -251,7 +251,7 @@ concludes_told missing old noted mid new (Ok well) is emits answers page = tt
 concludes_told missing old noted mid new (Err stop) is emits answers page = λ refused.
     concludes_so missing old noted mid new (Err stop) is emits answers (page refused)
 
-pub ends_with : (missing : Option Shortfall) (old mid : Report) (before after : Option (List ℕ)) (ended : Result Bool Stop) (result : Result Bool ToolFault)
+pub ends_with : (missing : Option Shortfall) (old mid : Report) (before after : Option (List ℕ)) (ended : Result Bool Stop) (result : Result Bool CaptureError)
     → Concludes missing old mid ended → ((found : Found) → Finishes found ended → Answers found result) → Grows before after mid.page.octets
     → EndsWith missing old before after result
 ends_with missing old mid before after ended result concludes answers grows = λ verdicts empty.
@@ -265,7 +265,7 @@ ends_with missing old mid before after ended result concludes answers grows = λ
 
 -- the lines of both parts, and the answer
 captures_so : (active passive : Parameters) (is_reported : Type 0) (missing : Option Shortfall) (first mid : Report)
-    → (before between after : Option (List ℕ)) (result : Result Bool ToolFault) → (is_reported → first.manner ≡ Verdicts)
+    → (before between after : Option (List ℕ)) (result : Result Bool CaptureError) → (is_reported → first.manner ≡ Verdicts)
     → first.active ≡ active → first.passive ≡ passive → found_of first ≡ nothing_found → first.page.octets ≡ []
     → Writes first before mid between → EndsWith missing mid between after result
     → is_reported → CapturesTo active.role passive.role before after result
@@ -295,7 +295,7 @@ captures_so active passive is_reported missing first mid before between after re
     )
 
 pub captures : (active passive : Parameters) (is_reported : Type 0) (missing : Option Shortfall) (first mid : Report)
-    → (before between after : Option (List ℕ)) (result : Result Bool ToolFault) → (is_reported → first.manner ≡ Verdicts)
+    → (before between after : Option (List ℕ)) (result : Result Bool CaptureError) → (is_reported → first.manner ≡ Verdicts)
     → first.active ≡ active → first.passive ≡ passive → found_of first ≡ nothing_found → first.page.octets ≡ []
     → Writes first before mid between → IfOk result (λ well. EndsWith missing mid between after (Ok well))
     → IfOk result (λ well. is_reported → CapturesTo active.role passive.role before after (Ok well))
@@ -305,7 +305,7 @@ captures active passive is_reported missing first mid before between after (Err 
 
 -- the same where that is refused
 pub captures_told : (active passive : Parameters) (is_reported : Type 0) (missing : Option Shortfall) (first mid : Report)
-    → (before between after : Option (List ℕ)) (result : Result Bool ToolFault) → (is_reported → first.manner ≡ Verdicts)
+    → (before between after : Option (List ℕ)) (result : Result Bool CaptureError) → (is_reported → first.manner ≡ Verdicts)
     → first.active ≡ active → first.passive ≡ passive → found_of first ≡ nothing_found → first.page.octets ≡ []
     → Writes first before mid between → IfErr result (λ fault. IsRefusal fault → EndsWith missing mid between after (Err fault))
     → IfErr result (λ fault. IsRefusal fault → is_reported → CapturesTo active.role passive.role before after (Err fault))

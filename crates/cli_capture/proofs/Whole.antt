@@ -4,7 +4,7 @@ use Rattle.std.proofs.lemmas.List.{append-nil}
 use Rattle.std.specs.Prelude.{IfOk, OnOk, Result, Ok, Err, is_some}
 use Rattle.hsms_frame.specs.Io.{Grows, IfRecorded}
 use Rattle.cli_options.specs.declared.capture_options.Capturing.{Capturing}
-use Rattle.cli_options.specs.declared.fault.ToolFault.{ToolFault}
+use Rattle.capture_errors.specs.declared.capture_error.CaptureError.{CaptureError}
 use Rattle.capture_pcap.specs.declared.fault.FileFault.{FileFault}
 use Rattle.capture_pcap.specs.declared.fault.FileFault.TheVariants as file
 use Rattle.capture_pcap.specs.declared.next_block.Record.{Record}
@@ -22,7 +22,7 @@ use Rattle.capture_pcap.specs.Segment.{segment_at}
 use Rattle.capture_log.specs.declared.stop.Stop.{Stop}
 use Rattle.cli_capture.specs.declared.report.OutputMode.{OutputMode}
 use Rattle.cli_capture.specs.declared.report.Report.{Report}
-use Rattle.cli_capture.specs.declared.incomplete.Shortfall.{Shortfall}
+use Rattle.capture_errors.specs.declared.incomplete.Shortfall.{Shortfall}
 use Rattle.cli_capture.specs.declared.connection_table.Capture.{Capture}
 use Rattle.cli_capture.specs.declared.connection_table.Table.{Table}
 use Rattle.cli_capture.specs.InnerCommand.{IsMissingBy}
@@ -360,7 +360,7 @@ of_blank w report is = record { manner_is = begins_tells w.way report.manner is.
 
 -- the file was opened
 pub captures_opened : (options : Capturing) (reading : Reading) (missing : Option Shortfall) (first last : Report) (table end : Table) (from left : Option (List ℕ))
-    (out put now : Option (List ℕ)) (result : Result Bool ToolFault) → IsBlank (wanted_of options) first
+    (out put now : Option (List ℕ)) (result : Result Bool CaptureError) → IsBlank (wanted_of options) first
     → (table.port ≡ options.port) × (table.peer ≡ options.peer) × (table.is_joined ≡ options.joined) → (table.flows.entries ≡ []) × (table.begun ≡ 0)
     → IfRecorded from (λ input. OpensAs input (Ok reading) left) → reading.state.packets ≡ 0 → ReadsAsDealt reading missing left table end first last out put
     → (TellsTo (way_of options) last.manner → FinishesAsDealt missing end last put now result)
@@ -385,7 +385,7 @@ captures_opened options reading missing first last table end from left out put n
 
 -- or it has no packet
 pub captures_none : (options : Capturing) (fault : FileFault) (shortfall : Shortfall) (first : Report) (table : Table) (from left : Option (List ℕ)) (out now : Option (List ℕ))
-    (result : Result Bool ToolFault) → IsBlank (wanted_of options) first
+    (result : Result Bool CaptureError) → IsBlank (wanted_of options) first
     → (table.port ≡ options.port) × (table.peer ≡ options.peer) × (table.is_joined ≡ options.joined) → (table.flows.entries ≡ []) × (table.begun ≡ 0)
     → IfRecorded from (λ input. OpensAs input (Err fault) left) → IsMissingBy fault 0 (Ok shortfall)
     → (TellsTo (way_of options) first.manner → FinishesAsDealt (Some shortfall) table first out now result)

@@ -26,7 +26,7 @@ use Rattle.capture_log.specs.declared.socket_pair.Pair.{Pair}
 use Rattle.cli_capture.specs.declared.progress.Progress.{Progress}
 use Rattle.cli_capture.specs.declared.progress.Progress.TheVariants as progress
 use Rattle.cli_capture.specs.declared.report.Report.{Report}
-use Rattle.cli_capture.specs.declared.incomplete.Shortfall.{Shortfall}
+use Rattle.capture_errors.specs.declared.incomplete.Shortfall.{Shortfall}
 use Rattle.cli_capture.specs.Progress.{course_behind, lack_behind}
 use Rattle.cli_capture.specs.Report.{HasEmitted, LogOutputState}
 

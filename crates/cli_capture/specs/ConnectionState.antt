@@ -6,8 +6,8 @@ use Rattle.capture_tcp.specs.TcpStreams.{End, active, passive, same_end, Cell, s
 use Rattle.capture_tcp.specs.KnownStreams.{bases}
 use Rattle.capture_log.specs.declared.socket_pair.Pair.{Pair}
 use Rattle.cli_capture.specs.declared.report.Report.{Report}
-use Rattle.cli_capture.specs.declared.incomplete.Shortfall.{Shortfall}
-use Rattle.cli_capture.specs.declared.incomplete.Shortfall.TheVariants.{Lost}
+use Rattle.capture_errors.specs.declared.incomplete.Shortfall.{Shortfall}
+use Rattle.capture_errors.specs.declared.incomplete.Shortfall.TheVariants.{Lost}
 use Rattle.cli_capture.specs.ConnectionLog.{ToldForGood, ToldOf}
 use Rattle.cli_capture.specs.TrackedConnection.{GivesUp, WhenTold}
 

@@ -21,8 +21,8 @@ use Rattle.capture_log.specs.contracts.socket_pair.PairPartialEq.TheImpl as same
 use Rattle.cli_capture.specs.declared.report.OutputMode.{OutputMode}
 use Rattle.cli_capture.specs.declared.report.OutputMode.TheVariants.{Log, Verdicts}
 use Rattle.cli_capture.specs.declared.report.Report.{Report}
-use Rattle.cli_capture.specs.declared.incomplete.Shortfall.{Shortfall}
-use Rattle.cli_capture.specs.declared.incomplete.Shortfall.TheVariants.{Time}
+use Rattle.capture_errors.specs.declared.incomplete.Shortfall.{Shortfall}
+use Rattle.capture_errors.specs.declared.incomplete.Shortfall.TheVariants.{Time}
 use Rattle.cli_capture.specs.Segments.{IsPairAt, has_rst, syn_by, taken_segment}
 use Rattle.cli_capture.specs.TrackedConnection.{MayTellMore}
 use Rattle.cli_capture.specs.MidstreamLog.{most_by}

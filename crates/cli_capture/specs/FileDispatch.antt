@@ -3,7 +3,7 @@ use Rattle.std.specs.Prelude.{◌≡◌, ◌⊎◌, ◌+◌, ◌-◌, ◌^◌, �
 use Rattle.std.specs.declared.net.ip_addr.IpAddr.{IpAddr}
 use Rattle.hsms_frame.specs.Io.{Grows}
 use Rattle.hsms_machine.specs.Settings.{Parameters}
-use Rattle.cli_options.specs.declared.fault.ToolFault.{ToolFault}
+use Rattle.capture_errors.specs.declared.capture_error.CaptureError.{CaptureError}
 use Rattle.capture_pcap.specs.declared.fault.FileFault.TheVariants as stop
 use Rattle.capture_pcap.specs.declared.segment.Shown.{Shown}
 use Rattle.capture_pcap.specs.declared.segment.Shown.TheVariants as shown
@@ -12,8 +12,8 @@ use Rattle.capture_pcap.specs.Segment.{segment_at}
 use Rattle.cli_capture.specs.declared.report.OutputMode.{OutputMode}
 use Rattle.cli_capture.specs.declared.report.OutputMode.TheVariants.{Log, Verdicts}
 use Rattle.cli_capture.specs.declared.report.Report.{Report}
-use Rattle.cli_capture.specs.declared.incomplete.Shortfall.{Shortfall}
-use Rattle.cli_capture.specs.declared.incomplete.Shortfall.TheVariants as lacks
+use Rattle.capture_errors.specs.declared.incomplete.Shortfall.{Shortfall}
+use Rattle.capture_errors.specs.declared.incomplete.Shortfall.TheVariants as lacks
 use Rattle.cli_capture.specs.Connections.{Connections, DealsPacket, EndsAll}
 use Rattle.cli_capture.specs.SkippedPackets.{left_out_after, line_of, none_left_out}
 use Rattle.cli_capture.specs.Report.{Answers, found_of, missing_after, nothing_found}
@@ -94,7 +94,7 @@ pub record IsBlank (w : Wanted) (report : Report) : Type 0 where
   pub page : report.page.octets ≡ []
 
 -- what is left of each connection is told, and which packets were left out; and what is answered is so by what was found
-pub record Concluded (w : Wanted) (missing : Option Shortfall) (all : Connections) (before : Report) (out now : Option (List ℕ)) (result : Result Bool ToolFault) : Type 0 where
+pub record Concluded (w : Wanted) (missing : Option Shortfall) (all : Connections) (before : Report) (out now : Option (List ℕ)) (result : Result Bool CaptureError) : Type 0 where
   pub emitted : Report
   pub ends : EndsAll w.active w.passive missing all.known (record before { shortfall = missing_after before.shortfall missing }) emitted
   pub written : Grows out now (emitted.page.octets ++ line_of emitted.left_out)
@@ -102,7 +102,7 @@ pub record Concluded (w : Wanted) (missing : Option Shortfall) (all : Connection
 
 -- Holds if the output and the result are those of a file: its packets are dispatched to connections, one by one. What the
 -- packets of a connection show is written once it is final, or at the end.
-pub record CapturesFile (w : Wanted) (input : List ℕ) (out now : Option (List ℕ)) (result : Result Bool ToolFault) : Type 0 where
+pub record CapturesFile (w : Wanted) (input : List ℕ) (out now : Option (List ℕ)) (result : Result Bool CaptureError) : Type 0 where
   pub packets : List Packet
   pub ending : Ending
   pub missing : Option Shortfall

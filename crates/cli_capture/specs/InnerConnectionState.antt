@@ -17,7 +17,7 @@ use Rattle.cli_capture.specs.declared.tracked_connection.ConnectionState.TheVari
 use Rattle.cli_capture.specs.declared.tracked_connection.Waiting.{Waiting}
 use Rattle.cli_capture.specs.declared.report.OutputMode.TheVariants.{Verdicts}
 use Rattle.cli_capture.specs.declared.report.Report.{Report}
-use Rattle.cli_capture.specs.declared.incomplete.Shortfall.{Shortfall}
+use Rattle.capture_errors.specs.declared.incomplete.Shortfall.{Shortfall}
 use Rattle.cli_capture.specs.InnerTrackedConnection.{IsFollowed, seen_waiting}
 use Rattle.cli_capture.specs.ConnectionState.{is_number, answered_by, first_shown, ToldUnanswered, OverBy, EndsBy}
 

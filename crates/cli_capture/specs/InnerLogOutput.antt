@@ -22,7 +22,7 @@ use Rattle.cli_capture.specs.declared.tracked_connection.ConnectionState.{Connec
 use Rattle.cli_capture.specs.declared.tracked_connection.ConnectionState.TheVariants as stage
 use Rattle.cli_capture.specs.declared.report.OutputMode.TheVariants.{Log}
 use Rattle.cli_capture.specs.declared.report.Report.{Report}
-use Rattle.cli_capture.specs.declared.incomplete.Shortfall.{Shortfall}
+use Rattle.capture_errors.specs.declared.incomplete.Shortfall.{Shortfall}
 use Rattle.cli_capture.specs.ConnectionLog.{clock_of, entries_logged}
 use Rattle.cli_capture.specs.TrackedConnection.{came_up_by, course_by_events, logged_by}
 use Rattle.cli_capture.specs.InnerTrackedConnection.{seen_waiting, times}

@@ -20,7 +20,7 @@ use Rattle.cli_capture.specs.declared.tracked_connection.ConnectionState.{Connec
 use Rattle.cli_capture.specs.declared.tracked_connection.ConnectionState.TheVariants.{Over}
 use Rattle.cli_capture.specs.declared.report.OutputMode.TheVariants.{Log}
 use Rattle.cli_capture.specs.declared.report.Report.{Report}
-use Rattle.cli_capture.specs.declared.incomplete.Shortfall.{Shortfall}
+use Rattle.capture_errors.specs.declared.incomplete.Shortfall.{Shortfall}
 use Rattle.cli_capture.specs.Progress.{lack_behind}
 use Rattle.cli_capture.specs.TrackedConnection.{course_by_events}
 use Rattle.cli_capture.specs.InnerTrackedConnection.{times}

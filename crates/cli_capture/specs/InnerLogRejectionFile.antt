@@ -3,7 +3,7 @@ use Rattle.std.specs.Prelude.{◌≡◌, ◌⊎◌, ◌<◌, ◌+◌, ◌^◌, �
 use Rattle.std.specs.declared.net.ip_addr.IpAddr.{IpAddr}
 use Rattle.hsms_frame.specs.Io.{IfRecorded}
 use Rattle.hsms_machine.specs.Settings.{Parameters}
-use Rattle.cli_options.specs.declared.fault.ToolFault.{ToolFault}
+use Rattle.capture_errors.specs.declared.capture_error.CaptureError.{CaptureError}
 use Rattle.capture_pcap.specs.declared.next_block.Record.{Record}
 use Rattle.capture_pcap.specs.declared.segment.Segment.{Segment}
 use Rattle.capture_pcap.specs.BlockReader.{Reading, ReadsOn}
@@ -11,7 +11,7 @@ use Rattle.capture_pcap.specs.File.{Packet, Ending}
 use Rattle.capture_pcap.specs.Segment.{segment_at}
 use Rattle.capture_log.specs.declared.stop.Stop.{Stop}
 use Rattle.cli_capture.specs.declared.report.Report.{Report}
-use Rattle.cli_capture.specs.declared.incomplete.Shortfall.{Shortfall}
+use Rattle.capture_errors.specs.declared.incomplete.Shortfall.{Shortfall}
 use Rattle.cli_capture.specs.declared.connection_table.Capture.{Capture}
 use Rattle.cli_capture.specs.declared.connection_table.Table.{Table}
 use Rattle.cli_capture.specs.Connections.{Connections}
@@ -20,7 +20,7 @@ use Rattle.cli_capture.specs.OutputMode.{Way}
 use Rattle.cli_capture.specs.InnerOutputMode.{IsReport}
 use Rattle.cli_capture.specs.InnerTableInvariant.{ConcludesAsDealt, FinishesAsDealt, IsReportOf, IsTable, IsTableOf, captured_of}
 use Rattle.cli_capture.specs.Report.{missing_after}
-use Rattle.cli_capture.specs.StopError.{IsRefusal}
+use Rattle.capture_errors.specs.Errors.{IsRefusal}
 use Rattle.cli_capture.specs.InnerStopError.{IsRefused}
 use Rattle.cli_capture.specs.LogRejectionFile.{DealsPacketRefused, EndsAllRefused, ShownRefused, IsWritten, StopsAt}
 
@@ -43,12 +43,12 @@ ShowsAsRefused packet r octets table st before after =
     → ShownRefused (segment_at r.link octets) w packet r.time octets all st before after
 
 -- and it is written what was on the page
-abbrev pub PutsAsRefused : ℕ → Record → List ℕ → Table → Report → Option (List ℕ) → Option (List ℕ) → ToolFault → Type 0
+abbrev pub PutsAsRefused : ℕ → Record → List ℕ → Table → Report → Option (List ℕ) → Option (List ℕ) → CaptureError → Type 0
 PutsAsRefused packet r octets table before out now fault =
     IsRefusal fault → (w : Wanted) (last : ℕ) (all : Connections) → IsReportOf w before → last < packet → packet + 3 < 2 ^ 64 → IsTableOf w last table all
     → (st : Stop) × (emitted : Report) × ShownRefused (segment_at r.link octets) w packet r.time octets all st before emitted × IsWritten st emitted out now fault
 
-unfoldable pub ReadsAsRefused : Reading → Option (List ℕ) → Table → Report → Option (List ℕ) → Option (List ℕ) → ToolFault → Type 0
+unfoldable pub ReadsAsRefused : Reading → Option (List ℕ) → Table → Report → Option (List ℕ) → Option (List ℕ) → CaptureError → Type 0
 ReadsAsRefused reading left table before out now fault =
     IsRefusal fault → (w : Wanted) (all : Connections) → reading.state.packets ≡ 0 → IsReportOf w before → IsTableOf w 0 table all
     → IfRecorded left (λ input. (packets : List Packet) × (ending : Ending) × ReadsOn reading input packets ending × StopsAt w packets all before out now fault)
@@ -60,7 +60,7 @@ ConcludesAsRefused missing table before after st =
     ⊎ ((w : Wanted) (last : ℕ) (all : Connections) → IsReportOf w before → IsTableOf w last table all
     → EndsAllRefused w.active w.passive missing all.known st (record before { shortfall = missing_after before.shortfall missing }) after)
 
-abbrev pub FinishesAsRefused : Option Shortfall → Table → Report → Option (List ℕ) → Option (List ℕ) → ToolFault → Type 0
+abbrev pub FinishesAsRefused : Option Shortfall → Table → Report → Option (List ℕ) → Option (List ℕ) → CaptureError → Type 0
 FinishesAsRefused missing table before out now fault =
     IsRefusal fault → FinishesAsDealt missing table before out now (Err fault)
     ⊎ ((w : Wanted) (last : ℕ) (all : Connections) → IsReportOf w before → IsTableOf w last table all → (st : Stop) × (emitted : Report)

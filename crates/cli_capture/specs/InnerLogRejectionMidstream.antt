@@ -23,7 +23,7 @@ use Rattle.cli_capture.specs.declared.midstream_log.Joined.{Joined}
 use Rattle.cli_capture.specs.declared.midstream_log.Part.{Part}
 use Rattle.cli_capture.specs.declared.midstream_log.Part.TheVariants.{Message}
 use Rattle.cli_capture.specs.declared.report.Report.{Report}
-use Rattle.cli_capture.specs.declared.incomplete.Shortfall.{Shortfall}
+use Rattle.capture_errors.specs.declared.incomplete.Shortfall.{Shortfall}
 use Rattle.cli_capture.specs.declared.midstream_connection.Within.{Within}
 use Rattle.cli_capture.specs.TrackedConnection.{came_up_by, is_up_event}
 use Rattle.cli_capture.specs.MidstreamLog.{IsTelling, IsWaiting, JoinedStands, most_by, spoken_behind, terms_by}
@@ -40,17 +40,17 @@ use Rattle.cli_capture.specs.OutputMode.{Way}
 use Rattle.cli_capture.specs.InnerOutputMode.{IsReport}
 use Rattle.cli_capture.specs.LogRejectionMidstream.{StaysDown, LogRefused, SessionRefused, IsRefusedWith, ThroughRefused}
 
-abbrev pub CantComeUp : Pair → ℕ → Stop → Report → Report → Type 0
-CantComeUp pair packet st old new = InLog st old (λ j. StaysDown pair packet st j old new)
+abbrev pub CantComeUp : Pair → Start → Stop → Report → Report → Type 0
+CantComeUp pair start st old new = InLog st old (λ j. StaysDown pair start st j old new)
 
 -- which it hadn't before
 abbrev pub ComesUpRefused : Pair → Joined → Stop → Report → Report → Type 0
-ComesUpRefused pair joined st old new = InLog st old (λ j. (joined.is_up ≡ false) × StaysDown pair joined.start.packet st j old new)
+ComesUpRefused pair joined st old new = InLog st old (λ j. (joined.is_up ≡ false) × StaysDown pair joined.start st j old new)
 
 -- with a message that is told
 abbrev pub PartRefused : Pair → Part → TimedEvent → Joined → Stop → Report → Report → Type 0
 PartRefused pair part h joined st old new =
-    InLog st old (λ j. is_up_event h.event ≡ false → (part ≡ Message) × (joined.is_up ≡ false) × StaysDown pair joined.start.packet st j old new)
+    InLog st old (λ j. is_up_event h.event ≡ false → (part ≡ Message) × (joined.is_up ≡ false) × StaysDown pair joined.start st j old new)
 
 -- of several that happen, by what stood before
 abbrev pub TellsRefused : Pair → List TimedEvent → Joined → Stop → Report → Report → Type 0

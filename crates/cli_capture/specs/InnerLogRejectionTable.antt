@@ -7,7 +7,7 @@ use Rattle.capture_log.specs.declared.socket_pair.Pair.{Pair}
 use Rattle.capture_log.specs.declared.stop.Stop.{Stop}
 use Rattle.cli_capture.specs.declared.tracked_connection.Flow.{Flow}
 use Rattle.cli_capture.specs.declared.report.Report.{Report}
-use Rattle.cli_capture.specs.declared.incomplete.Shortfall.{Shortfall}
+use Rattle.capture_errors.specs.declared.incomplete.Shortfall.{Shortfall}
 use Rattle.cli_capture.specs.declared.connection_table.Capture.{Capture}
 use Rattle.cli_capture.specs.declared.connection_table.Table.{Table}
 use Rattle.cli_capture.specs.InnerLogRejection.{EndsRefused, TakesRefused}

@@ -22,8 +22,8 @@ use Rattle.cli_capture.specs.declared.midstream_log.Part.{Part}
 use Rattle.cli_capture.specs.declared.midstream_log.Part.TheVariants as part
 use Rattle.cli_capture.specs.declared.report.OutputMode.TheVariants.{Log, Verdicts}
 use Rattle.cli_capture.specs.declared.report.Report.{Report}
-use Rattle.cli_capture.specs.declared.incomplete.Shortfall.{Shortfall}
-use Rattle.cli_capture.specs.declared.incomplete.Shortfall.TheVariants.{Length}
+use Rattle.capture_errors.specs.declared.incomplete.Shortfall.{Shortfall}
+use Rattle.capture_errors.specs.declared.incomplete.Shortfall.TheVariants.{Length}
 use Rattle.cli_capture.specs.OutputMode.{Way, to_verdicts}
 use Rattle.cli_capture.specs.InnerOutputMode.{IsReport}
 use Rattle.cli_capture.specs.TrackedConnection.{came_up_by, course_by_events, is_up_event, logged_by}

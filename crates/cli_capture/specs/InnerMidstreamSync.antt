@@ -16,7 +16,7 @@ use Rattle.cli_capture.specs.declared.tracked_connection.ConnectionState.TheVari
 use Rattle.cli_capture.specs.declared.midstream_sync.Joining.{Joining}
 use Rattle.cli_capture.specs.declared.midstream_sync.Joining.TheVariants as joining
 use Rattle.cli_capture.specs.declared.report.Report.{Report}
-use Rattle.cli_capture.specs.declared.incomplete.Shortfall.{Shortfall}
+use Rattle.capture_errors.specs.declared.incomplete.Shortfall.{Shortfall}
 use Rattle.cli_capture.specs.declared.midstream_connection.Within.{Within}
 use Rattle.cli_capture.specs.OutputMode.{Way}
 use Rattle.cli_capture.specs.InnerOutputMode.{IsReport}

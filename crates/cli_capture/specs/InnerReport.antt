@@ -1,13 +1,13 @@
 -- What only contracts of private functions use, besides the definitions of `Report`.
-use Rattle.std.specs.Prelude.{◌≡◌, ◌++◌, ℕ, [], Bool, false, Option, None, Some, List, Result, Ok, Err, string_bytes}
+use Rattle.std.specs.Prelude.{◌≡◌, ◌++◌, ℕ, [], Bool, Option, None, Some, List, Result, Ok, Err}
 use Rattle.hsms_frame.specs.Io.{Grows}
 use Rattle.hsms_machine.specs.declared.settings.Role.{Role}
 use Rattle.capture_tcp.specs.declared.packet.Side.{Side}
 use Rattle.capture_tcp.specs.declared.packet.Side.TheVariants.{Active, Passive}
 use Rattle.cli_capture.specs.SkippedPackets.{line_of}
-use Rattle.cli_capture.specs.StopError.{IsRefusal}
+use Rattle.capture_errors.specs.Errors.{IsRefusal}
 use Rattle.capture_log.specs.Stop.{IsNoRefusal}
-use Rattle.cli_options.specs.declared.fault.ToolFault.{ToolFault}
+use Rattle.capture_errors.specs.declared.capture_error.CaptureError.{CaptureError}
 use Rattle.capture_log.specs.declared.audited_log.LogVerdict.{LogVerdict}
 use Rattle.capture_log.specs.declared.both_logs.BothLogs.{BothLogs}
 use Rattle.capture_log.specs.declared.written_log.WrittenLog.{WrittenLog}
@@ -16,10 +16,10 @@ use Rattle.cli_capture.specs.declared.skipped_packets.LeftOut.{LeftOut}
 use Rattle.cli_capture.specs.declared.report.OutputMode.{OutputMode}
 use Rattle.cli_capture.specs.declared.report.OutputMode.TheVariants.{Verdicts, Log}
 use Rattle.cli_capture.specs.declared.report.Report.{Report}
-use Rattle.cli_capture.specs.declared.incomplete.Shortfall.{Shortfall}
+use Rattle.capture_errors.specs.declared.incomplete.Shortfall.{Shortfall}
 use Rattle.capture_log.specs.declared.stop.Stop.{Stop}
 use Rattle.capture_log.specs.declared.stop.Stop.TheVariants as stop
-use Rattle.cli_capture.specs.Report.{failed_after, IsVerdictOn, LogOutputState, telling_lines, Found, found_of, found_with, found_behind, AnswersWell, RefusesWith, Answers, lines_of, HasEmitted}
+use Rattle.cli_capture.specs.Report.{failed_after, IsVerdictOn, LogOutputState, telling_lines, Found, found_of, found_with, found_behind, outcome_of, Answers, lines_of, HasEmitted}
 
 -- the role of an end
 abbrev pub role_at : Report → Side → Role
@@ -46,8 +46,8 @@ TellsBy (Log journal) pair shortfall ends old new = (new.has_failed ≡ old.has_
 
 -- what is answered at the end: whether all is well, a refusal where no log fails, or want of memory
 abbrev pub Finishes : Found → Result Bool Stop → Type 0
-Finishes found (Ok well) = AnswersWell found well
-Finishes found (Err (stop.Refused words)) = (found.failed ≡ false) × RefusesWith found (string_bytes words)
+Finishes found (Ok well) = outcome_of found ≡ Ok well
+Finishes found (Err (stop.Refused rejection)) = outcome_of found ≡ Err rejection
 Finishes found (Err stop.Memory) = Unit {0}
 
 -- where verdicts are told, nothing is refused before the end
@@ -55,7 +55,7 @@ unfoldable pub StopsUnrefused : Report → Stop → Type 0
 StopsUnrefused report stop = report.manner ≡ Verdicts → IsNoRefusal stop
 
 -- as the command tells it
-unfoldable pub FailsUnrefused : Report → ToolFault → Type 0
+unfoldable pub FailsUnrefused : Report → CaptureError → Type 0
 FailsUnrefused report fault = report.manner ≡ Verdicts → IsRefusal fault → ⊥
 
 -- the log of an end that is told goes on, by the same settings
@@ -92,7 +92,7 @@ Concludes missing old new result =
     × Finishes (found_behind (found_with (found_of old) missing) tellings) result
 
 -- their lines were written
-abbrev pub EndsWith : Option Shortfall → Report → Option (List ℕ) → Option (List ℕ) → Result Bool ToolFault → Type 0
+abbrev pub EndsWith : Option Shortfall → Report → Option (List ℕ) → Option (List ℕ) → Result Bool CaptureError → Type 0
 EndsWith missing old before after result =
     old.manner ≡ Verdicts → old.page.octets ≡ [] → (tellings : List LogOutputState) × (left_out : LeftOut)
     × Grows before after (lines_of old.active.role old.passive.role tellings ++ line_of left_out)

@@ -4,5 +4,5 @@ use Rattle.capture_log.specs.declared.stop.Stop.TheVariants as stop
 
 -- what comes is refused
 abbrev pub IsRefused : Stop → Type 0
-IsRefused (stop.Refused words) = Unit {0}
+IsRefused (stop.Refused rejection) = Unit {0}
 IsRefused stop.Memory = ⊥

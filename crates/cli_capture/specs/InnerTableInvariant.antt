@@ -3,7 +3,7 @@ use Rattle.std.specs.Prelude.{◌≡◌, ◌≤◌, ◌<◌, ◌+◌, ◌^◌, �
 use Rattle.std.specs.declared.net.ip_addr.IpAddr.{IpAddr}
 use Rattle.hsms_machine.specs.Settings.{Parameters}
 use Rattle.hsms_frame.specs.Io.{IfRecorded}
-use Rattle.cli_options.specs.declared.fault.ToolFault.{ToolFault}
+use Rattle.capture_errors.specs.declared.capture_error.CaptureError.{CaptureError}
 use Rattle.capture_pcap.specs.declared.next_block.Record.{Record}
 use Rattle.capture_pcap.specs.declared.segment.Segment.{Segment}
 use Rattle.capture_pcap.specs.BlockReader.{Reading, ReadsOn}
@@ -17,7 +17,7 @@ use Rattle.cli_capture.specs.declared.tracked_connection.Open.{Open}
 use Rattle.cli_capture.specs.declared.tracked_connection.ConnectionState.{ConnectionState}
 use Rattle.cli_capture.specs.declared.tracked_connection.ConnectionState.TheVariants as stage
 use Rattle.cli_capture.specs.declared.report.Report.{Report}
-use Rattle.cli_capture.specs.declared.incomplete.Shortfall.{Shortfall}
+use Rattle.capture_errors.specs.declared.incomplete.Shortfall.{Shortfall}
 use Rattle.cli_capture.specs.declared.connection_table.Capture.{Capture}
 use Rattle.cli_capture.specs.declared.connection_table.Table.{Table}
 use Rattle.cli_capture.specs.declared.midstream_connection.Within.{Within}
@@ -132,6 +132,6 @@ ConcludesAsDealt missing table before after result =
     × (after.page.octets ≡ emitted.page.octets ++ line_of emitted.left_out) × Finishes (found_of emitted) result
 
 -- and written
-abbrev pub FinishesAsDealt : Option Shortfall → Table → Report → Option (List ℕ) → Option (List ℕ) → Result Bool ToolFault → Type 0
+abbrev pub FinishesAsDealt : Option Shortfall → Table → Report → Option (List ℕ) → Option (List ℕ) → Result Bool CaptureError → Type 0
 FinishesAsDealt missing table before out now result =
     (w : Wanted) (last : ℕ) (all : Connections) → IsReportOf w before → IsTableOf w last table all → Concluded w missing all before out now result

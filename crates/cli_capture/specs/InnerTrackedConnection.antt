@@ -31,8 +31,8 @@ use Rattle.cli_capture.specs.declared.tracked_connection.Open.{Open}
 use Rattle.cli_capture.specs.declared.tracked_connection.Waiting.{Waiting}
 use Rattle.cli_capture.specs.declared.report.OutputMode.TheVariants.{Verdicts}
 use Rattle.cli_capture.specs.declared.report.Report.{Report}
-use Rattle.cli_capture.specs.declared.incomplete.Shortfall.{Shortfall}
-use Rattle.cli_capture.specs.declared.incomplete.Shortfall.TheVariants as lacks
+use Rattle.capture_errors.specs.declared.incomplete.Shortfall.{Shortfall}
+use Rattle.capture_errors.specs.declared.incomplete.Shortfall.TheVariants as lacks
 use Rattle.cli_capture.specs.Progress.{lack_behind}
 use Rattle.cli_capture.specs.ConnectionLog.{ToldForGood, ToldOf, bare_resets}
 use Rattle.cli_capture.specs.TrackedConnection.{timed_by, came_up_by, logged_by, course_by_events, WhenTold, IsTooMuch, AllFit, GivesUp}

@@ -23,7 +23,7 @@ use Rattle.cli_capture.specs.declared.progress.Progress.TheVariants as progress
 use Rattle.cli_capture.specs.declared.tracked_connection.Open.{Open}
 use Rattle.cli_capture.specs.declared.report.OutputMode.TheVariants.{Log}
 use Rattle.cli_capture.specs.declared.report.Report.{Report}
-use Rattle.cli_capture.specs.declared.incomplete.Shortfall.{Shortfall}
+use Rattle.capture_errors.specs.declared.incomplete.Shortfall.{Shortfall}
 use Rattle.cli_capture.specs.Progress.{lack_behind}
 use Rattle.cli_capture.specs.ConnectionLog.{EntryIs, bare_resets, came_up, clock_of, course_by, entries_logged, lack_by}
 use Rattle.cli_capture.specs.TrackedConnection.{AllFit, came_up_by, course_by_events}

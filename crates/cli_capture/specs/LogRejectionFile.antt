@@ -3,7 +3,7 @@ use Rattle.std.specs.Prelude.{◌≡◌, ◌⊎◌, ◌++◌, ◌∷◌, ℕ, Li
 use Rattle.std.specs.declared.net.ip_addr.IpAddr.{IpAddr}
 use Rattle.hsms_frame.specs.Io.{Grows}
 use Rattle.hsms_machine.specs.Settings.{Parameters}
-use Rattle.cli_options.specs.declared.fault.ToolFault.{ToolFault}
+use Rattle.capture_errors.specs.declared.capture_error.CaptureError.{CaptureError}
 use Rattle.capture_pcap.specs.declared.segment.Segment.{Segment}
 use Rattle.capture_pcap.specs.declared.segment.Shown.{Shown}
 use Rattle.capture_pcap.specs.declared.segment.Shown.TheVariants as shown
@@ -22,7 +22,7 @@ use Rattle.capture_log.specs.declared.socket_pair.Pair.{Pair}
 use Rattle.capture_log.specs.declared.stop.Stop.{Stop}
 use Rattle.cli_capture.specs.declared.report.OutputMode.TheVariants.{Log}
 use Rattle.cli_capture.specs.declared.report.Report.{Report}
-use Rattle.cli_capture.specs.declared.incomplete.Shortfall.{Shortfall}
+use Rattle.capture_errors.specs.declared.incomplete.Shortfall.{Shortfall}
 use Rattle.cli_capture.specs.Connections.{BeginsBoth, Captured, Connection, Connections, EndsAll, HasOne, IsOpen, IsReplaced, Starts, StartsAny, StartsOne, Packets, Session, brought_at, connection_of, buffered, of_session, of_syn, without}
 use Rattle.cli_capture.specs.FileDispatch.{CapturesFile, DealsEach, DealsUpTo, IsBlank, Wanted, none_yet}
 use Rattle.cli_capture.specs.OutputMode.{Way, to_log, to_verdicts}
@@ -35,7 +35,7 @@ use Rattle.cli_capture.specs.MidstreamConnection.{Brought, Happens, counting, la
 use Rattle.cli_capture.specs.Assumptions.{whole_log}
 use Rattle.cli_capture.specs.Segments.{IsPairAt, body_in}
 use Rattle.cli_capture.specs.ConnectionState.{answered_by}
-use Rattle.cli_capture.specs.StopError.{TellsStop}
+use Rattle.cli_capture.specs.StopError.{error_of}
 use Rattle.cli_capture.specs.ConnectionTable.{HasTime}
 
 -- ---- a connection by its packets
@@ -139,12 +139,12 @@ abbrev pub OneRefused : Wanted → Packet → Connections → Stop → Report �
 OneRefused w p all st before after = ShownRefused (segment_at p.link p.octets) w p.number p.time p.octets all st before after
 
 -- the words of a refusal, and what was written: what was on the page then
-pub record IsWritten (st : Stop) (emitted : Report) (out now : Option (List ℕ)) (fault : ToolFault) : Type 0 where
+pub record IsWritten (st : Stop) (emitted : Report) (out now : Option (List ℕ)) (fault : CaptureError) : Type 0 where
   pub written : Grows out now emitted.page.octets
-  pub says : TellsStop st fault
+  pub says : fault ≡ error_of st
 
 -- those before it were dealt, and what was told with them is written
-pub record StopsAt (w : Wanted) (packets : List Packet) (all : Connections) (before : Report) (out now : Option (List ℕ)) (fault : ToolFault) : Type 0 where
+pub record StopsAt (w : Wanted) (packets : List Packet) (all : Connections) (before : Report) (out now : Option (List ℕ)) (fault : CaptureError) : Type 0 where
   pub front : List Packet
   pub p : Packet
   pub rest : List Packet
@@ -161,7 +161,7 @@ pub record StopsAt (w : Wanted) (packets : List Packet) (all : Connections) (bef
 -- ---- the whole of it
 
 -- it is refused with a packet
-pub record RefusesPacket (w : Wanted) (input : List ℕ) (out now : Option (List ℕ)) (fault : ToolFault) : Type 0 where
+pub record RefusesPacket (w : Wanted) (input : List ℕ) (out now : Option (List ℕ)) (fault : CaptureError) : Type 0 where
   pub packets : List Packet
   pub ending : Ending
   pub first : Report
@@ -170,7 +170,7 @@ pub record RefusesPacket (w : Wanted) (input : List ℕ) (out now : Option (List
   pub stops : StopsAt w packets (none_yet w) first out now fault
 
 -- it is refused since a connection that is left lacks something
-pub record RefusesLeft (w : Wanted) (input : List ℕ) (out now : Option (List ℕ)) (fault : ToolFault) : Type 0 where
+pub record RefusesLeft (w : Wanted) (input : List ℕ) (out now : Option (List ℕ)) (fault : CaptureError) : Type 0 where
   pub packets : List Packet
   pub ending : Ending
   pub missing : Option Shortfall
@@ -187,11 +187,11 @@ pub record RefusesLeft (w : Wanted) (input : List ℕ) (out now : Option (List �
   pub is_written : IsWritten st emitted put now fault
 
 -- Where verdicts are told, only at the end: by what was found. Where the log of an end is, as well by what can't go on there.
-abbrev pub RefusesBy : Way → Wanted → List ℕ → Option (List ℕ) → Option (List ℕ) → ToolFault → Type 0
+abbrev pub RefusesBy : Way → Wanted → List ℕ → Option (List ℕ) → Option (List ℕ) → CaptureError → Type 0
 RefusesBy to_verdicts w input out now fault = CapturesFile w input out now (Err fault)
 RefusesBy (to_log settings side) w input out now fault =
     CapturesFile w input out now (Err fault) ⊎ RefusesPacket w input out now fault ⊎ RefusesLeft w input out now fault
 
 -- holds if the capture is rejected: by the file, or with a log by a packet or a connection left at the end
-abbrev pub RefusesFile : Wanted → List ℕ → Option (List ℕ) → Option (List ℕ) → ToolFault → Type 0
+abbrev pub RefusesFile : Wanted → List ℕ → Option (List ℕ) → Option (List ℕ) → CaptureError → Type 0
 RefusesFile w input out now fault = RefusesBy w.way w input out now fault

@@ -2,15 +2,15 @@
 use Rattle.std.specs.Prelude.{◌≡◌, ◌⊎◌, ◌++◌, ◌∷◌, ℕ, true, List, [], Option, Some, None}
 use Rattle.hsms_machine.specs.Settings.{Parameters}
 use Rattle.capture_tcp.specs.declared.events.TimedEvent.{TimedEvent}
-use Rattle.capture_log.specs.WrittenLog.{Refuses}
+use Rattle.capture_log.specs.WrittenLog.{RefusesAssumed}
 use Rattle.capture_log.specs.declared.written_log.WrittenLog.{WrittenLog}
 use Rattle.capture_log.specs.declared.socket_pair.Pair.{Pair}
 use Rattle.capture_log.specs.declared.stop.Stop.{Stop}
 use Rattle.capture_midstream.specs.declared.sync_packet.Start.{Start}
 use Rattle.cli_capture.specs.declared.progress.Progress.{Progress}
 use Rattle.cli_capture.specs.declared.report.Report.{Report}
-use Rattle.cli_capture.specs.declared.incomplete.Shortfall.{Shortfall}
-use Rattle.cli_capture.specs.declared.incomplete.Shortfall.TheVariants.{Full}
+use Rattle.capture_errors.specs.declared.incomplete.Shortfall.{Shortfall}
+use Rattle.capture_errors.specs.declared.incomplete.Shortfall.TheVariants.{Full}
 use Rattle.cli_capture.specs.TrackedConnection.{IsTooMuch}
 use Rattle.cli_capture.specs.MidstreamItems.{Item, LogsItems}
 use Rattle.cli_capture.specs.MidstreamLog.{most_by, terms_by}
@@ -20,15 +20,17 @@ use Rattle.cli_capture.specs.Assumptions.{whole_log}
 use Rattle.cli_capture.specs.MidstreamConnection.{Brought, Happens, MayHappenMore, MayRunMore, counting, cut, lack_within, logged_so_far, resets_of, session_base, session_seen}
 use Rattle.cli_capture.specs.OutputMode.{Way}
 
--- it can't come up: the one that came up last in this log has other addresses, or is up; and the page is as it was
-abbrev pub StaysDown : Pair → ℕ → Stop → WrittenLog → Report → Report → Type 0
-StaysDown pair packet st j old new = Refuses j.begun pair packet st × (new.page.octets ≡ old.page.octets)
+-- it can't come up where it begins: the one that came up last in this log has other addresses, or is up, or the last
+-- entry of the log is later; and the page is as it was
+abbrev pub StaysDown : Pair → Start → Stop → WrittenLog → Report → Report → Type 0
+StaysDown pair start st j old new =
+    RefusesAssumed j.begun pair start.packet j.time start.time st × (new.page.octets ≡ old.page.octets)
 
 -- its log was empty before, and isn't with what is told: then it comes up, and can't
 pub record LogRefused (pair : Pair) (start : Start) (had now : List Item) (st : Stop) (j : WrittenLog) (old new : Report) : Type 0 where
   pub none : had ≡ []
   pub some : is_there now ≡ true
-  pub down : StaysDown pair start.packet st j old new
+  pub down : StaysDown pair start st j old new
 
 -- ---- it is over
 

@@ -23,8 +23,8 @@ use Rattle.capture_midstream.specs.SequenceNumbers.{before_by}
 use Rattle.capture_midstream.specs.declared.sync_packet.Start.{Start}
 use Rattle.cli_capture.specs.declared.progress.Progress.{Progress}
 use Rattle.cli_capture.specs.declared.progress.Progress.TheVariants as progress
-use Rattle.cli_capture.specs.declared.incomplete.Shortfall.{Shortfall}
-use Rattle.cli_capture.specs.declared.incomplete.Shortfall.TheVariants as lacks
+use Rattle.capture_errors.specs.declared.incomplete.Shortfall.{Shortfall}
+use Rattle.capture_errors.specs.declared.incomplete.Shortfall.TheVariants as lacks
 use Rattle.cli_capture.specs.declared.report.OutputMode.TheVariants.{Log}
 use Rattle.cli_capture.specs.declared.report.Report.{Report}
 use Rattle.cli_capture.specs.declared.midstream_connection.Within.{Within}

@@ -11,7 +11,7 @@ use Rattle.capture_tcp.specs.declared.packet.Side.TheVariants as side
 use Rattle.capture_tcp.specs.declared.events.TimedEvent.{TimedEvent}
 use Rattle.capture_log.specs.AuditedLog.{HasLogged, Note, note_text}
 use Rattle.capture_log.specs.BothLogs.{Records, event_of, note_of, remark_alone}
-use Rattle.capture_log.specs.WrittenLog.{MayComeUp, MayHappen, begun_by, came_up as begins, front_by, front_of, went_down}
+use Rattle.capture_log.specs.WrittenLog.{MayBeAssumed, MayHappen, begun_by, came_up as begins, front_by, front_of, went_down}
 use Rattle.capture_log.specs.declared.audited_log.LogComment.TheVariants as remark
 use Rattle.capture_log.specs.declared.both_logs.BothLogs.{BothLogs}
 use Rattle.capture_log.specs.declared.written_log.Begun.{Begun}
@@ -91,12 +91,13 @@ begun_at begun pair (leaves_out packet) = begun
 begun_at begun pair (emits h) = begun_by begun pair h.event
 begun_at begun pair closes_down = went_down begun
 
-abbrev pub MayBeLogged : Option Begun → Pair → Item → Type 0
-MayBeLogged begun pair (comes_up time) = MayComeUp begun pair
-MayBeLogged begun pair (supposes from header) = Unit {0}
-MayBeLogged begun pair (leaves_out packet) = Unit {0}
-MayBeLogged begun pair (emits h) = MayHappen begun pair h.event
-MayBeLogged begun pair closes_down = Unit {0}
+-- behind an entry of one time
+abbrev pub MayBeLogged : Option Begun → ℕ → Pair → Item → Type 0
+MayBeLogged begun before pair (comes_up time) = MayBeAssumed begun pair before time
+MayBeLogged begun before pair (supposes from header) = Unit {0}
+MayBeLogged begun before pair (leaves_out packet) = Unit {0}
+MayBeLogged begun before pair (emits h) = MayHappen begun pair h.event
+MayBeLogged begun before pair closes_down = Unit {0}
 
 abbrev pub with_item : Parameters → Pair → Page → Item → Note → Page
 with_item settings pair old x note = record {
@@ -108,7 +109,7 @@ with_item settings pair old x note = record {
 abbrev pub ItemsOn : Parameters → Side → Pair → List Item → Page → Page → Type 0
 ItemsOn settings side pair [] old new = new ≡ old
 ItemsOn settings side pair (x ∷ xs) old new =
-    MayBeLogged old.begun pair x × (note : Note) × IsNote old.time side x note × ItemsOn settings side pair xs (with_item settings pair old x note) new
+    MayBeLogged old.begun old.time pair x × (note : Note) × IsNote old.time side x note × ItemsOn settings side pair xs (with_item settings pair old x note) new
 
 -- the page gets them, and nothing else changes
 pub record LogsItems (pair : Pair) (c : Progress) (xs : List Item) (j : WrittenLog) (old new : Report) : Type 0 where

@@ -11,7 +11,7 @@ use Rattle.capture_log.specs.declared.socket_pair.Pair.{Pair}
 use Rattle.cli_capture.specs.declared.progress.Progress.TheVariants as progress
 use Rattle.cli_capture.specs.declared.report.OutputMode.TheVariants.{Log}
 use Rattle.cli_capture.specs.declared.report.Report.{Report}
-use Rattle.cli_capture.specs.declared.incomplete.Shortfall.{Shortfall}
+use Rattle.capture_errors.specs.declared.incomplete.Shortfall.{Shortfall}
 use Rattle.cli_capture.specs.OutputMode.{Way, to_log, to_verdicts}
 use Rattle.cli_capture.specs.TrackedConnection.{timed_by}
 use Rattle.cli_capture.specs.MidstreamItems.{AreItems, Item, LogsItems, closes_down}

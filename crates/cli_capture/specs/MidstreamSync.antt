@@ -10,7 +10,7 @@ use Rattle.capture_midstream.specs.declared.sync_packet.Start.{Start}
 use Rattle.capture_midstream.specs.PacketBuffer.{IsFull}
 use Rattle.capture_midstream.specs.SyntheticHandshake.{IsStart, has_both}
 use Rattle.cli_capture.specs.declared.report.Report.{Report}
-use Rattle.cli_capture.specs.declared.incomplete.Shortfall.{Shortfall}
+use Rattle.capture_errors.specs.declared.incomplete.Shortfall.{Shortfall}
 use Rattle.cli_capture.specs.declared.midstream_connection.Within.{Within}
 use Rattle.cli_capture.specs.OutputMode.{Way}
 use Rattle.cli_capture.specs.MidstreamItems.{Item}

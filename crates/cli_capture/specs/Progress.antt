@@ -6,8 +6,8 @@ use Rattle.capture_log.specs.declared.both_logs.LogResult.{LogResult}
 use Rattle.capture_log.specs.declared.both_logs.LogResult.TheVariants as reception
 use Rattle.cli_capture.specs.declared.progress.Progress.{Progress}
 use Rattle.cli_capture.specs.declared.progress.Progress.TheVariants.{Proceeds, Over}
-use Rattle.cli_capture.specs.declared.incomplete.Shortfall.{Shortfall}
-use Rattle.cli_capture.specs.declared.incomplete.Shortfall.TheVariants.{Lost, Differs, Length}
+use Rattle.capture_errors.specs.declared.incomplete.Shortfall.{Shortfall}
+use Rattle.capture_errors.specs.declared.incomplete.Shortfall.TheVariants.{Lost, Differs, Length}
 
 -- behind what was heard of a packet: nothing is told behind `down`, nor behind a message of no length that an end takes
 abbrev pub course_behind : LogResult → ℕ → Progress

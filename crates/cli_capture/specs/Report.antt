@@ -1,21 +1,22 @@
 -- What was found of the connections of a capture.
-use Rattle.std.specs.Prelude.{◌≡◌, ◌⊎◌, ◌++◌, ℕ, [], ◌∷◌, flat_map, Bool, true, false, Option, None, Some, List, Result, Ok, Err, codes, string_bytes}
+use Rattle.std.specs.Prelude.{◌≡◌, ◌++◌, ℕ, [], ◌∷◌, flat_map, Bool, true, false, Option, None, Some, List, Result, Ok, Err}
 use Rattle.hsms_machine.specs.Settings.{Parameters}
 use Rattle.hsms_machine.specs.declared.settings.Role.{Role}
 use Rattle.hsms_log.specs.declared.verdict.Verdict.{Verdict}
 use Rattle.hsms_log.specs.declared.verdict.Verdict.TheVariants.{Pass, Fail}
 use Rattle.capture_tcp.specs.declared.packet.Side.TheVariants.{Active, Passive}
 use Rattle.cli_capture.specs.VerdictLine.{end_line_of}
-use Rattle.cli_capture.specs.StopError.{TellsShortfall}
-use Rattle.cli_options.specs.declared.fault.ToolFault.{ToolFault}
-use Rattle.cli_options.specs.declared.fault.ToolFault.TheVariants as tool
+use Rattle.capture_errors.specs.declared.capture_error.CaptureError.{CaptureError}
+use Rattle.capture_errors.specs.declared.capture_error.CaptureError.TheVariants as error
 use Rattle.capture_log.specs.AuditedLog.{HasLogged, Note, SaysOf, CurrentState}
 use Rattle.capture_log.specs.declared.audited_log.LogVerdict.{LogVerdict}
 use Rattle.capture_log.specs.declared.socket_pair.Pair.{Pair}
 use Rattle.capture_midstream.specs.declared.session_filter.Session.{Session}
 use Rattle.cli_capture.specs.declared.report.OutputMode.TheVariants.{Verdicts}
 use Rattle.cli_capture.specs.declared.report.Report.{Report}
-use Rattle.cli_capture.specs.declared.incomplete.Shortfall.{Shortfall}
+use Rattle.capture_errors.specs.declared.incomplete.Shortfall.{Shortfall}
+use Rattle.capture_errors.specs.declared.rejection.Rejection.{Rejection}
+use Rattle.capture_errors.specs.declared.rejection.Rejection.TheVariants.{Incomplete, NoConnection}
 
 -- by what the messages of a session are known
 abbrev pub session_of : Parameters → Session
@@ -86,23 +87,22 @@ abbrev pub found_behind : Found → List LogOutputState → Found
 found_behind found [] = found
 found_behind found (output_state ∷ rest) = found_behind (found_after found output_state) rest
 
--- all is well only where a connection was told, nothing is missing and no log fails; and a log fails where it says so
-abbrev pub AnswersWell : Found → Bool → Type 0
-AnswersWell found true = (found.failed ≡ false) × (found.shortfall ≡ None) × (found.emitted ≡ true)
-AnswersWell found false = found.failed ≡ true
+-- The result by what was found: false if a log fails, otherwise a rejection by what is missing or because no connection
+-- came up, otherwise true.
+abbrev pub outcome_by : Bool → Option Shortfall → Bool → Result Bool Rejection
+outcome_by true shortfall emitted = Ok false
+outcome_by false (Some shortfall) emitted = Err (Incomplete shortfall)
+outcome_by false None true = Ok true
+outcome_by false None false = Err NoConnection
 
--- something is missing, and these words tell it, or no connection was told
-abbrev pub RefusesWith : Found → List ℕ → Type 0
-RefusesWith found words =
-    ((shortfall : Shortfall) × (found.shortfall ≡ Some shortfall) × TellsShortfall shortfall words)
-    ⊎ ((found.shortfall ≡ None) × (found.emitted ≡ false) × (words ≡ codes "NoConnection"))
+abbrev pub outcome_of : Found → Result Bool Rejection
+outcome_of found = outcome_by found.failed found.shortfall found.emitted
 
--- the same, as the command answers it
-abbrev pub Answers : Found → Result Bool ToolFault → Type 0
-Answers found (Ok well) = AnswersWell found well
-Answers found (Err (tool.Refused words)) = (found.failed ≡ false) × RefusesWith found (string_bytes words)
-Answers found (Err (tool.Device word)) = ⊥
-Answers found (Err tool.Memory) = ⊥
+-- Holds if the command returns this result. No read, write or allocation failed.
+abbrev pub Answers : Found → Result Bool CaptureError → Type 0
+Answers found (Ok well) = outcome_of found ≡ Ok well
+Answers found (Err (error.Refused rejection)) = outcome_of found ≡ Err rejection
+Answers found (Err fault) = ⊥
 
 -- the lines of connections, one after another
 abbrev pub lines_of : Role → Role → List LogOutputState → List ℕ

@@ -13,8 +13,8 @@ use Rattle.capture_tcp.specs.declared.packet.Side.{Side}
 use Rattle.capture_tcp.specs.declared.packet.Side.TheVariants.{Active, Passive}
 use Rattle.capture_log.specs.declared.audited_log.LogVerdict.{LogVerdict}
 use Rattle.capture_log.specs.declared.socket_pair.Pair.{Pair}
-use Rattle.cli_capture.specs.declared.incomplete.Shortfall.{Shortfall}
-use Rattle.cli_capture.specs.declared.incomplete.Shortfall.TheVariants.{Lost, Differs, Length, Full, Time, File}
+use Rattle.capture_errors.specs.Errors.{packet_of}
+use Rattle.capture_errors.specs.declared.incomplete.Shortfall.{Shortfall}
 
 -- an address and its port, as 10.0.0.1:40000 or [fe80::1]:40000
 unfoldable pub address_text : SocketAddr → List ℕ
@@ -31,14 +31,6 @@ front_of pair role side =
     ++ codes ":"
 
 -- the packet that is named where something is missing
-abbrev pub packet_of : Shortfall → ℕ
-packet_of (Lost packet) = packet
-packet_of (Differs packet) = packet
-packet_of (Length packet) = packet
-packet_of (Full packet) = packet
-packet_of (Time packet) = packet
-packet_of (File fault packet) = packet
-
 abbrev pub lack_words : Option Shortfall → List ℕ
 lack_words None = []
 lack_words (Some shortfall) = codes " incomplete packet=" ++ decimal (packet_of shortfall)
@@ -65,12 +57,3 @@ told_words (Some emitted) = 32 ∷ verdict_line_by emitted.verdict emitted.packe
 -- the line of an end
 abbrev pub end_line_of : Pair → Role → Side → Option Shortfall → Option LogVerdict → List ℕ
 end_line_of pair role side shortfall emitted = front_of pair role side ++ lack_words shortfall ++ told_words emitted
-
--- the words in which a capture is refused that lacks something; those for a fault of the file have none here
-abbrev pub shortfall_words : Shortfall → Option (List ℕ)
-shortfall_words (Lost packet) = Some (codes "Lost packet=" ++ decimal packet)
-shortfall_words (Differs packet) = Some (codes "Differs packet=" ++ decimal packet)
-shortfall_words (Length packet) = Some (codes "Length packet=" ++ decimal packet)
-shortfall_words (Full packet) = Some (codes "Full packet=" ++ decimal packet)
-shortfall_words (Time packet) = Some (codes "Time packet=" ++ decimal packet)
-shortfall_words (File fault packet) = None

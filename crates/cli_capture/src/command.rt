@@ -1,11 +1,10 @@
 //! `hsms capture`: a capture, read once.
 
-ghost use Rattle.std.specs.Prelude.{◌≡◌, ◌++◌, [], IfErr, IfOk, OnOk, Ok, Err, None, codes};
+ghost use Rattle.std.specs.Prelude.{◌≡◌, ◌++◌, [], IfErr, IfOk, OnOk, Ok, Err, None};
 ghost use Rattle.hsms_frame.specs.Io.{IfRecorded};
-ghost use Rattle.cli_output.specs.IoErrors.{CountsFailure, IsReadWriteOrEndless};
-ghost use Rattle.cli_output.specs.InnerIoErrors.{HasWord};
+ghost use Rattle.capture_errors.specs.Errors.{IsRefusal, reads_after, writes_after};
 ghost use Rattle.cli_capture.specs.Command.{CapturesTo, GrowsBySome, HasMany, IsEndless};
-ghost use Rattle.cli_capture.specs.InnerCommand.{IsMissingBy};
+ghost use Rattle.cli_capture.specs.InnerCommand.{IsMissingBy, IsNoRead};
 ghost use Rattle.cli_capture.specs.FileDispatch.{CapturesFile};
 ghost use Rattle.cli_capture.specs.TableInvariant.{wanted_of};
 ghost use Rattle.cli_capture.specs.InnerTableInvariant.{ConcludesAsDealt, FinishesAsDealt, PutsAsDealt, ReadsAsDealt, ShowsAsDealt};
@@ -14,18 +13,17 @@ ghost use Rattle.cli_capture.specs.InnerLogRejectionFile.{ConcludesAsRefused, Fi
 ghost use Rattle.cli_capture.specs.InnerReport.{Concludes, EndsWith, FailsUnrefused, StopsUnrefused, TellsBehind, Writes};
 ghost use Rattle.cli_capture.specs.declared.report.OutputMode.TheVariants.{Verdicts};
 ghost use Rattle.cli_capture.specs.Segments.{body_in};
-ghost use Rattle.cli_capture.specs.StopError.{IsRefusal};
 ghost use Rattle.cli_capture.specs.InnerStopError.{IsRefused};
 
 use crate::connection_table::{Capture, Table};
-use crate::incomplete::Shortfall;
 use crate::report::Report;
-use crate::stop_error::fault_of;
+use crate::stop_error::error_of;
+use capture_errors::{CaptureError, Shortfall};
 use capture_log::Stop;
 use capture_pcap::laws::each_rest_is_read;
 use capture_pcap::{FileFault, Packets, Record, Segment, Shown, Step, octets_of, segment_of};
 use capture_unjudged::Unjudged;
-use cli_options::{Capturing, ToolFault};
+use cli_options::Capturing;
 use hsms_frame::{Sink, Source};
 use std::alloc::Global;
 
@@ -46,7 +44,7 @@ const MOST_STEPS: u64 = u64::MAX - 3;
 /// - `Refused`: where what is told is incomplete and no log fails, by what was missing first; where no connection came
 ///   up; and where the log of an end would be one of two connections at once, or of other addresses. What is sure was
 ///   written before.
-/// - `Device`: `Read` or `Write`, where a device failed, and `Endless`, where the capture has 2^64 - 4 blocks or more.
+/// - `Read` or `Write`, where a device failed, and `Endless`, where the capture has 2^64 - 4 blocks or more.
 /// - `Memory`, also where a log may have more than 2^62 lines.
 #[tactic(auto, using(crate::proofs::Written::none_more, crate::proofs::Written::some_more))]
 pub fn capture_to<R: Source, W: Sink>(
@@ -55,11 +53,10 @@ pub fn capture_to<R: Source, W: Sink>(
     source: &mut R,
     sink: &mut W,
     unjudged: &mut Unjudged,
-) -> Result<bool, ToolFault>
-    ensures word { IfErr result IsReadWriteOrEndless }
+) -> Result<bool, CaptureError>
     ensures endless { IfErr result (λ fault. IsEndless fault → IfRecorded (R.state source.old).left HasMany) }
-    ensures reads { CountsFailure (codes "Read") result (R.state source.old).failures (R.state source.new).failures }
-    ensures writes { CountsFailure (codes "Write") result (W.state sink.old).failures (W.state sink.new).failures }
+    ensures reads { (R.state source.new).failures ≡ reads_after result (R.state source.old).failures }
+    ensures writes { (W.state sink.new).failures ≡ writes_after result (W.state sink.old).failures }
     ensures some { GrowsBySome (W.state sink.old).written (W.state sink.new).written }
     ensures lines { IfOk result (λ well. options.log ≡ None → CapturesTo options.active.role options.passive.role
         (W.state sink.old).written (W.state sink.new).written (Ok well)) }
@@ -102,12 +99,11 @@ fn read_all<R: Source, W: Sink>(
     table: &mut Table,
     report: &mut Report,
     unjudged: &mut Unjudged,
-) -> Result<Option<Shortfall>, ToolFault>
-    ensures word { IfErr result IsReadWriteOrEndless }
+) -> Result<Option<Shortfall>, CaptureError>
     ensures endless { IfErr result (λ fault. IsEndless fault → IfRecorded (R.state source.old).left (λ input.
         HasMany (packets.old.ahead ++ input))) }
-    ensures reads { CountsFailure (codes "Read") result (R.state source.old).failures (R.state source.new).failures }
-    ensures writes { CountsFailure (codes "Write") result (W.state sink.old).failures (W.state sink.new).failures }
+    ensures reads { (R.state source.new).failures ≡ reads_after result (R.state source.old).failures }
+    ensures writes { (W.state sink.new).failures ≡ writes_after result (W.state sink.old).failures }
     ensures some { GrowsBySome (W.state sink.old).written (W.state sink.new).written }
     ensures lines { OnOk result (Writes report.old (W.state sink.old).written report.new (W.state sink.new).written) }
     ensures deals { IfOk result (λ missing. ReadsAsDealt packets.old missing (R.state source.old).left table.old table.new
@@ -136,7 +132,7 @@ fn read_all<R: Source, W: Sink>(
             Step::End => return Ok(None),
         }
     }
-    Err(ToolFault::Device("Endless"))
+    Err(CaptureError::Endless)
 }
 
 // Takes a packet, and writes what is told with it.
@@ -150,9 +146,9 @@ fn take<W: Sink>(
     packet: u64,
     record: &Record,
     octets: &[u8],
-) -> Result<Option<Shortfall>, ToolFault>
-    ensures word { IfErr result (HasWord (codes "Write")) }
-    ensures writes { CountsFailure (codes "Write") result (W.state sink.old).failures (W.state sink.new).failures }
+) -> Result<Option<Shortfall>, CaptureError>
+    ensures error { IfErr result IsNoRead }
+    ensures writes { (W.state sink.new).failures ≡ writes_after result (W.state sink.old).failures }
     ensures some { GrowsBySome (W.state sink.old).written (W.state sink.new).written }
     ensures lines { OnOk result (Writes report.old (W.state sink.old).written report.new (W.state sink.new).written) }
     ensures deals { IfOk result (λ missing. PutsAsDealt packet «record».now octets.now missing table.old table.new
@@ -165,7 +161,7 @@ fn take<W: Sink>(
     report.put_out(sink)?;
     match taken {
         Ok(missing) => Ok(missing),
-        Err(stop) => Err(fault_of(stop)),
+        Err(stop) => Err(error_of(stop)),
     }
 }
 
@@ -211,12 +207,12 @@ fn body_of<'a>(segment: &Segment, octets: &'a [u8]) -> &'a [u8]
 }
 
 // What a fault of a file behind so many packets leaves out, where it isn't one of the device.
-fn missing_by(fault: FileFault, packets: u64) -> Result<Shortfall, ToolFault>
+fn missing_by(fault: FileFault, packets: u64) -> Result<Shortfall, CaptureError>
     ensures { IsMissingBy fault packets result }
 {
     match fault {
-        FileFault::Read => Err(ToolFault::Device("Read")),
-        FileFault::Memory => Err(ToolFault::Memory),
+        FileFault::Read => Err(CaptureError::Read),
+        FileFault::Memory => Err(CaptureError::Memory),
         FileFault::Capture { .. } | FileFault::CutOff => {
             Ok(Shortfall::File(fault, packets.saturating_add(1)))
         }
@@ -232,9 +228,9 @@ fn finish<W: Sink>(
     mut report: Report,
     unjudged: &mut Unjudged,
     missing: Option<Shortfall>,
-) -> Result<bool, ToolFault>
-    ensures word { IfErr result (HasWord (codes "Write")) }
-    ensures writes { CountsFailure (codes "Write") result (W.state sink.old).failures (W.state sink.new).failures }
+) -> Result<bool, CaptureError>
+    ensures error { IfErr result IsNoRead }
+    ensures writes { (W.state sink.new).failures ≡ writes_after result (W.state sink.old).failures }
     ensures some { GrowsBySome (W.state sink.old).written (W.state sink.new).written }
     ensures lines { IfOk result (λ well. EndsWith missing report (W.state sink.old).written (W.state sink.new).written (Ok well)) }
     ensures emitted { IfErr result (λ fault. IsRefusal fault → EndsWith missing report (W.state sink.old).written
@@ -250,7 +246,7 @@ fn finish<W: Sink>(
     report.put_out(sink)?;
     match well {
         Ok(well) => Ok(well),
-        Err(stop) => Err(fault_of(stop)),
+        Err(stop) => Err(error_of(stop)),
     }
 }
 

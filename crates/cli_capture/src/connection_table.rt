@@ -11,9 +11,9 @@ ghost use Rattle.cli_capture.specs.InnerLogRejectionTable.{FollowsFlowRefused, R
 ghost use Rattle.cli_capture.specs.InnerStopError.{IsRefused};
 ghost use Rattle.cli_capture.specs.InnerReport.{StopsUnrefused, Emits};
 
-use crate::incomplete::Shortfall;
 use crate::report::Report;
 use crate::tracked_connection::{ConnectionState, Flow};
+use capture_errors::Shortfall;
 use capture_log::{Pair, Stop, pairs_of};
 use capture_pcap as packets;
 use capture_tcp::{Flags, Segment, Side};

@@ -14,7 +14,6 @@
 mod bare_resets;
 mod command;
 mod connection_table;
-mod incomplete;
 mod midstream_connection;
 mod midstream_log;
 mod midstream_sync;

@@ -13,10 +13,10 @@ ghost use Rattle.cli_capture.specs.MidstreamOutput.{in_capture, uncaptured};
 ghost use Rattle.cli_capture.specs.InnerMidstreamOutput.{FinishesAs, ReplacedAs};
 
 use crate::bare_resets::{note_reset, time_of};
-use crate::incomplete::Shortfall;
 use crate::midstream_log::Joined;
-use crate::progress::{Followed, Progress};
+use crate::progress::{Followed, Progress, lack_behind};
 use crate::report::Report;
+use capture_errors::Shortfall;
 use capture_log::{Pair, Stop};
 use capture_midstream::{
     Beginnings, BufferedPacket, Handshake, Start, octets_before, opening, segment_from,
@@ -158,7 +158,7 @@ impl Within {
         let progress = hear_all(alloc, report, pair, &bare_resets, &mut joined, emitted)?;
         let shortfall = match progress {
             Progress::Over(shortfall) => return finish(alloc, report, pair, joined, shortfall),
-            Progress::Proceeds => Shortfall::subsequent(ending_in(ending), missing),
+            Progress::Proceeds => lack_behind(ending_in(ending), missing),
         };
         if is_replaced && shortfall.is_none() {
             return replace(alloc, report, pair, joined);
@@ -239,7 +239,7 @@ fn take_segment(
     match connection.take(alloc, counted, kept, emitted) {
         Ok(connection) => match connection.ending() {
             None => Ok(Followed::Proceeds(connection)),
-            Some(ending) => Ok(Followed::BothLogs(Shortfall::subsequent(ending_in(ending), None))),
+            Some(ending) => Ok(Followed::BothLogs(lack_behind(ending_in(ending), None))),
         },
         Err(ConnectionFault::Memory) => Err(Stop::Memory),
         Err(_) => Ok(Followed::BothLogs(Some(Shortfall::Full(segment.packet)))),

@@ -5,10 +5,10 @@ ghost use Rattle.cli_capture.specs.InnerMidstreamLog.{IsQuiet};
 ghost use Rattle.cli_capture.specs.Assumptions.{counts_by, other_side, said_by};
 ghost use Rattle.cli_capture.specs.InnerReport.{StopsUnrefused, Emits};
 
-use crate::incomplete::Shortfall;
 use crate::pending_requests::Said;
 use crate::progress::Progress;
 use crate::report::Report;
+use capture_errors::Shortfall;
 use capture_log::{BothLogs, Pair, Stop, unboxed};
 use capture_midstream::{Assumption, Start, header_at};
 use capture_tcp::{Event, Side, TimedEvent};
@@ -334,8 +334,7 @@ impl Joined {
         if self.is_up {
             return Ok(());
         }
-        let start = self.start;
-        report.assume_up(alloc, pair, &mut self.ends, start.packet, start.time)?;
+        report.assume_up(alloc, pair, &mut self.ends, self.start)?;
         self.suppose_before(alloc, report)?;
         self.tell_left_out(alloc, report)?;
         self.is_up = true;

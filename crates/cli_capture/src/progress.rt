@@ -1,11 +1,11 @@
 //! Whether more is told of a connection.
 
 ghost use Rattle.std.specs.Prelude.{◌≡◌};
-ghost use Rattle.cli_capture.specs.Progress.{course_behind};
+ghost use Rattle.cli_capture.specs.Progress.{course_behind, lack_behind};
 
-use crate::incomplete::Shortfall;
+use capture_errors::Shortfall;
 use capture_log::LogResult;
-use capture_tcp::Connection;
+use capture_tcp::{Connection, Ending};
 
 /// Whether more of a connection is told, or what it lacks.
 #[derive(Clone, Copy)]
@@ -32,4 +32,16 @@ impl Progress {
 pub enum Followed {
     Proceeds(Connection),
     BothLogs(Option<Shortfall>),
+}
+
+/// Returns what a connection lacks, by how what is told of it ends, where something may be missing behind it.
+pub fn lack_behind(ending: Ending, missing: Option<Shortfall>) -> Option<Shortfall>
+    ensures { result ≡ lack_behind ending missing }
+{
+    match ending {
+        Ending::Closed => None,
+        Ending::Complete => missing,
+        Ending::Lost(packet) => Some(Shortfall::Lost(packet)),
+        Ending::Differs(packet) => Some(Shortfall::Differs(packet)),
+    }
 }

@@ -1,14 +1,13 @@
 //! What is told of the connections of a capture.
 
-use crate::incomplete::Shortfall;
 use crate::skipped_packets::LeftOut;
 use crate::verdict_line::end_line;
+use capture_errors::{CaptureError, Rejection, Shortfall};
 use capture_log::{BothLogs, LogResult, LogVerdict, Pair, Stop, Text, WrittenLog};
-use capture_midstream::Session;
+use capture_midstream::{Session, Start};
 use capture_tcp::{Side, TimedEvent};
-use cli_options::{Capturing, ToolFault};
-use cli_output::put;
-use hsms_frame::{Frame, Header, Sink};
+use cli_options::Capturing;
+use hsms_frame::{Frame, Header, Sink, give_all};
 use hsms_log::Verdict;
 use hsms_machine::{Role, Settings};
 use std::alloc::Global;
@@ -38,7 +37,7 @@ impl Report {
     ghost use Rattle.std.specs.Prelude.{◌≡◌, ◌≤◌, ◌⊎◌, ◌++◌, ◌∷◌, [], None, Some, IfErr, IfOk, OnOk, true};
     ghost use Rattle.hsms_frame.specs.CallCounts.{count_failure};
     ghost use Rattle.hsms_frame.specs.Io.{Grows};
-    ghost use Rattle.cli_output.specs.IoErrors.{IsWrite};
+    ghost use Rattle.capture_errors.specs.declared.capture_error.CaptureError.TheVariants.{Write};
     ghost use Rattle.cli_capture.specs.Command.{GrowsBySome};
     ghost use Rattle.cli_capture.specs.declared.report.OutputMode.TheVariants.{Verdicts};
     ghost use Rattle.capture_log.specs.Stop.{IsNoRefusal};
@@ -94,18 +93,18 @@ impl Report {
     }
 
     /// Writes what is told.
-    pub fn put_out<W: Sink>(&mut self, sink: &mut W) -> Result<(), ToolFault>
+    pub fn put_out<W: Sink>(&mut self, sink: &mut W) -> Result<(), CaptureError>
         ensures ok { OnOk result (Grows (W.state sink.old).written (W.state sink.new).written self.old.page.octets) }
         ensures none { OnOk result (self.new.page.octets ≡ []) }
         ensures some { GrowsBySome (W.state sink.old).written (W.state sink.new).written }
-        ensures word { IfErr result IsWrite }
+        ensures error { IfErr result (λ error. error ≡ Write) }
         ensures writes { (W.state sink.new).failures ≡ count_failure result (W.state sink.old).failures }
         ensures same { self.new ≡ record self.old { page = self.new.page } }
     {
         if self.page.octets().is_empty() {
             return Ok(());
         }
-        put(sink, self.page.octets())?;
+        give_all(sink, self.page.octets())?;
         self.page.clear();
         Ok(())
     }
@@ -132,12 +131,9 @@ impl Report {
     {
         self.begin(alloc, ends)?;
         match (&mut self.manner, ends) {
-            (OutputMode::Log(journal), _) => journal.process_input(
-                alloc,
-                &mut self.page,
-                pair,
-                happening,
-            ),
+            (OutputMode::Log(journal), _) => {
+                journal.process_input(&mut self.page, pair, happening)
+            }
             (OutputMode::Verdicts, Some(ends)) => ends.process_input(alloc, happening),
             (OutputMode::Verdicts, None) => Ok(LogResult::Proceeds),
         }
@@ -178,28 +174,26 @@ impl Report {
         }
     }
 
-    /// The connection of a pair came up at a time, as it is supposed: the packet with this number is the first that
-    /// counts.
+    /// The connection of a pair came up where it begins, as it is supposed.
     #[tactic(auto, using(crate::proofs::Unrefused::telling_steps))]
     pub fn assume_up(
         &mut self,
         alloc: Global,
         pair: &Pair,
         ends: &mut Option<Box<BothLogs>>,
-        packet: u64,
-        time: u64,
+        start: Start,
     ) -> Result<(), Stop>
         ensures emitted { OnOk result (Emits self.old self.new) }
-        ensures logged { OnOk result (TakesItems pair.now Proceeds (comes_up time ∷ []) ends.old self.old ends.new self.new) }
+        ensures logged { OnOk result (TakesItems pair.now Proceeds (comes_up start.time ∷ []) ends.old self.old ends.new self.new) }
         ensures unrefused { IfErr result (StopsUnrefused self.old) }
-        ensures refuses { IfErr result (λ stop. CantComeUp pair.now packet stop self.old self.new) }
+        ensures refuses { IfErr result (λ stop. CantComeUp pair.now start stop self.old self.new) }
     {
         self.begin(alloc, ends)?;
         match (&mut self.manner, ends) {
             (OutputMode::Log(journal), _) => {
-                journal.assume_up(alloc, &mut self.page, pair, packet, time)
+                journal.assume_up(&mut self.page, pair, start.packet, start.time)
             }
-            (OutputMode::Verdicts, Some(ends)) => ends.assume_up(alloc, time),
+            (OutputMode::Verdicts, Some(ends)) => ends.assume_up(alloc, start.time),
             (OutputMode::Verdicts, None) => Ok(()),
         }
     }
@@ -306,14 +300,14 @@ impl Report {
         ensures unrefused { IfErr result (StopsUnrefused self.old) }
         ensures refuses { IfErr result (λ stop. LacksRefused shortfall stop self.old self.new) }
     {
-        self.conclude_with(alloc, shortfall)?;
+        self.conclude_with(shortfall)?;
         self.submit(alloc, pair, ends, shortfall)?;
         Ok(())
     }
 
     // Notes that a connection is told, and what it lacks. Behind that no log of an end goes on.
     #[tactic(auto, using(crate::proofs::Unrefused::unrefused_steps))]
-    fn conclude_with(&mut self, alloc: Global, shortfall: Option<Shortfall>) -> Result<(), Stop>
+    fn conclude_with(&mut self, shortfall: Option<Shortfall>) -> Result<(), Stop>
         ensures noted { OnOk result (self.new ≡ record self.old {
           has_told = true;
           shortfall = missing_after self.old.shortfall shortfall;
@@ -328,7 +322,7 @@ impl Report {
         };
         let first = self.note(shortfall);
         match &self.manner {
-            OutputMode::Log(_) => Err(first.refusal(alloc)),
+            OutputMode::Log(_) => Err(Stop::Refused(Rejection::Incomplete(first))),
             OutputMode::Verdicts => Ok(()),
         }
     }
@@ -442,8 +436,8 @@ impl Report {
     ///
     /// # Errors
     ///
-    /// `Refused` where something is missing and no log fails, in the words of what was missing first, and where there was
-    /// no connection; `Memory`.
+    /// `Refused` where something is missing and no log fails, by what was missing first, and where there was no
+    /// connection; `Memory`.
     #[tactic(auto, using(crate::proofs::Refusing::memory_refuses, crate::proofs::Refusing::err_holds))]
     pub fn finish(&mut self, alloc: Global) -> Result<bool, Stop>
         ensures answer { Finishes (found_of self.old) result }
@@ -452,7 +446,7 @@ impl Report {
             → self.new.page.octets ≡ self.old.page.octets ++ line_of self.old.left_out) }
     {
         self.tell_left_out(alloc)?;
-        self.answer(alloc)
+        self.answer()
     }
 
     // Tells the packets that were left out.
@@ -467,14 +461,14 @@ impl Report {
     }
 
     // Whether each log passes, or why that can't be said.
-    fn answer(&self, alloc: Global) -> Result<bool, Stop>
+    fn answer(&self) -> Result<bool, Stop>
         ensures { Finishes (found_of self.now) result }
     {
         match self.shortfall {
             _ if self.has_failed => Ok(false),
-            Some(shortfall) => Err(shortfall.refusal(alloc)),
+            Some(shortfall) => Err(Stop::Refused(Rejection::Incomplete(shortfall))),
             None if self.has_told => Ok(true),
-            None => Err(Stop::Refused(String::from_str(alloc, "NoConnection")?)),
+            None => Err(Stop::Refused(Rejection::NoConnection)),
         }
     }
 }

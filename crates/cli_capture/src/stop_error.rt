@@ -1,16 +1,17 @@
-//! How the command tells why nothing more is told of a capture.
+//! The error of the command, by why the audit of a capture stops.
 
-ghost use Rattle.cli_capture.specs.StopError.{TellsStop};
+ghost use Rattle.std.specs.Prelude.{◌≡◌};
+ghost use Rattle.cli_capture.specs.StopError.{error_of};
 
+use capture_errors::CaptureError;
 use capture_log::Stop;
-use cli_options::ToolFault;
 
-/// How the command tells why nothing more is told.
-pub fn fault_of(stop: Stop) -> ToolFault
-    ensures { TellsStop stop result }
+/// Returns the error of the command.
+pub fn error_of(stop: Stop) -> CaptureError
+    ensures { result ≡ error_of stop }
 {
     match stop {
-        Stop::Refused(words) => ToolFault::Refused(words),
-        Stop::Memory => ToolFault::Memory,
+        Stop::Refused(rejection) => CaptureError::Refused(rejection),
+        Stop::Memory => CaptureError::Memory,
     }
 }

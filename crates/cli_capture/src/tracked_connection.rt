@@ -21,11 +21,11 @@ ghost use Rattle.cli_capture.specs.InnerConnectionState.{WaitsOn, answers, if_an
 ghost use Rattle.cli_capture.specs.InnerConnectionTable.{is_live};
 
 use crate::bare_resets::{note_reset, time_of};
-use crate::incomplete::Shortfall;
 use crate::midstream_connection::Within;
 use crate::midstream_sync::{Joining, begin, buffer_pending};
-use crate::progress::{Followed, Progress};
+use crate::progress::{Followed, Progress, lack_behind};
 use crate::report::Report;
+use capture_errors::Shortfall;
 use capture_log::{BothLogs, Pair, Stop, unboxed};
 use capture_midstream::Gathering;
 use capture_tcp::{Connection, ConnectionFault, Ending, Event, Segment, Side, TimedEvent};
@@ -441,7 +441,7 @@ fn end_open(
     match hear_all(alloc, report, pair, &mut logs, emitted)? {
         Progress::Over(shortfall) => logs.conclude(alloc, report, pair, shortfall),
         Progress::Proceeds => {
-            let shortfall = Shortfall::subsequent(ending, missing);
+            let shortfall = lack_behind(ending, missing);
             go_down(alloc, report, &mut logs, is_replaced && shortfall.is_none())?;
             logs.conclude(alloc, report, pair, shortfall)
         }
@@ -636,7 +636,7 @@ fn take_segment(
     match connection.take(alloc, segment, octets, emitted) {
         Ok(connection) => match connection.ending() {
             None => Ok(Followed::Proceeds(connection)),
-            Some(ending) => Ok(Followed::BothLogs(Shortfall::subsequent(ending, None))),
+            Some(ending) => Ok(Followed::BothLogs(lack_behind(ending, None))),
         },
         Err(ConnectionFault::Memory) => Err(Stop::Memory),
         Err(ConnectionFault::Far | ConnectionFault::Full) => {

@@ -4,7 +4,7 @@ ghost use Rattle.std.specs.Prelude.{◌≡◌, ◌++◌, IfOk, OnOk, string_byte
 ghost use Rattle.hsms_log.specs.LineFormat.{role_word};
 ghost use Rattle.cli_capture.specs.VerdictLine.{address_text, end_line_of, front_of, lack_words, side_word, told_words, verdict_line_by};
 
-use crate::incomplete::Shortfall;
+use capture_errors::Shortfall;
 use capture_log::{LogVerdict, Pair};
 use capture_tcp::Side;
 use cli_output::verdict_line;

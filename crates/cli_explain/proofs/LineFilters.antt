@@ -5,7 +5,10 @@ use Rattle.explain_lines.specs.declared.annotation.Note.{Note}
 use Rattle.explain_forms.specs.declared.output_buffer.Page.{Page}
 use Rattle.explain_lines.specs.declared.explained_line.ExplainedLine.{ExplainedLine}
 use Rattle.explain_forms.specs.OutputBuffer.{Adds, AddsSome}
-use Rattle.cli_explain.specs.InnerLineFilter.{EndsWith, TakesLine, WritesNext, left_out}
+use Rattle.cli_options.specs.declared.explain_options.Lines.{Lines}
+use Rattle.cli_options.specs.declared.explain_options.OutputFormat.{OutputFormat}
+use Rattle.cli_options.specs.declared.explain_options.OutputFormat.TheVariants.{Text, Json, Html}
+use Rattle.cli_explain.specs.InnerLineFilter.{EndsWith, TakesLine, WritesNext, left_out, lines_in}
 use Rattle.explain_forms.specs.TextOutput.{LineWritten, gap_text}
 use Rattle.explain_forms.proofs.OutputBuffers.{adds_is, adds_none, adds_then}
 
@@ -42,6 +45,11 @@ ends_with old mid new last shown_line notes (before, some) (words, line, adds) =
     (before ++ left_out last shown_line.number, words, line, adds_is old new _ _ (sym (append_assoc before (left_out last shown_line.number) words)) (adds_then old mid new before _ some adds))
 
 -- ---- a line is written, or buffered
+
+pub text_lines : (form : OutputFormat) (lines page : Lines) → form ≡ Text → lines_in form lines page ≡ lines
+text_lines Text lines page is = refl
+text_lines Json lines page is = absurd cc
+text_lines Html lines page is = absurd cc
 
 pub line_emitted : (now : Bool) (old mid new : Page) (last : ℕ) (shown_line : ExplainedLine) (notes : List Note) → now ≡ true → AddsSome old mid
     → WritesNext last mid new shown_line notes → TakesLine now old new shown_line notes

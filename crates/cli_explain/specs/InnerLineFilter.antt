@@ -1,11 +1,12 @@
 -- Filter of log lines: which lines are written, and with what.
-use Rattle.std.specs.Prelude.{◌≡◌, ◌+◌, ◌-◌, ◌++◌, ◌||◌, ℕ, Bool, true, false, List, [], Some, None, nat_lt, if◌then◌else◌}
+use Rattle.std.specs.Prelude.{◌≡◌, ◌+◌, ◌-◌, ◌++◌, ◌||◌, ◌&&◌, not, ℕ, Bool, true, false, List, [], Some, None, nat_lt, nat_le, if◌then◌else◌}
 use Rattle.std.specs.List.{list_any}
 use Rattle.cli_options.specs.ExplainOptions.{is_between}
 use Rattle.cli_options.specs.declared.explain_options.Excerpt.{Excerpt}
 use Rattle.cli_options.specs.declared.explain_options.Lines.{Lines}
 use Rattle.cli_options.specs.declared.explain_options.Lines.TheVariants.{All, Failures}
-use Rattle.cli_options.specs.declared.explain_options.OutputFormat.TheVariants.{Text}
+use Rattle.cli_options.specs.declared.explain_options.OutputFormat.{OutputFormat}
+use Rattle.cli_options.specs.declared.explain_options.OutputFormat.TheVariants.{Text, Json, Html}
 use Rattle.explain_statistics.specs.declared.failure_groups.Groups.{Groups}
 use Rattle.explain_lines.specs.declared.annotation.Failing.{Failing}
 use Rattle.explain_lines.specs.declared.annotation.Note.{Note}
@@ -20,6 +21,23 @@ use Rattle.explain_forms.specs.TextOutput.{LineWritten, gap_text}
 -- Two dots if lines between the last one written and this one are skipped.
 abbrev pub left_out : ℕ → ℕ → List ℕ
 left_out last number = if nat_lt (last + 1) number then gap_text else []
+
+-- True if the line is after the first 5,000 lines of a page that does not show every line.
+abbrev pub is_beyond : Excerpt → ℕ → Bool
+is_beyond excerpt number = not excerpt.every && nat_le (excerpt.from + 5000) number
+
+abbrev pub page_lines_at : Excerpt → ℕ → Lines
+page_lines_at excerpt number = if is_beyond excerpt number then Failures else excerpt.lines
+
+-- Which lines are written in this format. The last ones are those of a page.
+abbrev pub lines_in : OutputFormat → Lines → Lines → Lines
+lines_in Html lines page = page
+lines_in Text lines page = lines
+lines_in Json lines page = lines
+
+-- Which lines are written at this number: after the first 5,000 lines of a page only failures.
+abbrev pub lines_at : Excerpt → ℕ → Lines
+lines_at excerpt number = lines_in excerpt.form excerpt.lines (page_lines_at excerpt number)
 
 -- True if the line with these annotations is written at once. If all lines are written, each is. If only failures are
 -- written, a line is if it has a failure written in full. So are the further lines to be written after such a failure.

@@ -138,7 +138,7 @@ impl Explainer {
                 self.report
                     .emit_unjudged(Unjudged::without_settings(*lines))
             }
-            Stage::Checked(known) => self.report.emit_end(&known.primaries),
+            Stage::Checked(known) => self.report.emit_end(known),
         }
     }
 

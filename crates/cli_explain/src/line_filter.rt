@@ -1,16 +1,28 @@
 //! Filter of log lines: which lines are written, and when.
 
-use cli_options::{Excerpt, Lines};
+use cli_options::{Excerpt, Lines, OutputFormat};
 use explain_forms::{Emitter, Links, Page, Skipped};
-use explain_lines::{Carried, ExplainedLine, Gap, Note, carried_by, has_failure};
+use explain_lines::{Carried, ExplainedLine, Gap, Jump, Note, carried_by, has_failure, is_named};
 use std::alloc::{AllocError, Global};
 use std::collections::VecDeque;
 
+// The maximum number of lines that are kept because a later failure may name them, and their maximum length in bytes.
+const KEPT: usize = 1024;
+
+const LONGEST: usize = 4096;
+
+// The number of lines of which a page shows each one.
+const PAGE_LINES: u64 = 5000;
+
 /// The filter of an excerpt. If only failures are written, it buffers the lines before the next failure, at most as
-/// many as are written around a failure.
+/// many as are written around a failure. Of the other lines it keeps those that a later failure may name.
 pub struct Window {
     excerpt: Excerpt,
     held: VecDeque<Held>,
+    // The last lines that are not written and that a later failure may name, oldest first.
+    kept: VecDeque<Held>,
+    // Whether the last line written precedes an earlier one.
+    is_back: bool,
     // The number of lines that are still to be written after the last failure.
     subsequent: u32,
     // The number of the last line written.
@@ -20,14 +32,15 @@ pub struct Window {
     octets: Vec<u8>,
 }
 
-// A buffered line: its number, the bytes that are written, whether it is an entry, whether that is an `up`, and its
-// annotations.
+// A buffered line: its number, the bytes that are written, whether it is an entry, whether that is an `up`, whether it is
+// kept for a later failure, and its annotations.
 #[derive(Drop)]
 struct Held {
     number: u64,
     octets: Vec<u8>,
     is_entry: bool,
     is_up: bool,
+    is_kept: bool,
     notes: Vec<Note>,
 }
 
@@ -37,12 +50,15 @@ impl Drop for Window {
         let Window {
             excerpt: _excerpt,
             held,
+            kept,
+            is_back: _is_back,
             subsequent: _subsequent,
             last: _last,
             links,
             octets,
         } = self;
         drop(held);
+        drop(kept);
         drop(links);
         drop(octets);
     }
@@ -55,8 +71,40 @@ impl Held {
             octets: Vec::new(alloc),
             is_entry: false,
             is_up: false,
+            is_kept: false,
             notes: Vec::new(alloc),
         }
+    }
+
+    // Replaces the line with this one.
+    fn fill(
+        &mut self,
+        shown_line: ExplainedLine<'_, '_>,
+        notes: &[Note],
+    ) -> Result<(), AllocError> {
+        self.number = shown_line.number;
+        self.is_up = shown_line.is_up();
+        self.is_entry = matches!(shown_line.carried, Carried::Entry(_, _));
+        self.is_kept = is_kept(shown_line);
+        self.notes.clear();
+        self.notes.extend_from_slice(notes)?;
+        self.octets.clear();
+        self.octets.extend_from_slice(shown_line.shown())
+    }
+
+    // Returns the line as it is written. The bytes of its frame replace the content of `octets`.
+    fn shown<'a>(
+        &'a self,
+        max: u32,
+        octets: &'a mut Vec<u8>,
+    ) -> Result<ExplainedLine<'a, 'a>, AllocError> {
+        let carried = self.carried(max, octets)?;
+        Ok(ExplainedLine {
+            number: self.number,
+            octets: &self.octets,
+            limit: self.octets.len(),
+            carried,
+        })
     }
 
     // Returns the content of the line. The bytes of its frame replace the content of `octets`.
@@ -75,6 +123,11 @@ impl Held {
     }
 }
 
+// Returns whether a line that is not written is kept for a later failure that may name it.
+fn is_kept(shown_line: ExplainedLine<'_, '_>) -> bool {
+    shown_line.octets.len() <= LONGEST && shown_line.may_be_named()
+}
+
 // Returns a line as it is recorded if it is not written.
 fn skipped_of(shown_line: ExplainedLine<'_, '_>) -> Skipped {
     Skipped {
@@ -90,7 +143,7 @@ impl Window {
     ghost use Rattle.cli_options.specs.declared.explain_options.OutputFormat.TheVariants.{Text};
     ghost use Rattle.explain_lines.specs.AnnotatedFailure.{is_whole};
     ghost use Rattle.explain_forms.specs.OutputBuffer.{Adds, AddsSome};
-    ghost use Rattle.cli_explain.specs.InnerLineFilter.{TakesLine, WritesNext, further_lines_after, is_written_at_once, left_out};
+    ghost use Rattle.cli_explain.specs.InnerLineFilter.{TakesLine, WritesNext, further_lines_after, is_beyond, is_written_at_once, left_out, lines_at, page_lines_at};
 
     /// Creates a filter that has written no line.
     pub fn new(alloc: Global, excerpt: Excerpt) -> Window
@@ -99,6 +152,8 @@ impl Window {
         Window {
             excerpt,
             held: VecDeque::new(alloc),
+            kept: VecDeque::new(alloc),
+            is_back: false,
             subsequent: 0,
             last: 0,
             links: Links::new(alloc),
@@ -133,10 +188,12 @@ impl Window {
             → TakesLine (is_written_at_once self.old.excerpt.lines self.old.subsequent notes.now) page.old page.new shown_line.entry
             notes.now) }
         ensures subsequent { OnOk result (self.new.subsequent
-            ≡ further_lines_after self.old.excerpt.lines self.old.excerpt.around self.old.subsequent notes.now) }
+            ≡ further_lines_after (lines_at self.old.excerpt shown_line.entry.number) self.old.excerpt.around self.old.subsequent
+            notes.now) }
         ensures excerpt { self.new.excerpt ≡ self.old.excerpt }
     {
-        if self.is_reported(notes) {
+        if self.is_reported(shown_line.number, notes) {
+            self.emit_named(page, shown_line.number, notes, max);
             self.emit_held(page, max);
             self.submit(page, shown_line, notes);
             Ok(())
@@ -146,17 +203,53 @@ impl Window {
     }
 
     // Returns whether the line with these annotations is written at once.
-    fn is_reported(&mut self, notes: &[Note]) -> bool
-        ensures shown_line { result ≡ is_written_at_once self.old.excerpt.lines self.old.subsequent notes.now }
+    fn is_reported(&mut self, number: u64, notes: &[Note]) -> bool
+        ensures shown_line { result ≡ is_written_at_once (lines_at self.old.excerpt number) self.old.subsequent notes.now }
         ensures subsequent { self.new.subsequent
-            ≡ further_lines_after self.old.excerpt.lines self.old.excerpt.around self.old.subsequent notes.now }
+            ≡ further_lines_after (lines_at self.old.excerpt number) self.old.excerpt.around self.old.subsequent notes.now }
         ensures excerpt { self.new.excerpt ≡ self.old.excerpt }
         ensures held { self.new.held ≡ self.old.held }
     {
-        match self.excerpt.lines {
+        match self.lines_at(number) {
             Lines::All => true,
             Lines::Failures => self.is_near(notes),
         }
+    }
+
+    // Returns which kind of lines is written at this number: after the first lines of a page only failures.
+    fn lines_at(&self, number: u64) -> Lines
+        ensures { result ≡ lines_at self.now.excerpt number }
+    {
+        match self.excerpt.form {
+            OutputFormat::Html => self.page_lines_at(number),
+            OutputFormat::Text => self.excerpt.lines,
+            OutputFormat::Json => self.excerpt.lines,
+        }
+    }
+
+    fn page_lines_at(&self, number: u64) -> Lines
+        ensures { result ≡ page_lines_at self.now.excerpt number }
+    {
+        if self.is_beyond(number) {
+            Lines::Failures
+        } else {
+            self.excerpt.lines
+        }
+    }
+
+    // Returns whether the line is after the first lines of a page, unless the page shows every line.
+    fn is_beyond(&self, number: u64) -> bool
+        ensures { result ≡ is_beyond self.now.excerpt number }
+    {
+        !self.excerpt.every && number >= u64::from(self.excerpt.from) + PAGE_LINES
+    }
+
+    // Returns the first line of the log from which on only failures are written although each line was requested.
+    fn shortened_from(&self, lines: u64) -> Option<u64> {
+        let first = u64::from(self.excerpt.from) + PAGE_LINES;
+        let is_cut = self.excerpt.lines != self.lines_at(first);
+        let is_long = lines >= first && self.excerpt.has_line(first);
+        (is_cut && is_long).then_some(first)
     }
 
     // Returns whether the line is written at once, if only failures and the lines around them are written.
@@ -198,20 +291,62 @@ impl Window {
         ensures subsequent { self.new.subsequent ≡ self.old.subsequent }
         ensures excerpt { self.new.excerpt ≡ self.old.excerpt }
     {
-        let skipped = skipped_of(shown_line);
         if self.excerpt.around == 0 {
-            return self.skip(skipped, notes);
+            self.skip(skipped_of(shown_line), notes)?;
+            return self.keep(alloc, shown_line, notes);
         }
         let mut held = self.vacant(alloc)?;
-        held.number = shown_line.number;
-        held.is_up = skipped.is_up;
-        held.is_entry = matches!(shown_line.carried, Carried::Entry(_, _));
-        held.notes.clear();
-        held.notes.extend_from_slice(notes)?;
-        held.octets.clear();
-        held.octets.extend_from_slice(shown_line.shown())?;
+        held.fill(shown_line, notes)?;
         self.held.push_back(held)?;
         Ok(())
+    }
+
+    // Keeps a line that is not written, if a later failure may name it.
+    fn keep(
+        &mut self,
+        alloc: Global,
+        shown_line: ExplainedLine<'_, '_>,
+        notes: &[Note],
+    ) -> Result<(), AllocError>
+        ensures subsequent { self.new.subsequent ≡ self.old.subsequent }
+        ensures excerpt { self.new.excerpt ≡ self.old.excerpt }
+    {
+        if !is_kept(shown_line) {
+            return Ok(());
+        }
+        let mut kept = self.oldest_kept(alloc);
+        kept.fill(shown_line, notes)?;
+        self.kept.push_back(kept)?;
+        Ok(())
+    }
+
+    // Keeps a buffered line that is not written, if a later failure may name it. Returns a line to be replaced.
+    fn keep_held(&mut self, alloc: Global, held: Held) -> Result<Held, AllocError>
+        ensures subsequent { self.new.subsequent ≡ self.old.subsequent }
+        ensures excerpt { self.new.excerpt ≡ self.old.excerpt }
+        ensures held { self.new.held ≡ self.old.held }
+    {
+        if !held.is_kept {
+            return Ok(held);
+        }
+        let oldest = self.oldest_kept(alloc);
+        self.kept.push_back(held)?;
+        Ok(oldest)
+    }
+
+    // Returns the oldest kept line, which is no longer kept, if the maximum number is kept, and otherwise a new one.
+    fn oldest_kept(&mut self, alloc: Global) -> Held
+        ensures subsequent { self.new.subsequent ≡ self.old.subsequent }
+        ensures excerpt { self.new.excerpt ≡ self.old.excerpt }
+        ensures held { self.new.held ≡ self.old.held }
+    {
+        if self.kept.len() < KEPT {
+            return Held::new(alloc);
+        }
+        match self.kept.pop_front() {
+            Some(kept) => kept,
+            None => Held::new(alloc),
+        }
     }
 
     // Returns the oldest buffered line, which is not written then, if the buffer is full, and otherwise a new one.
@@ -225,7 +360,7 @@ impl Window {
         match self.held.pop_front() {
             Some(held) => {
                 self.skip(held.skipped(), &held.notes)?;
-                Ok(held)
+                self.keep_held(alloc, held)
             }
             None => Ok(Held::new(alloc)),
         }
@@ -293,16 +428,124 @@ impl Window {
     {
         self.go_to(page, held.number);
         let emitter = self.emitter();
-        let Ok(carried) = held.carried(max, &mut self.octets) else {
+        let Ok(shown_line) = held.shown(max, &mut self.octets) else {
             return page.refuse();
         };
-        let shown_line = ExplainedLine {
-            number: held.number,
-            octets: &held.octets,
-            limit: held.octets.len(),
-            carried,
-        };
         emitter.line(page, &mut self.links, shown_line, &held.notes);
+    }
+
+    // Writes the kept lines that the failures of line `number` name.
+    fn emit_named(&mut self, page: &mut Page, number: u64, notes: &[Note], max: u32)
+        ensures shown_line { self.old.excerpt.form ≡ Text → AddsSome page.old page.new }
+        ensures subsequent { self.new.subsequent ≡ self.old.subsequent }
+        ensures excerpt { self.new.excerpt ≡ self.old.excerpt }
+        ensures held { self.new.held ≡ self.old.held }
+    {
+        if self.keeps_named(notes) {
+            self.emit_all_named(page, notes, max);
+            let next = self.next_line(number);
+            self.jump_on(page, next);
+        }
+    }
+
+    // Returns the number of the first buffered line, or otherwise that of the line after it.
+    fn next_line(&self, number: u64) -> u64 {
+        match self.held.front() {
+            Some(held) => held.number,
+            None => number,
+        }
+    }
+
+    // Writes the kept lines that the failures name. The others are kept in their order.
+    fn emit_all_named(&mut self, page: &mut Page, notes: &[Note], max: u32)
+        ensures shown_line { self.old.excerpt.form ≡ Text → AddsSome page.old page.new }
+        ensures subsequent { self.new.subsequent ≡ self.old.subsequent }
+        ensures excerpt { self.new.excerpt ≡ self.old.excerpt }
+        ensures held { self.new.held ≡ self.old.held }
+    {
+        for _ in 0..self.kept.len() {
+            self.emit_if_named(page, notes, max);
+        }
+    }
+
+    // Returns whether a kept line is named by the failures.
+    fn keeps_named(&self, notes: &[Note]) -> bool {
+        let mut kept = self.kept.iter();
+        has_failure(notes) && kept.any(|kept| is_named(notes, kept.number))
+    }
+
+    // Writes the oldest kept line if the failures name it, and otherwise keeps it as the latest.
+    fn emit_if_named(&mut self, page: &mut Page, notes: &[Note], max: u32)
+        ensures shown_line { self.old.excerpt.form ≡ Text → AddsSome page.old page.new }
+        ensures subsequent { self.new.subsequent ≡ self.old.subsequent }
+        ensures excerpt { self.new.excerpt ≡ self.old.excerpt }
+        ensures held { self.new.held ≡ self.old.held }
+    {
+        let Some(kept) = self.kept.pop_front() else {
+            return;
+        };
+        if is_named(notes, kept.number) {
+            self.emit_kept(page, &kept, max);
+        } else if self.kept.push_back(kept).is_err() {
+            page.refuse();
+        }
+    }
+
+    // Writes a kept line. It may precede the last line written.
+    fn emit_kept(&mut self, page: &mut Page, kept: &Held, max: u32)
+        ensures shown_line { self.old.excerpt.form ≡ Text → AddsSome page.old page.new }
+        ensures subsequent { self.new.subsequent ≡ self.old.subsequent }
+        ensures excerpt { self.new.excerpt ≡ self.old.excerpt }
+        ensures held { self.new.held ≡ self.old.held }
+    {
+        self.approach(page, kept.number);
+        let emitter = self.emitter();
+        let Ok(shown_line) = kept.shown(max, &mut self.octets) else {
+            return page.refuse();
+        };
+        emitter.named_line(page, &mut self.links, shown_line, &kept.notes);
+    }
+
+    // Writes what precedes a kept line: that lines are skipped, or that it is an earlier line.
+    fn approach(&mut self, page: &mut Page, number: u64)
+        ensures shown_line { self.old.excerpt.form ≡ Text → AddsSome page.old page.new }
+        ensures subsequent { self.new.subsequent ≡ self.old.subsequent }
+        ensures excerpt { self.new.excerpt ≡ self.old.excerpt }
+        ensures held { self.new.held ≡ self.old.held }
+    {
+        if number > self.last {
+            self.jump_on(page, number);
+            self.go_to(page, number);
+        } else {
+            self.is_back = true;
+            self.emitter().jump(page, Jump::Back(number));
+        }
+    }
+
+    // Writes that the next line follows the last lines written but not an earlier one above it, if that is so.
+    fn jump_on(&mut self, page: &mut Page, next: u64)
+        ensures shown_line { self.old.excerpt.form ≡ Text → AddsSome page.old page.new }
+        ensures subsequent { self.new.subsequent ≡ self.old.subsequent }
+        ensures excerpt { self.new.excerpt ≡ self.old.excerpt }
+        ensures held { self.new.held ≡ self.old.held }
+        ensures last { self.new.last ≡ self.old.last }
+    {
+        if self.takes_jump(next) {
+            self.emitter().jump(page, Jump::On(next));
+        }
+    }
+
+    // Returns whether the next line follows the last lines written, and an earlier line is above it. It no longer is
+    // then.
+    fn takes_jump(&mut self, next: u64) -> bool
+        ensures subsequent { self.new.subsequent ≡ self.old.subsequent }
+        ensures excerpt { self.new.excerpt ≡ self.old.excerpt }
+        ensures held { self.new.held ≡ self.old.held }
+        ensures last { self.new.last ≡ self.old.last }
+    {
+        let is_back = self.is_back;
+        self.is_back = false;
+        is_back && next == self.last.saturating_add(1)
     }
 
     // Writes that lines are skipped before this one, if it does not follow the last line written.
@@ -338,7 +581,13 @@ impl Window {
     {
         self.skip_all(page);
         self.leave_out(page, lines);
-        self.emitter().end_lines(page, &self.links);
+        let shortened = self.shortened_from(lines);
+        self.emitter().end_lines(page, &self.links, shortened);
+    }
+
+    /// Returns whether lists of primaries are requested.
+    pub fn has_lists(&self) -> bool {
+        self.excerpt.lists
     }
 
     /// Returns the lines that links may name.

@@ -80,7 +80,8 @@ fn first_line(alloc: Global, report: &mut Report, line: &[u8]) -> Result<Stage, 
         Some(settings) => {
             report.emit_ends(settings);
             report.submit(alloc, ExplainedLine::plain(1, line), 0)?;
-            Ok(Stage::Checked(Known::new(alloc, settings)))
+            let with_lists = report.has_lists();
+            Ok(Stage::Checked(Known::new(alloc, settings, with_lists)))
         }
         None => {
             report.note_unreadable(unreadable_settings(line))?;

@@ -18,19 +18,20 @@ use cli_options::Excerpt;
 use explain_forms::Page;
 use explain_lines::{Carried, ExplainedLine, Failing, Note, Unjudged};
 use explain_session::{Known, check_next_entry};
-use explain_statistics::{Groups, Primaries, Tally, group_notes};
+use explain_statistics::{Groups, Lists, LogFacts, Primaries, Tally, group_notes};
 use hsms_log::Unreadable;
 use hsms_machine::Settings;
 use std::alloc::{AllocError, Global};
 
-/// The buffered output, the failure counts, the line filter, the failure groups, and the annotations of the current
-/// line, also as they are written.
+/// The buffered output, the failure counts, the line filter, the failure groups, what the entries show about line 1, and
+/// the annotations of the current line, also as they are written.
 #[derive(Drop)]
 pub struct Report {
     pub page: Page,
     pub tally: Tally,
     window: Window,
     groups: Groups,
+    facts: LogFacts,
     pub notes: Vec<Note>,
     grouped: Vec<Note>,
 }
@@ -52,6 +53,7 @@ impl Report {
             tally: Tally::new(alloc),
             window,
             groups: Groups::new(alloc),
+            facts: LogFacts::new(),
             notes: Vec::new(alloc),
             grouped: Vec::new(alloc),
         })
@@ -84,16 +86,42 @@ impl Report {
         self.window.emitter().unjudged(&mut self.page, unjudged);
     }
 
-    /// Writes the failures of a checked log, and the outcomes of its primaries.
-    pub fn emit_end(&mut self, primaries: &Primaries)
+    /// Writes which settings of a checked log no entry agrees with, its failures, and the outcomes and lists of its
+    /// primaries.
+    pub fn emit_end(&mut self, known: &Known)
         ensures tally { self.new.tally ≡ self.old.tally }
         ensures shown { KeepsShown self.old self.new }
     {
+        self.emit_doubts(known.settings);
         self.emit_emptiness();
         let emitter = self.window.emitter();
         emitter.groups(&mut self.page, &self.groups);
         emitter.failures(&mut self.page, &self.tally);
+        self.emit_primaries(&known.primaries, &known.lists);
+    }
+
+    // Writes the outcomes and lists of the primaries.
+    fn emit_primaries(&mut self, primaries: &Primaries, lists: &Lists)
+        ensures tally { self.new.tally ≡ self.old.tally }
+        ensures shown { KeepsShown self.old self.new }
+    {
+        let emitter = self.window.emitter();
         emitter.primaries(&mut self.page, self.window.links(), primaries);
+        emitter.lists(&mut self.page, self.window.links(), lists);
+    }
+
+    /// Returns whether lists of primaries are requested.
+    pub fn has_lists(&self) -> bool {
+        self.window.has_lists()
+    }
+
+    // Writes which settings no entry agrees with.
+    fn emit_doubts(&mut self, settings: Settings)
+        ensures tally { self.new.tally ≡ self.old.tally }
+        ensures shown { KeepsShown self.old self.new }
+    {
+        let doubts = self.facts.contradicted(settings);
+        self.window.emitter().doubts(&mut self.page, &doubts);
     }
 
     // Writes that there was no entry, if there was none.
@@ -159,6 +187,7 @@ impl Report {
         match carried {
             Carried::Entry(step, text) => {
                 self.tally.count_entry(step.what);
+                self.facts.note(known.repaired_session.line(), step.what);
                 check_next_entry(alloc, known, step, text, &mut self.notes)
             }
             Carried::Nothing => Ok(()),

@@ -4,6 +4,9 @@ use Rattle.hsms_frame.specs.declared.fault.ReadFault.TheVariants as read
 use Rattle.hsms_log.specs.declared.fault.AuditFault.TheVariants as log
 use Rattle.hsms_log.specs.declared.verdict.Verdict.{Verdict}
 use Rattle.secs_text.specs.declared.fault.TextFault.TheVariants as text
+use Rattle.capture_errors.specs.declared.capture_error.CaptureError.{CaptureError}
+use Rattle.capture_errors.specs.declared.capture_error.CaptureError.TheVariants as capture
+use Rattle.capture_errors.specs.Errors.{capture_error_text}
 use Rattle.cli_options.specs.declared.fault.ToolFault.{ToolFault}
 use Rattle.cli_options.specs.declared.fault.ToolFault.TheVariants as tool
 use Rattle.cli_options.specs.Status.{IsRefusedAs}
@@ -16,7 +19,7 @@ use Rattle.cli_filters.specs.declared.audit_error.AuditError.TheVariants as audi
 use Rattle.cli_filters.specs.declared.command_error.Cause.{Cause}
 use Rattle.cli_filters.specs.declared.command_error.Cause.TheVariants.{Refused, Read, Write, Endless, Memory}
 use Rattle.cli_filters.specs.declared.command_error.CommandError.{CommandError}
-use Rattle.cli_filters.specs.declared.command_error.CommandError.TheVariants.{Help, Show, Encode, Audit}
+use Rattle.cli_filters.specs.declared.command_error.CommandError.TheVariants.{Help, Show, Encode, Audit, Capture}
 use Rattle.cli_filters.specs.declared.encode_error.EncodeError.{EncodeError}
 use Rattle.cli_filters.specs.declared.encode_error.EncodeError.TheVariants as encode
 use Rattle.cli_filters.specs.Audit.{audit_error_text}
@@ -28,6 +31,7 @@ command_error_text Help = codes "Write"
 command_error_text (Show error) = show_error_text error
 command_error_text (Encode error) = encode_error_text error
 command_error_text (Audit error) = audit_error_text error
+command_error_text (Capture error) = capture_error_text error
 
 -- What kind of error it is. Invalid input is `Refused`.
 abbrev pub show_cause : ShowError → Cause
@@ -49,11 +53,19 @@ audit_cause (audit.Log log.Endless) = Endless
 audit_cause (audit.Log log.Memory) = Memory
 audit_cause audit.Write = Write
 
+abbrev pub capture_cause : CaptureError → Cause
+capture_cause capture.Read = Read
+capture_cause capture.Write = Write
+capture_cause capture.Endless = Endless
+capture_cause capture.Memory = Memory
+capture_cause (capture.Refused rejection) = Refused
+
 abbrev pub command_cause : CommandError → Cause
 command_cause Help = Write
 command_cause (Show error) = show_cause error
 command_cause (Encode error) = encode_cause error
 command_cause (Audit error) = audit_cause error
+command_cause (Capture error) = capture_cause error
 
 -- 2 if the input is invalid, and 3 if I/O or an allocation failed.
 abbrev pub status_of : Cause → ℕ

@@ -1,11 +1,12 @@
 //! Why the command ends before its work is done.
 
 ghost use Rattle.std.specs.Prelude.{◌≡◌, Some};
-ghost use Rattle.cli_filters.specs.CommandErrors.{IsFaultOf, audit_cause, command_cause, command_error_text, encode_cause, show_cause, status_of};
+ghost use Rattle.cli_filters.specs.CommandErrors.{IsFaultOf, audit_cause, capture_cause, command_cause, command_error_text, encode_cause, show_cause, status_of};
 ghost use Rattle.cli_filters.specs.declared.command_error.CommandError.TheVariants as command;
 
 use crate::audit_error::AuditError;
 use crate::encode_error::EncodeError;
+use capture_errors::CaptureError;
 use cli_options::{ToolFault, refusal};
 use cli_show::ShowError;
 use hsms_frame::{Failed, ReadFault};
@@ -26,6 +27,8 @@ pub enum CommandError {
     Encode(EncodeError),
     /// The verdict on a log is not written.
     Audit(AuditError),
+    /// A capture is not audited in full.
+    Capture(CaptureError),
 }
 
 /// What kind of error it is.
@@ -53,6 +56,7 @@ impl CommandError {
             CommandError::Show(error) => show_cause(error),
             CommandError::Encode(error) => encode_cause(error),
             CommandError::Audit(error) => audit_cause(error),
+            CommandError::Capture(error) => capture_cause(error),
         }
     }
 
@@ -106,6 +110,18 @@ fn audit_cause(error: AuditError) -> Cause
     }
 }
 
+fn capture_cause(error: CaptureError) -> Cause
+    ensures { result ≡ capture_cause error }
+{
+    match error {
+        CaptureError::Refused(_) => Cause::Refused,
+        CaptureError::Read => Cause::Read,
+        CaptureError::Write => Cause::Write,
+        CaptureError::Endless => Cause::Endless,
+        CaptureError::Memory => Cause::Memory,
+    }
+}
+
 /// Returns the error with its text, or `Memory` if an allocation fails for the text.
 pub fn fault_of(alloc: Global, error: CommandError) -> ToolFault
     ensures { IsFaultOf error result }
@@ -128,6 +144,7 @@ impl fmt::Display for CommandError {
             CommandError::Show(error) => write!(f, "{error}"),
             CommandError::Encode(error) => write!(f, "{error}"),
             CommandError::Audit(error) => write!(f, "{error}"),
+            CommandError::Capture(error) => write!(f, "{error}"),
         }
     }
 }
@@ -164,5 +181,13 @@ impl From<AuditError> for CommandError {
 
     fn from(error: AuditError) -> CommandError {
         CommandError::Audit(error)
+    }
+}
+
+impl From<CaptureError> for CommandError {
+    ghost from_gives = { λ error e. e ≡ command.Capture error };
+
+    fn from(error: CaptureError) -> CommandError {
+        CommandError::Capture(error)
     }
 }

@@ -1,8 +1,9 @@
 -- What the words of a command line request.
-use Rattle.std.proofs.Common.{Bor, map, ◌≡◌, ◌≢◌, ◌<◌, ◌≤◌, ◌^◌, ◌&&◌, ◌⊎◌, ℕ, Bool, true, false, List, [], ◌∷◌, Some, None, Ok, Err, refl, sym, ◌∙◌, ap, ap₂, subst, inl, inr, arith}
+use Rattle.std.proofs.Common.{Bor, length, map, nat_eq, ◌≡◌, ◌≢◌, ◌<◌, ◌≤◌, ◌^◌, ◌&&◌, ◌⊎◌, ℕ, Bool, true, false, List, [], ◌∷◌, Some, None, Ok, Err, refl, sym, ◌∙◌, ap, ap₂, subst, inl, inr, arith}
 use Rattle.std.specs.Prelude.{Option, unwrap_or, Result, IfOk, IfErr, if◌then◌else◌, nat_le, option_map}
 use Rattle.std.specs.Str.Parse.{ParsesUnsigned, digits_value, without_leading_plus}
 use Rattle.std.proofs.lemmas.Bool.Decides.{nat_tests}
+use Rattle.std.proofs.lemmas.List.{length-map}
 use Rattle.clap.proofs.OnLiterals.{clap_on_literals}
 use Rattle.clap.proofs.ValueTestLemmas.{accepts-Accepts, Accepts-accepts}
 use Rattle.clap.proofs.WalkLemmas.{one_text-rows}
@@ -20,9 +21,9 @@ use Rattle.cli_options.specs.declared.request.Request.{Request}
 use Rattle.cli_options.specs.declared.request.Request.TheVariants as request
 use Rattle.cli_options.specs.declared.request.Task.TheVariants as asked
 use Rattle.cli_options.specs.OptionValues.{Number, number_between, number_in}
-use Rattle.cli_options.specs.Request.{Operands, AsksBy, EncodesTo, HasOperands, ParsesNothing, ParsesWork, command_line, no_operands, operands_by, operands_for, operands_of}
+use Rattle.cli_options.specs.Request.{Operands, AsksBy, AsksFor, EncodesTo, HasOperands, ParsesNothing, ParsesWork, command_line, no_operands, operands_by, operands_for, operands_of}
 use Rattle.cli_options.specs.InnerRequest.{CallsForText, IsHelp}
-use Rattle.cli_options.specs.Status.{IsRefusedFor}
+use Rattle.cli_options.specs.Status.{IsRefusedAs, IsRefusedFor}
 
 -- ---- numbers and flags
 
@@ -89,6 +90,12 @@ pub names_copied : {A E : Type 0} (items : A → List (Bor Text)) (names : List 
 names_copied items names given (Ok copied) same is = ap (map (λ name. name.now)) same ∙ ap (λ o. unwrap_or o []) is
 names_copied items names given (Err error) same is = tt
 
+-- The names were counted.
+pub counted : (names : List (Bor Text)) (given : Option (List Text)) → Some (map (λ name. name.now) names) ≡ given
+    → nat_eq (length names) 2 ≡ nat_eq (length (unwrap_or given [])) 2
+counted names given is =
+    ap (λ (n : ℕ). nat_eq n 2) (sym (length-map names (λ name. name.now)) ∙ ap (λ o. length (unwrap_or o [])) is)
+
 -- Operands with these names and this flag.
 pub same_operands : {names others : List Text} {quiet is_quiet : Bool} → names ≡ others → quiet ≡ is_quiet
     → ◌≡◌ {A = Operands} (record { names = names; quiet = quiet }) (record { names = others; quiet = is_quiet })
@@ -106,6 +113,29 @@ entered_as f (Some c) name rows is_name is_rows =
     let same : (f c).1 ≡ rows = cc in
     ap₂ (λ (a : Text) (b : List Row). Some (a, b)) named same
 
+-- No subcommand requests anything.
+asks_for_entered : (name other : Text) (rows others : List Row) (request : Request) → ◌≡◌ {A = Option (Text × List Row)} (Some (name, rows)) (Some (other, others))
+    → AsksFor other others request → AsksFor name rows request
+asks_for_entered name other rows others request both asks =
+    let pair : ◌≡◌ {A = Text × List Row} (name, rows) (other, others) = cc in
+    let named : name ≡ other = ap (λ (p : Text × List Row). p.0) pair in
+    let same : rows ≡ others = ap (λ (p : Text × List Row). p.1) pair in
+    let P : Text → Type 0 = λ x. AsksFor x others request in
+    let Q : List Row → Type 0 = λ x. AsksFor name x request in
+    subst Q (sym same) (subst P (sym named) asks)
+
+asks_nothing : (entered : Option (Text × List Row)) (name : Text) (rows : List Row) → entered ≡ Some (name, rows)
+    → ((request : Request) → AsksFor name rows request → ⊥) → (request : Request) → AsksBy entered request → ⊥
+asks_nothing entered name rows is none request (other, others, e, asks) =
+    none request (asks_for_entered name other rows others request (sym is ∙ e) asks)
+
+pub none_asked : (entered : Option (Text × List Row)) (name : Text) (rows : List Row) (text : List ℕ) (fault : ToolFault) → entered ≡ Some (name, rows)
+    → ((request : Request) → AsksFor name rows request → ⊥) → IsRefusedAs text fault
+    → IsRefusedFor ((request : Request) → AsksBy entered request → ⊥) text fault
+none_asked entered name rows text (Refused given) is none told = (told, asks_nothing entered name rows is none)
+none_asked entered name rows text (Device word) is none told = told
+none_asked entered name rows text Memory is none told = tt
+
 command_is_simple : is_simple command_line ≡ true
 unfolding clap_on_literals
 command_is_simple = refl
@@ -120,6 +150,7 @@ encodes_to words (request.Task asked.Audit) work = work
 encodes_to words (request.Task (asked.Show s)) work = work
 encodes_to words (request.Task (asked.Encode e)) work = work
 encodes_to words (request.Explain excerpt) work = work
+encodes_to words request.Compare work = work
 encodes_to words (request.Capture capturing) work = work
 encodes_to words (request.Serve service) work = work
 
@@ -147,6 +178,7 @@ entered_operands words (request.Task asked.Audit) entered asks = refl
 entered_operands words (request.Task (asked.Show s)) entered asks = refl
 entered_operands words (request.Task (asked.Encode e)) entered asks = refl
 entered_operands words (request.Explain excerpt) entered asks = refl
+entered_operands words request.Compare entered asks = refl
 entered_operands words (request.Capture capturing) entered asks = refl
 entered_operands words (request.Serve service) entered asks = refl
 
@@ -197,6 +229,7 @@ help_explained words app k (request.Task asked.Audit) is fails help kind = absur
 help_explained words app k (request.Task (asked.Show s)) is fails help kind = absurd help
 help_explained words app k (request.Task (asked.Encode e)) is fails help kind = absurd help
 help_explained words app k (request.Explain excerpt) is fails help kind = absurd help
+help_explained words app k request.Compare is fails help kind = absurd help
 help_explained words app k (request.Capture capturing) is fails help kind = absurd help
 help_explained words app k (request.Serve service) is fails help kind = absurd help
 
@@ -212,6 +245,7 @@ help_operands words (request.Task asked.Audit) help = absurd help
 help_operands words (request.Task (asked.Show s)) help = absurd help
 help_operands words (request.Task (asked.Encode e)) help = absurd help
 help_operands words (request.Explain excerpt) help = absurd help
+help_operands words request.Compare help = absurd help
 help_operands words (request.Capture capturing) help = absurd help
 help_operands words (request.Serve service) help = absurd help
 

@@ -23,7 +23,7 @@ to_number = record { name = codes "to"; least = 1; greatest = 4294967295; left_o
 abbrev pub explain_rules : List Rule
 explain_rules =
     operand (codes "FILE") ∷ text_option (codes "only") ∷ option_of around_number ∷ option_of from_number ∷ option_of to_number
-    ∷ text_option (codes "format") ∷ flag_option (codes "utc") ∷ []
+    ∷ text_option (codes "format") ∷ flag_option (codes "utc") ∷ flag_option (codes "lists") ∷ flag_option (codes "all") ∷ []
 
 -- The text of the option `only`, if any, that requests these lines.
 abbrev pub only_word : Lines → Option Text
@@ -45,7 +45,8 @@ abbrev pub HasExcerpt : List Row → Excerpt → Type 0
 HasExcerpt rows excerpt =
     (first_of (codes "only") rows ≡ only_word excerpt.lines) × (number_in around_number rows ≡ Some excerpt.around)
     × (number_in from_number rows ≡ Some excerpt.from) × (number_in to_number rows ≡ Some excerpt.to)
-    × HasFormat rows excerpt.form × IsFlag (codes "utc") rows excerpt.utc
+    × HasFormat rows excerpt.form × IsFlag (codes "utc") rows excerpt.utc × IsFlag (codes "lists") rows excerpt.lists
+    × IsFlag (codes "all") rows excerpt.every
 
 -- True if the line with this number is between the first and the last one that may be shown. The maximum number is no
 -- limit.

@@ -23,5 +23,6 @@ IsHelpText (asked.Encode e) = ⊥
 abbrev pub IsHelp : Request → Type 0
 IsHelp (request.Task task) = IsHelpText task
 IsHelp (request.Explain excerpt) = ⊥
+IsHelp request.Compare = ⊥
 IsHelp (request.Capture capturing) = ⊥
 IsHelp (request.Serve service) = ⊥

@@ -2,6 +2,7 @@ pub mod OptionValues
 pub mod InnerOptionValues
 pub mod ExplainOptions
 pub mod CaptureOptions
+pub mod CompareOptions
 pub mod InnerClapCommand
 pub mod Request
 pub mod InnerRequest

@@ -1,5 +1,5 @@
 -- What the words of a command line request, as `clap` reads them.
-use Rattle.std.specs.Prelude.{◌≡◌, ◌≢◌, ◌≤◌, ◌⊎◌, true, false, List, [], ◌∷◌, codes, map, Bool, Option, Some, None, unwrap_or}
+use Rattle.std.specs.Prelude.{◌≡◌, ◌≢◌, ◌≤◌, ◌⊎◌, true, false, List, [], ◌∷◌, codes, map, Bool, IsTrue, Option, Some, None, unwrap_or}
 use Rattle.clap.specs.Words.{App, IsAmong, Row, Shape, Text, all_of, fault_of, new_app, subcommand_of}
 use Rattle.clap.specs.declared.error.kind.ErrorKind.TheVariants.{DisplayHelp, DisplayVersion}
 use Rattle.cli_options.specs.declared.request.CommandLine.{CommandLine}
@@ -11,6 +11,7 @@ use Rattle.cli_options.specs.declared.request.Task.{Task}
 use Rattle.cli_options.specs.declared.request.Task.TheVariants as asked
 use Rattle.cli_options.specs.CaptureOptions.{HasCapturing, IsCapturingWithinLimits, capture_rules}
 use Rattle.cli_options.specs.OptionValues.{IsFlag, depth_number, device_number, flag_in, flag_option, max_number, number_in, operands, option_of, system_number}
+use Rattle.cli_options.specs.CompareOptions.{compare_rules, has_two_files}
 use Rattle.cli_options.specs.ExplainOptions.{HasExcerpt, IsExcerptWithinLimits, explain_rules}
 use Rattle.cli_options.specs.ServeOptions.{AsksToServe, serve_rules}
 
@@ -36,6 +37,9 @@ explain_command = record (named (codes "explain")) { rules = explain_rules }
 abbrev pub capture_command : Shape
 capture_command = record (named (codes "capture")) { rules = capture_rules }
 
+abbrev pub compare_command : Shape
+compare_command = record (named (codes "compare")) { rules = compare_rules }
+
 abbrev pub encode_command : Shape
 encode_command = record (named (codes "encode")) {
   rules =
@@ -46,11 +50,13 @@ encode_command = record (named (codes "encode")) {
 abbrev pub serve_command : Shape
 serve_command = record (named (codes "serve")) { rules = serve_rules }
 
--- The command, which requires one of the six subcommands, and has a version.
+-- The command, which requires one of the seven subcommands, and has a version.
 abbrev pub command_line : App
 command_line = record {
   top = record (named (codes "hsms")) { is_leaf = false; subcommand_required = true; has_version = true };
-  subs = show_command ∷ audit_command ∷ explain_command ∷ capture_command ∷ encode_command ∷ serve_command ∷ [];
+  subs =
+      show_command ∷ audit_command ∷ explain_command ∷ compare_command ∷ capture_command ∷ encode_command ∷ serve_command
+      ∷ [];
 }
 
 -- ---- what is requested
@@ -86,6 +92,7 @@ AsksForTask name rows (asked.Encode e) =
 abbrev pub AsksFor : Text → List Row → Request → Type 0
 AsksFor name rows (request.Task task) = AsksForTask name rows task
 AsksFor name rows (request.Explain excerpt) = (name ≡ codes "explain") × HasExcerpt rows excerpt
+AsksFor name rows request.Compare = (name ≡ codes "compare") × IsTrue (has_two_files rows)
 AsksFor name rows (request.Capture capturing) = (name ≡ codes "capture") × HasCapturing rows capturing
 AsksFor name rows (request.Serve service) = (name ≡ codes "serve") × AsksToServe rows service
 
@@ -108,6 +115,7 @@ ParsesTask words (asked.Encode e) = ParsesWork words (request.Task (asked.Encode
 abbrev pub EncodesTo : List Text → Request → Type 0
 EncodesTo words (request.Task task) = ParsesTask words task
 EncodesTo words (request.Explain excerpt) = ParsesWork words (request.Explain excerpt)
+EncodesTo words request.Compare = ParsesWork words request.Compare
 EncodesTo words (request.Capture capturing) = ParsesWork words (request.Capture capturing)
 EncodesTo words (request.Serve service) = ParsesWork words (request.Serve service)
 
@@ -141,6 +149,7 @@ task_operands words (asked.Encode e) = operands_by (subcommand_of command_line w
 abbrev pub operands_for : List Text → Request → Operands
 operands_for words (request.Task task) = task_operands words task
 operands_for words (request.Explain excerpt) = operands_by (subcommand_of command_line words)
+operands_for words request.Compare = operands_by (subcommand_of command_line words)
 operands_for words (request.Capture capturing) = operands_by (subcommand_of command_line words)
 operands_for words (request.Serve service) = operands_by (subcommand_of command_line words)
 
@@ -169,5 +178,6 @@ IsTaskWithinLimits (asked.Encode e) =
 abbrev pub IsWithinLimits : Request → Type 0
 IsWithinLimits (request.Task task) = IsTaskWithinLimits task
 IsWithinLimits (request.Explain excerpt) = IsExcerptWithinLimits excerpt
+IsWithinLimits request.Compare = Unit {0}
 IsWithinLimits (request.Capture capturing) = IsCapturingWithinLimits capturing
 IsWithinLimits (request.Serve service) = (1 ≤ service.port) × (service.port ≤ 65535)

@@ -8,8 +8,8 @@ ghost use Rattle.cli_options.specs.InnerOptionValues.{ranged_option};
 ghost use Rattle.cli_options.specs.Request.{command_line};
 
 use crate::option_tables::{
-    Described, Numbered, audit_options, capture_options, encode_options, explain_options,
-    serve_options, show_options,
+    Described, Numbered, audit_options, capture_options, compare_options, encode_options,
+    explain_options, serve_options, show_options,
 };
 use clap::{Arg, ArgAction, Command, value_parser};
 use std::alloc::{AllocError, Global};
@@ -68,6 +68,16 @@ const EXPLAIN_HELP: &str = help!(
     valid. -v explains errors."
 );
 
+const COMPARE_HELP: &str = help!(
+    "Decides whether the logs of both ends of a connection describe one conversation, and shows each message that they\n\
+    contradict each other about. Line 1 of each log gives the role. Then follow the verdict of `hsms audit` on each log,\n\
+    and `agree`, `disagree` or `undecided` with counts. docs/COMPARE.md says what each line means.\n\n\
+    Example: hsms compare host.log equipment.log\n\n\
+    Exit status: 0 both logs pass and agree; 1 a log fails, or they disagree; 2 invalid command line, a file cannot be\n\
+    opened (Open), logs that are not of both ends (FirstLine, SameRole, SameLink, Device), or undecided (Undecided); 3 read\n\
+    error (Read), write error (Write), too much input (Endless) or out of memory (Memory). -v explains errors."
+);
+
 const CAPTURE_HELP: &str = help!(
     "Reads a pcap or pcapng file once. For each TCP connection at the port it writes two lines, for the connecting and\n\
     the listening end: both addresses, the role, and the verdict of `hsms audit` on its log, with the packet of a failing\n\
@@ -115,7 +125,7 @@ pub struct Subcommand {
     pub options: &'static [Described],
 }
 
-fn subcommands() -> [Subcommand; 6]
+fn subcommands() -> [Subcommand; 7]
     ensures { map shape_described result ≡ command_line.subs }
 {
     [
@@ -139,6 +149,13 @@ fn subcommands() -> [Subcommand; 6]
             usage: None,
             help: EXPLAIN_HELP,
             options: explain_options(),
+        },
+        Subcommand {
+            name: "compare",
+            about: "Compare the session logs of both ends of a connection",
+            usage: Some("hsms compare [OPTIONS] HOST.log EQUIPMENT.log"),
+            help: COMPARE_HELP,
+            options: compare_options(),
         },
         Subcommand {
             name: "capture",
@@ -166,7 +183,7 @@ fn subcommands() -> [Subcommand; 6]
     ]
 }
 
-/// Returns the command `hsms`, which requires one of six subcommands.
+/// Returns the command `hsms`, which requires one of seven subcommands.
 pub fn command<'a>(alloc: Global) -> Result<Command<'a>, AllocError>
     ensures { IfOk result (λ command. app_of command ≡ command_line) }
 {

@@ -46,6 +46,10 @@ pub struct Excerpt {
     pub form: OutputFormat,
     /// True if times, which are milliseconds since 1970, are shown as dates in UTC.
     pub utc: bool,
+    /// True if primaries are listed: those with the slowest replies, and those that expired or have no reply.
+    pub lists: bool,
+    /// True if a page shows every line. Otherwise it shows only failures, and lines around them, after 5,000 lines.
+    pub every: bool,
 }
 
 impl Excerpt {
@@ -73,6 +77,8 @@ pub fn excerpt_of(options: &ArgMatches<'_>) -> Option<Excerpt>
         to: number_of(options, TO)?,
         form: output_format_named(text_or(options, "format", "text"))?,
         utc: flag_of(options, "utc"),
+        lists: flag_of(options, "lists"),
+        every: flag_of(options, "all"),
     })
 }
 

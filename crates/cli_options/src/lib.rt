@@ -1,7 +1,7 @@
 //! The command line of `hsms`: its description for `clap`, and what its words request.
 //!
 //! [`parse`] returns what the words request, as a [`Request`]: a [`Task`] between standard input and standard output, a
-//! log to explain, a capture whose connections are audited, or a connection to serve. An error of the command is a
+//! log to explain, two logs to compare, a capture whose connections are audited, or a connection to serve. An error of the command is a
 //! [`ToolFault`]. [`exit_status`] returns the status with which the command ends:
 //!
 //! ```
@@ -12,6 +12,7 @@
 
 mod capture_options;
 mod clap_command;
+mod compare_options;
 mod explain_options;
 mod fault;
 mod option_tables;

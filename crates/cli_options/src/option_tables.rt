@@ -4,6 +4,7 @@
 ghost use Rattle.std.specs.Prelude.{◌≡◌, map};
 ghost use Rattle.cli_options.specs.CaptureOptions.{capture_rules};
 ghost use Rattle.cli_options.specs.InnerClapCommand.{rule_described};
+ghost use Rattle.cli_options.specs.CompareOptions.{compare_rules};
 ghost use Rattle.cli_options.specs.ExplainOptions.{explain_rules};
 ghost use Rattle.cli_options.specs.Request.{audit_command, encode_command, show_command};
 ghost use Rattle.cli_options.specs.ServeOptions.{serve_rules};
@@ -131,7 +132,7 @@ pub fn audit_options() -> &'static [Described]
     &AUDIT_OPTIONS
 }
 
-static EXPLAIN_OPTIONS: [Described; 7] = options![
+static EXPLAIN_OPTIONS: [Described; 9] = options![
     File(FILE) => FILE_HELP,
     Word("only", "failures") => "Show only failing lines and their context",
     Number(AROUND, "N") => "With --only: lines of context before and after each: 0 to 1000 [default: 5]",
@@ -139,6 +140,8 @@ static EXPLAIN_OPTIONS: [Described; 7] = options![
     Number(TO, "N") => "Last line shown (the audit runs to the end) [default: the last one]",
     Word("format", "FORMAT") => "Output format: text, json (one object per line) or html (a page) [default: text]",
     Flag("utc") => "Show times as UTC dates, if the log has ms since 1970",
+    Flag("lists") => "List the ten slowest replies, and expired and unanswered primaries (at most 100 each)",
+    Flag("all") => "With html: show every line; otherwise only failures and their context after 5000 lines",
 ];
 
 /// Returns the options of `hsms explain`.
@@ -146,6 +149,17 @@ pub fn explain_options() -> &'static [Described]
     ensures { map rule_described result.now ≡ explain_rules }
 {
     &EXPLAIN_OPTIONS
+}
+
+static COMPARE_OPTIONS: [Described; 1] = options![
+    Files(FILE) => "Logs of the host and of equipment, in either order; one may be - for standard input",
+];
+
+/// Returns the operands of `hsms compare`.
+pub fn compare_options() -> &'static [Described]
+    ensures { map rule_described result.now ≡ compare_rules }
+{
+    &COMPARE_OPTIONS
 }
 
 static CAPTURE_OPTIONS: [Described; 13] = options![

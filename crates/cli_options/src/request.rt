@@ -1,8 +1,9 @@
 //! What the command line requests. It is checked before anything is read.
 
-ghost use Rattle.std.specs.Prelude.{◌≡◌, ◌≢◌, IfOk, IfErr, IfSome, None, [], codes, map, string_bytes, unwrap_or};
+ghost use Rattle.std.specs.Prelude.{◌≡◌, ◌≢◌, IsTrue, IfOk, IfErr, IfSome, None, [], codes, map, string_bytes, unwrap_or};
 ghost use Rattle.clap.specs.Words.{all_of, found_of, kind_of, rows_of, subcommand_rows_of};
 ghost use Rattle.clap.specs.declared.error.kind.ErrorKind.TheVariants.{OutOfMemory};
+ghost use Rattle.cli_options.specs.CompareOptions.{has_two_files};
 ghost use Rattle.cli_options.specs.Request.{AsksBy, AsksFor, AsksForTask, HasOperands, IsTaskWithinLimits, IsWithinLimits, EncodesTo, ParsesNothing, form_in, no_operands, operands_by, operands_in, operands_of};
 ghost use Rattle.cli_options.specs.InnerRequest.{CallsForText, IsHelp};
 ghost use Rattle.cli_options.specs.Status.{IsRefusedFor};
@@ -14,6 +15,7 @@ ghost use Rattle.cli_options.specs.declared.request.Task.TheVariants as asked;
 
 use crate::capture_options::{Capturing, capturing_of};
 use crate::clap_command::command;
+use crate::compare_options::names_two_files;
 use crate::explain_options::{Excerpt, excerpt_of};
 use crate::fault::{ToolFault, no_request};
 use crate::option_tables::{DEVICE, FILE, MAX, SYSTEM};
@@ -41,6 +43,8 @@ pub enum Request<'a> {
     Task(Task),
     /// Explain the log on standard input, and show this of it.
     Explain(Excerpt),
+    /// Compare the logs in two files.
+    Compare,
     /// Read the capture on standard input, and write this of its connections.
     Capture(Capturing),
     /// Serve a connection.
@@ -149,6 +153,7 @@ fn asked_by<'a>(name: &str, options: &ArgMatches<'a>) -> Option<Request<'a>>
 {
     match name {
         "explain" => Some(Request::Explain(excerpt_of(options)?)),
+        "compare" => compare_of(options),
         "capture" => Some(Request::Capture(capturing_of(options)?)),
         // The toolchain has no rule here for `?` that passes on borrowed words.
         "serve" => match service_of(options) {
@@ -157,6 +162,18 @@ fn asked_by<'a>(name: &str, options: &ArgMatches<'a>) -> Option<Request<'a>>
         },
         _ => Some(Request::Task(task_of(name, options)?)),
     }
+}
+
+// Returns what `hsms compare` requests.
+fn compare_of<'a>(options: &ArgMatches<'_>) -> Option<Request<'a>>
+    ensures asks { IfSome result (AsksFor (codes "compare") (rows_of (found_of options.now))) }
+    ensures limits { IfSome result IsWithinLimits }
+    ensures none { result ≡ None → IsTrue (has_two_files (rows_of (found_of options.now))) → ⊥ }
+{
+    if names_two_files(options) {
+        return Some(Request::Compare);
+    }
+    None
 }
 
 // Returns what a subcommand requests, if it is a task.

@@ -10,8 +10,8 @@ use crate::json::AsObject;
 use crate::output_buffer::Page;
 use crate::{html, json, text};
 use cli_options::{Excerpt, OutputFormat};
-use explain_lines::{ExplainedLine, Gap, Note, Unjudged};
-use explain_statistics::{Groups, Primaries, Tally};
+use explain_lines::{ExplainedLine, Gap, Jump, Note, Unjudged};
+use explain_statistics::{Doubt, Groups, Listed, Lists, Primaries, Tally};
 use hsms_machine::Settings;
 use std::alloc::AllocError;
 use std::fmt;
@@ -54,13 +54,13 @@ impl Emitter {
         }
     }
 
-    /// Writes what follows all lines.
-    pub fn end_lines(self, page: &mut Page, links: &Links)
+    /// Writes what follows all lines. From line `shortened` on only failures are shown.
+    pub fn end_lines(self, page: &mut Page, links: &Links, shortened: Option<u64>)
         ensures { self.form ≡ Text → page.new ≡ page.old }
     {
         match self.form {
             OutputFormat::Text | OutputFormat::Json => {}
-            OutputFormat::Html => html::end_lines(page, links),
+            OutputFormat::Html => html::end_lines(page, links, shortened),
         }
     }
 
@@ -78,6 +78,34 @@ impl Emitter {
             OutputFormat::Text => text::write_line(page, shown_line, notes, self.utc),
             OutputFormat::Json => json::write_line(page, shown_line, notes, self.utc),
             OutputFormat::Html => html::write_line(page, links, shown_line, notes, self.utc),
+        }
+    }
+
+    /// Writes an earlier line, which a failure names, and its annotations.
+    pub fn named_line(
+        self,
+        page: &mut Page,
+        links: &mut Links,
+        shown_line: ExplainedLine<'_, '_>,
+        notes: &[Note],
+    )
+        ensures { self.form ≡ Text → AddsSome page.old page.new }
+    {
+        match self.form {
+            OutputFormat::Text => text::write_line(page, shown_line, notes, self.utc),
+            OutputFormat::Json => json::write_line(page, shown_line, notes, self.utc),
+            OutputFormat::Html => html::write_named_line(page, links, shown_line, notes, self.utc),
+        }
+    }
+
+    /// Writes that the next line is not the one after the last line written.
+    pub fn jump(self, page: &mut Page, jump: Jump)
+        ensures { self.form ≡ Text → AddsSome page.old page.new }
+    {
+        match self.form {
+            OutputFormat::Text => text::write_gap(page),
+            OutputFormat::Json => {}
+            OutputFormat::Html => html::write_jump(page, jump),
         }
     }
 
@@ -112,6 +140,24 @@ impl Emitter {
         match self.form {
             OutputFormat::Html => html::write_words(page, "<p>", &unjudged),
             OutputFormat::Text | OutputFormat::Json => self.remark(page, &unjudged),
+        }
+    }
+
+    /// Writes which settings in line 1 no entry agrees with.
+    pub fn doubts(self, page: &mut Page, doubts: &[Option<Doubt>])
+        ensures { self.form ≡ Text → AddsSome page.old page.new }
+    {
+        for doubt in doubts {
+            self.doubt(page, *doubt);
+        }
+    }
+
+    fn doubt(self, page: &mut Page, doubt: Option<Doubt>)
+        ensures { self.form ≡ Text → AddsSome page.old page.new }
+    {
+        match self.form {
+            OutputFormat::Html => html::write_doubt(page, doubt),
+            OutputFormat::Text | OutputFormat::Json => self.optional(page, doubt),
         }
     }
 
@@ -151,6 +197,33 @@ impl Emitter {
         match self.form {
             OutputFormat::Html => html::write_primaries(page, links, primaries),
             OutputFormat::Text | OutputFormat::Json => self.outcomes(page, primaries),
+        }
+    }
+
+    /// Writes the lists of primaries.
+    pub fn lists(self, page: &mut Page, links: &Links, lists: &Lists)
+        ensures { self.form ≡ Text → AddsSome page.old page.new }
+    {
+        match lists.all(page.alloc()) {
+            Ok(all) => self.listed(page, links, &all),
+            Err(_) => page.refuse(),
+        }
+    }
+
+    fn listed(self, page: &mut Page, links: &Links, all: &[Listed])
+        ensures { self.form ≡ Text → AddsSome page.old page.new }
+    {
+        for listed in all {
+            self.list_item(page, links, listed);
+        }
+    }
+
+    fn list_item(self, page: &mut Page, links: &Links, listed: &Listed)
+        ensures { self.form ≡ Text → AddsSome page.old page.new }
+    {
+        match self.form {
+            OutputFormat::Html => html::write_listed(page, links, listed),
+            OutputFormat::Text | OutputFormat::Json => self.remark(page, listed),
         }
     }
 

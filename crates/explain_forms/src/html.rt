@@ -10,10 +10,10 @@ use crate::output_buffer::Page;
 use crate::text::after_time;
 use cli_options::sentence;
 use explain_lines::{
-    Carried, Concern, ExplainedLine, Failing, FailureGroup, Function, Gap, Moment, Note, System,
-    UNREADABLE, name_of,
+    Carried, Concern, ExplainedLine, Failing, FailureGroup, Function, Gap, Jump, Moment, Note,
+    System, UNREADABLE, name_of,
 };
-use explain_statistics::{Group, Groups, MOST_GROUPS, Outcome, Primaries, Times};
+use explain_statistics::{Doubt, Group, Groups, Listed, MOST_GROUPS, Outcome, Primaries, Times};
 use hsms_frame::{Header, Kind, kind};
 use hsms_log::{Step, What, Why};
 use hsms_machine::{GREATEST_DEPTH, Mark, Role, Rule, Settings};
@@ -62,9 +62,16 @@ pub fn write_ends(page: &mut Page, settings: Settings) {
     put(page, ends);
 }
 
-/// Ends the lines, and starts the part on top of them.
-pub fn end_lines(page: &mut Page, links: &Links) {
+/// Ends the lines, and starts the part on top of them. From line `shortened` on only failures are shown.
+pub fn end_lines(page: &mut Page, links: &Links, shortened: Option<u64>) {
     put(page, "</main>\n<section>\n");
+    if let Some(line) = shortened {
+        put_number(page, "<p class=\"short\">From line ", line);
+        put(
+            page,
+            " on, only failures and the lines around them are shown: --all shows every line.</p>\n",
+        );
+    }
     write_open(page, links);
 }
 
@@ -87,6 +94,27 @@ pub fn write_line(
         write_failure(page, links, note, utc);
     }
     write_start(page, links, shown_line, notes);
+    put(page, "</div>\n");
+}
+
+/// Writes an earlier line, which a failure names, and its annotations. What it opens may have been closed at a line that
+/// is not written, so no link leads there.
+pub fn write_named_line(
+    page: &mut Page,
+    links: &mut Links,
+    shown_line: ExplainedLine<'_, '_>,
+    notes: &[Note],
+    utc: bool,
+) {
+    if links.note(shown_line.number).is_err() {
+        page.refuse();
+    }
+    begin_row(page, shown_line, notes);
+    write_said(page, shown_line, utc);
+    write_closings(page, links, notes);
+    for note in notes {
+        write_failure(page, links, note, utc);
+    }
     put(page, "</div>\n");
 }
 
@@ -357,15 +385,18 @@ fn write_failing(page: &mut Page, links: &mut Links, note: &Note, failing: &Fail
     put(page, "</div>");
 }
 
-// Writes the line of the open transaction that a failure involves. If the repair assumes that it expired, it is
+// Writes the request whose timer has expired, or the line of the open transaction that a failure involves. If the repair assumes that it expired, it is
 // recorded as closed.
 fn write_concern(page: &mut Page, links: &mut Links, note: &Note, failing: &Failing) {
-    let Some(line) = failing.concerns else {
-        return;
-    };
     let closed = expired_by(note).and_then(|line| links.close(line));
-    let to = links.shown_line(line);
-    write_link(page, "<p>", to, closed, &Concern { line });
+    if let Some(overdue) = failing.overdue {
+        let to = links.shown_line(overdue.line);
+        return write_link(page, "<p>", to, closed, &overdue);
+    }
+    if let Some(line) = failing.concerns {
+        let to = links.shown_line(line);
+        write_link(page, "<p>", to, closed, &Concern { line });
+    }
 }
 
 /// Writes that lines are skipped, and which open transactions end there.
@@ -379,10 +410,22 @@ pub fn write_gap(page: &mut Page, links: &mut Links, gap: Gap) {
     }
     put(page, " not shown");
     for ending in links.endings() {
-        let to = links.shown_line(ending.opened);
-        write_link(page, "<p>", to, Some(ending.opened), ending);
+        if ending.line <= gap.to {
+            let to = links.shown_line(ending.opened);
+            write_link(page, "<p>", to, Some(ending.opened), ending);
+        }
     }
-    links.clear_endings();
+    links.clear_endings(gap.to);
+    put(page, "</div>\n");
+}
+
+/// Writes that the next line is not the one after the last line written.
+pub fn write_jump(page: &mut Page, jump: Jump) {
+    put(page, "<div class=\"gap\">");
+    match jump {
+        Jump::Back(line) => put_number(page, "back to line ", line),
+        Jump::On(line) => put_number(page, "on to line ", line),
+    }
     put(page, "</div>\n");
 }
 
@@ -391,6 +434,14 @@ pub fn write_words<D: fmt::Display>(page: &mut Page, front: &str, words: &D) {
     put(page, front);
     append_words(page, words);
     put(page, "</p>\n");
+}
+
+/// Writes a setting in line 1 that no entry agrees with, if there is one.
+pub fn write_doubt(page: &mut Page, doubt: Option<Doubt>) {
+    match doubt {
+        Some(doubt) => write_words(page, "<p class=\"doubt\">", &doubt),
+        None => {}
+    }
 }
 
 /// Writes the failure groups, each with a link to its first failure.
@@ -470,6 +521,13 @@ fn write_outcome(page: &mut Page, links: &Links, outcome: Outcome) {
         None => put(page, "<td></td><td></td><td></td><td></td>"),
     }
     put(page, "</tr>\n");
+}
+
+/// Writes a primary of a list, as a link to its line if that is shown.
+pub fn write_listed(page: &mut Page, links: &Links, listed: &Listed) {
+    let to = links.shown_line(listed.asked().line);
+    write_link(page, "<p class=\"list\">", to, None, listed);
+    put(page, "\n");
 }
 
 fn write_times(page: &mut Page, links: &Links, times: Times) {

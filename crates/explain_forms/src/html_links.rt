@@ -229,8 +229,8 @@ impl Links {
         &self.endings
     }
 
-    /// Forgets these transactions.
-    pub fn clear_endings(&mut self) {
-        self.endings.clear();
+    /// Forgets those that end up to a line.
+    pub fn clear_endings(&mut self, to: u64) {
+        self.endings.retain(|ending| ending.line > to);
     }
 }

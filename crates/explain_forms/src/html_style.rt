@@ -19,6 +19,7 @@ pub const STYLE: &str = "\
     .fail{color:var(--bad);background:var(--badpaper)}\n\
     .pass{color:var(--good);background:var(--goodpaper)}\n\
     .counts{order:-1}\n\
+    .doubt{order:-3;padding:.5em .8em;border-left:.35em solid var(--bad);font-weight:bold}\n\
     ol:empty{display:none}\n\
     ol{padding-left:2.2em}\n\
     ol b{color:var(--bad)}\n\

@@ -3,9 +3,9 @@
 use crate::output_buffer::Page;
 use explain_lines::{
     Carried, Closing, Continuation, Expected, ExplainedLine, Failing, FailureGroup, Gap, Moment,
-    Note, Put, Rest, System, Unjudged, name_of, word_of,
+    Note, Overdue, Put, Rest, System, Unjudged, name_of, word_of,
 };
-use explain_statistics::{Outcome, Tally};
+use explain_statistics::{Doubt, Listed, Outcome, Tally};
 use hsms_frame::{Header, Kind, kind};
 use hsms_log::{Step, What, cause_word};
 use hsms_machine::{GREATEST_DEPTH, Mark};
@@ -44,6 +44,7 @@ enum Member<'a> {
     Number(u64),
     Truth(bool),
     Text(&'a str),
+    Overdue(Option<Overdue>),
     Expected(Option<Expected>),
     RepairAction(Option<Continuation>),
     Put(Option<Put>),
@@ -86,6 +87,7 @@ impl Member<'_> {
             Member::Number(number) => send_number(out, name, *number),
             Member::Truth(truth) => send_truth(out, name, *truth),
             Member::Text(text) => send_text(out, name, text),
+            Member::Overdue(words) => send_words(out, name, words),
             Member::Expected(words) => send_words(out, name, words),
             Member::RepairAction(words) => send_words(out, name, words),
             Member::Put(words) => send_words(out, name, words),
@@ -307,6 +309,8 @@ fn send_failing<S: Serializer>(out: &mut S, failing: &Failing, utc: bool) -> Res
         ("column", column_of(failing.expected)),
         ("reason", reason_of(failing.expected)),
         ("concerns", Member::of(failing.concerns)),
+        ("overdue", Member::Overdue(failing.overdue)),
+        ("waited", Member::of(failing.overdue.map(|it| it.waited))),
         ("expected", expected_of(failing.expected)),
         ("expected_line", Member::of(failing.expected_line())),
         ("remedy", Member::RepairAction(failing.continuation(utc))),
@@ -410,6 +414,39 @@ impl AsObject for Unjudged {
         let members = [
             ("type", Member::Text("unjudged")),
             ("text", Member::Text(self.words())),
+        ];
+        Object(&members).serialize(out)
+    }
+}
+
+// A setting in line 1 that no entry agrees with.
+impl AsObject for Doubt {
+    fn send_object<S: Serializer>(&self, out: &mut S) -> Result<(), S::Error> {
+        out.begin_map(None)?;
+        send_text(out, "type", "doubt")?;
+        out.key("text")?;
+        out.collect_str(self)?;
+        out.end_map()
+    }
+}
+
+// A primary of a list.
+impl AsObject for Listed {
+    fn send_object<S: Serializer>(&self, out: &mut S) -> Result<(), S::Error> {
+        let asked = self.asked();
+        let ended = self.ended();
+        let members = [
+            ("type", Member::Text(self.name())),
+            ("line", Member::Number(asked.line)),
+            ("system", Member::System(Some(asked.system))),
+            ("stream", Member::Number(u64::from(asked.function.stream))),
+            (
+                "function",
+                Member::Number(u64::from(asked.function.function)),
+            ),
+            ("direction", Member::Text(asked.way())),
+            ("after", Member::of(ended.map(|it| it.after))),
+            ("end", Member::of(ended.map(|it| it.line))),
         ];
         Object(&members).serialize(out)
     }

@@ -141,7 +141,7 @@ fn write_failing(page: &mut Page, failing: &Failing, utc: bool)
         × Adds page.old page.new (rule_words (why_name failing.now.why) failing.now.sentence.now ++ further) }
 {
     write_rule(page, name_of(failing.why), failing.sentence);
-    write_further(page, failing.concerns.map(|line| Concern { line }));
+    write_culprit(page, failing);
     write_further(page, failing.expected);
     write_further(page, failing.continuation(utc));
 }
@@ -163,6 +163,16 @@ fn write_below<D: fmt::Display>(page: &mut Page, words: &D)
 {
     page.append_chunk(b"       ");
     write_words(page, words);
+}
+
+// Writes the request whose timer has expired, or the line of the open transaction.
+fn write_culprit(page: &mut Page, failing: &Failing)
+    ensures { AddsSome page.old page.new }
+{
+    match failing.overdue {
+        Some(overdue) => write_further(page, Some(overdue)),
+        None => write_further(page, failing.concerns.map(|line| Concern { line })),
+    }
 }
 
 // Writes words below the rule text of a failure, if there are any.

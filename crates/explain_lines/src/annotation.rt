@@ -8,7 +8,7 @@ ghost use Rattle.explain_lines.specs.AnnotatedFailure.{first_why, is_whole};
 
 use crate::expected::Expected;
 use crate::failure_kind::UNREADABLE_SORT;
-use crate::phrases::{Closing, Continuation, FailureGroup, Put};
+use crate::phrases::{Closing, Continuation, FailureGroup, Overdue, Put};
 use hsms_log::{Unreadable, Why};
 use hsms_machine::RepairAction;
 
@@ -39,13 +39,14 @@ impl Note {
 }
 
 /// A failure of a line. It has its failure kind (`sort`), rule and rule text, the line of the open transaction
-/// involved, a hint, and the repair. An unreadable line is skipped.
+/// involved, the request whose timer has expired, a hint, and the repair. An unreadable line is skipped.
 #[derive(Clone, Copy)]
 pub struct Failing {
     pub sort: u64,
     pub why: Why,
     pub sentence: &'static str,
     pub concerns: Option<u64>,
+    pub overdue: Option<Overdue>,
     pub expected: Option<Expected>,
     pub repair_action: Option<RepairAction>,
 }
@@ -62,6 +63,7 @@ impl Failing {
             why: Why::Unreadable,
             sentence: UNREADABLE,
             concerns: None,
+            overdue: None,
             expected: Some(Expected::Form(unreadable)),
             repair_action: None,
         }
@@ -78,10 +80,30 @@ impl Failing {
         self.expected?.line()
     }
 
+    /// Returns whether the failure names this line.
+    pub fn names(&self, line: u64) -> bool {
+        self.concerns == Some(line)
+            || self.overdue_line() == Some(line)
+            || self.expected_line() == Some(line)
+    }
+
+    // Returns the line of the request, or of the connection, whose timer has expired.
+    fn overdue_line(&self) -> Option<u64> {
+        self.overdue.map(|overdue| overdue.line)
+    }
+
     /// Returns the entry that the repair inserts before the line.
     pub fn put(&self) -> Option<Put> {
         Put::of(self.repair_action?)
     }
+}
+
+/// Returns whether a failure written in full names this line.
+pub fn is_named(notes: &[Note], line: u64) -> bool {
+    notes.iter().any(|note| match note {
+        Note::Fails(failing) => failing.names(line),
+        Note::Closes(_) | Note::FailsInGroup(_) => false,
+    })
 }
 
 /// Returns whether one of the annotations is a failure written in full.

@@ -5,7 +5,7 @@ ghost use Rattle.hsms_log.specs.LineFormat.{line_limit};
 ghost use Rattle.explain_lines.specs.CarriedLine.{IsCarried, is_up_line};
 ghost use Rattle.hsms_log.specs.LineContent.{EncodesNoFrame};
 
-use hsms_frame::HEADER_LENGTH;
+use hsms_frame::{HEADER_LENGTH, Kind, kind};
 use hsms_log::{
     Step, Unreadable, What, is_blank, read_frame_line, read_plain_line, unreadable_entry,
 };
@@ -47,10 +47,35 @@ impl<'l> ExplainedLine<'l, '_> {
         }
     }
 
+    /// Returns whether a failure of a later line may name this line: it has a request, or the start of a connection, or
+    /// the end of a session.
+    pub fn may_be_named(&self) -> bool {
+        match self.carried {
+            Carried::Entry(step, _) => is_nameable(step.what),
+            Carried::Nothing | Carried::Unreadable(_) => false,
+        }
+    }
+
     /// Returns the bytes that are written.
     pub fn shown(&self) -> &'l [u8] {
         let shown = self.octets.len().min(self.limit);
         &self.octets[..shown]
+    }
+}
+
+fn is_nameable(what: What) -> bool {
+    match what {
+        What::Frame(_, header) => match kind(header) {
+            Kind::Primary | Kind::SelectReq | Kind::LinktestReq | Kind::Separate => true,
+            Kind::Reply
+            | Kind::SelectRsp
+            | Kind::LinktestRsp
+            | Kind::Reject
+            | Kind::OtherSType
+            | Kind::OtherPType => false,
+        },
+        What::Up | What::Cut(_) => true,
+        What::T3(_) | What::Down => false,
     }
 }
 

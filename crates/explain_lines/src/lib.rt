@@ -12,12 +12,12 @@ pub mod laws;
 mod phrases;
 mod timestamp;
 
-pub use annotation::{Failing, Note, UNREADABLE, has_failure};
+pub use annotation::{Failing, Note, UNREADABLE, has_failure, is_named};
 pub use expected::{Expected, Function, MOST_CLOSED};
 pub use explained_line::{Carried, ExplainedLine, SETTINGS_LIMIT, carried_by, limit_of};
 pub use failure_kind::failure_kind_of;
 pub use phrases::{
-    Closing, Concern, Continuation, FailureGroup, Gap, Put, Rest, System, Tie, Unjudged, name_of,
-    word_of,
+    Closing, Concern, Continuation, FailureGroup, Gap, Jump, Overdue, Put, Rest, System, Tie,
+    Unjudged, Waiting, name_of, word_of,
 };
 pub use timestamp::{Date, Moment};

@@ -3,8 +3,9 @@
 ghost use Rattle.std.specs.Prelude.{◌≡◌, Some};
 ghost use Rattle.explain_lines.specs.Phrases.{group_text, closing_text, closing_word, concern_text, rest_text, tie_word, why_name};
 
+use crate::expected::Function;
 use crate::timestamp::Moment;
-use hsms_frame::{Kind, kind};
+use hsms_frame::{Header, Kind, kind};
 use hsms_log::{What, Why, cause_word};
 use hsms_machine::{Cause, RepairAction};
 use std::fmt;
@@ -89,6 +90,75 @@ impl fmt::Display for Concern {
     }
 }
 
+/// What waits until a timer expires: a request, or a connection whose session is not selected.
+#[derive(Clone, Copy)]
+pub enum Waiting {
+    Request(Header),
+    Connection,
+}
+
+/// A request or a connection whose timer has expired: its line, for how long it waited, the timer, and whether the failing
+/// entry is the reply. Times are in ms.
+#[derive(Clone, Copy)]
+pub struct Overdue {
+    pub waiting: Waiting,
+    pub line: u64,
+    pub waited: u64,
+    pub timer: &'static str,
+    pub limit: u32,
+    pub is_reply: bool,
+}
+
+impl Overdue {
+    // Returns how long after the timer expired.
+    fn late(&self) -> u64 {
+        self.waited.saturating_sub(u64::from(self.limit))
+    }
+}
+
+impl fmt::Display for Overdue {
+    fn fmt<W: fmt::Write>(&self, f: &mut fmt::Formatter<W>) -> fmt::Result {
+        write_waiting(f, self.waiting)?;
+        let Overdue {
+            line,
+            waited,
+            timer,
+            limit,
+            ..
+        } = *self;
+        write!(f, " of line {line} waited {waited} ms ({timer} {limit})")?;
+        if self.is_reply {
+            let late = self.late();
+            return write!(f, "; this is its reply, {late} ms late");
+        }
+        Ok(())
+    }
+}
+
+// Writes the name of what waits.
+fn write_waiting<W: fmt::Write>(f: &mut fmt::Formatter<W>, waiting: Waiting) -> fmt::Result {
+    match waiting {
+        Waiting::Request(request) => write_request(f, request),
+        Waiting::Connection => write!(f, "up"),
+    }
+}
+
+// Writes the name of a request and its system bytes.
+fn write_request<W: fmt::Write>(f: &mut fmt::Formatter<W>, request: Header) -> fmt::Result {
+    let system = System(request.system);
+    match kind(request) {
+        Kind::SelectReq => write!(f, "select.req {system}"),
+        Kind::LinktestReq => write!(f, "linktest.req {system}"),
+        _ => write_primary(f, request),
+    }
+}
+
+fn write_primary<W: fmt::Write>(f: &mut fmt::Formatter<W>, primary: Header) -> fmt::Result {
+    let function = Function::of(primary);
+    let system = System(primary.system);
+    write!(f, "{function} W {system}")
+}
+
 /// One or more failures like that of an earlier line. `times` is their number. A failure that involves an open
 /// transaction is alone, with the line of that transaction. The repair is that of the first of them.
 #[derive(Clone, Copy)]
@@ -150,6 +220,13 @@ impl fmt::Display for Rest {
 pub struct Gap {
     pub from: u64,
     pub to: u64,
+}
+
+/// The line that comes next out of order: an earlier one, or one after that.
+#[derive(Clone, Copy)]
+pub enum Jump {
+    Back(u64),
+    On(u64),
 }
 
 /// Why nothing of a log was checked.

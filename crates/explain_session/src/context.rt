@@ -5,22 +5,24 @@ ghost use Rattle.explain_session.specs.RepairedSession.{HasProgress};
 
 use crate::history::Past;
 use crate::repaired_session::RepairedSession;
-use explain_statistics::Primaries;
+use explain_statistics::{Lists, Primaries};
 use hsms_machine::Settings;
 use std::alloc::Global;
 
-/// The settings of a log, its repaired session, the history of its connection, and the statistics of its primaries.
+/// The settings of a log, its repaired session, the history of its connection, and the statistics and lists of its
+/// primaries.
 #[derive(Drop)]
 pub struct Known {
     pub settings: Settings,
     pub repaired_session: RepairedSession,
     pub(crate) past: Past,
     pub primaries: Primaries,
+    pub lists: Lists,
 }
 
 impl Known {
-    /// Creates the context after the first line of a log.
-    pub fn new(alloc: Global, settings: Settings) -> Known
+    /// Creates the context after the first line of a log, with lists of primaries if these are requested.
+    pub fn new(alloc: Global, settings: Settings, with_lists: bool) -> Known
         ensures settings { result.settings ≡ settings }
         ensures repaired_session { HasProgress settings [] [] result.repaired_session }
         ensures line { result.repaired_session.line ≡ 1 }
@@ -30,6 +32,7 @@ impl Known {
             repaired_session: RepairedSession::new(alloc, settings),
             past: Past::new(alloc, settings.t3()),
             primaries: Primaries::new(alloc),
+            lists: Lists::new(alloc, with_lists),
         }
     }
 }

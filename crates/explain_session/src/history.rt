@@ -47,9 +47,10 @@ pub struct LeftOut {
     pub rule: Rule,
 }
 
-/// The history of a connection: the last requests of each direction, the line of the last Select.req, the last one that
-/// is left out, and the line at which the session ended.
+/// The history of a connection: its start, the last requests of each direction, the line of the last Select.req, the last
+/// one that is left out, and the line at which the session ended.
 pub struct Past {
+    pub up: Option<Opening>,
     pub sent: Requests,
     pub received: Requests,
     pub select: Option<u64>,
@@ -61,6 +62,7 @@ pub struct Past {
 impl Drop for Past {
     fn drop(self) {
         let Past {
+            up: _up,
             sent,
             received,
             select: _select,
@@ -151,6 +153,7 @@ impl Past {
     /// Creates an empty history of a log with this T3.
     pub fn new(alloc: Global, t3: u32) -> Past {
         Past {
+            up: None,
             sent: Requests::new(alloc, t3),
             received: Requests::new(alloc, t3),
             select: None,
@@ -166,9 +169,10 @@ impl Past {
         step: Step,
         closed: Option<Opening>,
     ) -> Result<(), AllocError> {
+        let time = step.time;
         match step.what {
             What::Up => {
-                self.begin();
+                self.begin(Opening { line, time });
                 Ok(())
             }
             What::Frame(mark, header) => {
@@ -200,7 +204,8 @@ impl Past {
     }
 
     // Starts a connection.
-    fn begin(&mut self) {
+    fn begin(&mut self, up: Opening) {
+        self.up = Some(up);
         self.sent.clear();
         self.received.clear();
         self.select = None;

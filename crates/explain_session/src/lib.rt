@@ -9,6 +9,7 @@ mod context;
 mod hint;
 mod history;
 pub mod laws;
+mod overdue;
 mod repair_entry;
 mod repaired_session;
 

@@ -18,6 +18,7 @@ ghost use Rattle.explain_session.specs.RepairSteps.{SaysRule};
 use crate::check_step::check_one_step;
 use crate::context::Known;
 use crate::hint::expected_of;
+use crate::overdue::overdue_of;
 use crate::repaired_session::{Checked, Failure, Opening};
 use cli_options::sentence;
 use explain_lines::{Closing, Failing, Note, Tie, failure_kind_of};
@@ -133,7 +134,7 @@ fn note_last(
     Ok(())
 }
 
-// Records a valid step in the history and in the primary statistics.
+// Records a valid step in the history, and in the statistics and lists of the primaries.
 fn take_in(
     alloc: Global,
     known: &mut Known,
@@ -146,6 +147,7 @@ fn take_in(
     let line = known.repaired_session.line();
     known.past.note(line, step, closed)?;
     let opened = closed.map(|opening| opening.time);
+    known.lists.note(alloc, line, step, opened)?;
     known.primaries.note(alloc, line, step, opened)
 }
 
@@ -208,6 +210,7 @@ fn failing(known: &Known, step: Step, text: &[u8], failure: Failure) -> Failing
         why: Why::Broken(failure.rule),
         sentence: sentence_of(step.what, failure.rule),
         concerns: failure.concerns,
+        overdue: overdue_of(known, step, failure.rule),
         expected: expected_of(known, step, text, failure.rule),
         repair_action: Some(failure.repair_action),
     }

@@ -107,6 +107,14 @@ impl RepairedSession {
         self.tracker.oldest_data()
     }
 
+    /// Returns the time and the header of the sent Select.req or Linktest.req that waits for a response, the oldest one
+    /// if several wait.
+    pub fn oldest_control(&self) -> Option<(u64, Header)>
+        ensures { result ≡ oldest_of self.now.tracker.sent_control }
+    {
+        self.tracker.oldest_control()
+    }
+
     /// Advances to the next line.
     pub fn next_line(&mut self)
         ensures { self.new ≡ record self.old { line = min (self.old.line + 1) (2 ^ 64 - 1) } }

@@ -138,7 +138,7 @@ impl Primaries {
 
     // Records a frame that closes no transaction.
     fn note_primary(&mut self, mark: Mark, header: Header) -> Result<(), AllocError> {
-        if kind(header) != Kind::Primary || !header.wait() {
+        if !is_request(header) {
             return Ok(());
         }
         match mark {
@@ -208,6 +208,20 @@ impl Primaries {
     }
 }
 
+/// Returns whether a message is a primary that requests a reply.
+pub fn is_request(header: Header) -> bool {
+    kind(header) == Kind::Primary && header.wait()
+}
+
+/// Returns the key of a primary with this mark, which is not that of a discarded one.
+pub fn key_of(mark: Mark, header: Header) -> u64 {
+    let direction = match mark {
+        Mark::Sent => Direction::Sent,
+        Mark::Taken | Mark::Discarded => Direction::Received,
+    };
+    key(direction, header.system)
+}
+
 // Returns the kind of the primaries of a message in a direction: twice its number, plus one if they were received.
 fn kind_of(message: u16, direction: Direction) -> u32 {
     u32::from(message) * 2 + direction.number()
@@ -218,8 +232,8 @@ fn key(direction: Direction, system: u32) -> u64 {
     u64::from(direction.number()) * (1 << 32) + u64::from(system)
 }
 
-// Returns the key of the primary that a closing step closes, and the outcome.
-fn closing_of(what: What) -> Option<(u64, ReplyOutcome)> {
+/// Returns the key of the primary that a closing step closes, and the outcome.
+pub fn closing_of(what: What) -> Option<(u64, ReplyOutcome)> {
     match what {
         What::Frame(Mark::Sent, header) => Some((
             key(Direction::Received, header.system),

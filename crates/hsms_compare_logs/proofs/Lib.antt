@@ -1,3 +1,5 @@
 pub mod Inputs
 pub mod LineEntries
 pub mod Openings
+pub mod LogSteps
+pub mod Refusals

@@ -70,7 +70,7 @@ unframed number entry b e f = let g : has_frame entry.event ≡ false = sym e �
 
 -- ---- a line that is too long
 
-first_feed : (text : List ℕ) → HasNone 10 text ⊎ ((part : List ℕ) × (rest : List ℕ) × (text ≡ part ++ 10 ∷ rest) × HasNone 10 part)
+pub first_feed : (text : List ℕ) → HasNone 10 text ⊎ ((part : List ℕ) × (rest : List ℕ) × (text ≡ part ++ 10 ∷ rest) × HasNone 10 part)
 first_feed [] = inl (All-nil (λ x. eqb x 10 ≡ false))
 first_feed (octet ∷ text) =
     elim (cases_eq octet 10) [
@@ -86,7 +86,7 @@ strip_go : (b : Bool) (line : List ℕ) → length line ≤ length (cond b (take
 strip_go true line = omega (arith, length-take (length line - 1) line)
 strip_go false line = omega arith
 
-strip-length : (line : List ℕ) → length line ≤ length (strip_carriage_return line) + 1
+pub strip-length : (line : List ℕ) → length line ≤ length (strip_carriage_return line) + 1
 strip-length line = strip_go (slice_index line (length line - 1) == 13) line
 
 carried_fits : (max : ℕ) (line : List ℕ) (carried : Option LogEntry) → Carries max line carried → length line ≤ line_limit max

@@ -6,4 +6,6 @@ pub mod Entries
 pub mod InnerEntries
 pub mod Connection
 pub mod InnerConnection
+pub mod ReadLogs
 pub mod Comparison
+pub mod PairVerdicts

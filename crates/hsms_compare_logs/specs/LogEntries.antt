@@ -90,3 +90,17 @@ may_continue down (line ∷ lines) = if is_up line.entry.event then false else m
 
 abbrev pub is_open_connection : List Line → Bool
 is_open_connection lines = may_continue false (after_up lines)
+
+-- True if an `up` is among these entries.
+abbrev pub has_up : List Line → Bool
+has_up [] = false
+has_up (line ∷ lines) = if is_up line.entry.event then true else has_up lines
+
+-- True if connections follow the first one.
+abbrev pub has_later_connections : List Line → Bool
+has_later_connections lines = has_up (after_up lines)
+
+-- The position of the first `up`.
+abbrev pub up_line : List Line → Option ℕ
+up_line [] = None
+up_line (line ∷ lines) = if is_up line.entry.event then Some line.position else up_line lines

@@ -1,27 +1,32 @@
 //! The comparison of two logs.
 
 use crate::log_entries::LogEntries;
+use crate::read_log::ReadLog;
 use hsms_compare::{LineContradiction, ReadFault};
+use hsms_compare_repair::ConnectionFacts;
 use hsms_frame::Source;
-use hsms_log::Verdict;
 use std::alloc::Global;
 
-/// The comparison of two logs: the first contradiction of their first connections, if there is one, and the verdict on
-/// each log.
-#[derive(Clone, Copy, Debug, PartialEq, Eq)]
+/// The comparison of two logs: the first contradiction of their first connections, if there is one, the facts of both
+/// directions, and what was read of each log.
+#[derive(Drop)]
 pub struct LogComparison {
     pub contradiction: Option<LineContradiction>,
-    pub host: Verdict,
-    pub equipment: Verdict,
+    pub facts: ConnectionFacts,
+    pub host: ReadLog,
+    pub equipment: ReadLog,
+    /// True if both logs are of version 1, so that their connections are paired in order.
+    pub is_in_order: bool,
 }
 
 impl LogComparison {
-    ghost use Rattle.std.specs.Prelude.{ℕ, Bool, List, IfOk};
-    ghost use Rattle.hsms_log.specs.Verdict.{HasAuditVerdict};
+    ghost use Rattle.std.specs.Prelude.{◌≡◌, ℕ, Bool, List, IfOk};
     ghost use Rattle.hsms_compare.specs.Conversation.{Line};
     ghost use Rattle.hsms_compare.specs.LineContradiction.{FirstByLines};
+    ghost use Rattle.hsms_compare_repair.specs.Connection.{AreFactsTo};
     ghost use Rattle.hsms_compare_logs.specs.Audited.{ReadsText};
-    ghost use Rattle.hsms_compare_logs.specs.Connection.{LogLeft};
+    ghost use Rattle.hsms_compare_logs.specs.Connection.{LogLeft, ReadsConnection};
+    ghost use Rattle.hsms_compare_logs.specs.ReadLogs.{IsOfText};
 
     /// Compares two opened logs, and reads both to their ends.
     ///
@@ -32,28 +37,42 @@ impl LogComparison {
         alloc: Global,
         host: LogEntries<H>,
         equipment: LogEntries<E>,
+        is_in_order: bool,
     ) -> Result<LogComparison, ReadFault>
-        ensures contradiction { IfOk result (λ comparison. (h e : List Line) (host_more equipment_more : Bool)
+        ensures contradiction { IfOk result (λ comparison. (h e : List Line) (host_more equipment_more host_others equipment_others : Bool)
             → LogLeft host.reader.input.block.items (H.state host.reader.input.source).left host.reader.max host.reader.lines
-            host.reader.is_ended host.next host.is_down host.is_followed h host_more
+            host.reader.is_ended host.next host.is_down host.is_followed h host_more host_others
             → LogLeft equipment.reader.input.block.items (E.state equipment.reader.input.source).left equipment.reader.max
             equipment.reader.lines equipment.reader.is_ended equipment.next equipment.is_down equipment.is_followed e equipment_more
-            → FirstByLines host_more equipment_more h e comparison.contradiction) }
+            equipment_others → FirstByLines host_more equipment_more h e comparison.contradiction) }
         ensures host { IfOk result (λ comparison. (text : List ℕ)
-            → ReadsText text host.reader.input.audit (H.state host.reader.input.source).left → HasAuditVerdict text comparison.host) }
+            → ReadsText text host.reader.input.audit (H.state host.reader.input.source).left
+            → ReadsConnection text host.reader.input.block.items (H.state host.reader.input.source).left host.reader.max
+            host.reader.lines host.reader.is_ended host.next host.is_down host.is_followed host.up host.frames
+            → IsOfText text comparison.host) }
         ensures equipment { IfOk result (λ comparison. (text : List ℕ)
             → ReadsText text equipment.reader.input.audit (E.state equipment.reader.input.source).left
-            → HasAuditVerdict text comparison.equipment) }
+            → ReadsConnection text equipment.reader.input.block.items (E.state equipment.reader.input.source).left
+            equipment.reader.max equipment.reader.lines equipment.reader.is_ended equipment.next equipment.is_down
+            equipment.is_followed equipment.up equipment.frames → IsOfText text comparison.equipment) }
+        ensures to_equipment { IfOk result (λ comparison.
+            AreFactsTo comparison.host.frames comparison.equipment.frames comparison.facts.to_equipment.items) }
+        ensures to_host { IfOk result (λ comparison.
+            AreFactsTo comparison.equipment.frames comparison.host.frames comparison.facts.to_host.items) }
+        ensures order { IfOk result (λ comparison. comparison.is_in_order ≡ is_in_order) }
     {
         let mut host = host;
         let mut equipment = equipment;
         let contradiction = LineContradiction::first(alloc, &mut host, &mut equipment)?;
         let host = host.finish(alloc)?;
         let equipment = equipment.finish(alloc)?;
+        let facts = ConnectionFacts::of(alloc, &host.frames, &equipment.frames)?;
         Ok(LogComparison {
             contradiction,
+            facts,
             host,
             equipment,
+            is_in_order,
         })
     }
 }

@@ -1,5 +1,7 @@
 //! The comparison of two logs of version 1, in either order.
 
+ghost use Rattle.std.specs.Prelude.{◌≡◌, ◌==◌, ◌&&◌};
+
 use crate::comparing::LogComparison;
 use crate::opened_log::OpenedLog;
 use hsms_compare::ReadFault;
@@ -22,8 +24,6 @@ pub enum CompareFault {
     SameLink,
     /// The logs have different device IDs.
     Device,
-    /// A log is of several connections (version 2).
-    Version,
 }
 
 impl From<ReadFault> for CompareFault {
@@ -38,12 +38,13 @@ impl From<ReadFault> for CompareFault {
 }
 
 impl CompareFault {
-    ghost use Rattle.std.specs.Prelude.{◌≡◌, None};
-    ghost use Rattle.hsms_compare_logs.specs.Comparison.{CanCompare};
+    ghost use Rattle.std.specs.Prelude.{◌≡◌, None, IfSome};
+    ghost use Rattle.hsms_compare_logs.specs.Comparison.{CanCompare, CannotCompare};
 
     /// Returns why logs with these settings are not compared, if they are not.
     fn of(first: &Settings, second: &Settings) -> Option<CompareFault>
-        ensures { result ≡ None → CanCompare first.now second.now }
+        ensures none { result ≡ None → CanCompare first.now second.now }
+        ensures some { IfSome result (CannotCompare first.now second.now) }
     {
         if first.role() == second.role() {
             return Some(CompareFault::SameRole);
@@ -54,16 +55,13 @@ impl CompareFault {
         if first.device() != second.device() {
             return Some(CompareFault::Device);
         }
-        if first.version() != 1 || second.version() != 1 {
-            return Some(CompareFault::Version);
-        }
         None
     }
 }
 
 impl LogComparison {
-    ghost use Rattle.std.specs.Prelude.{◌≡◌, ℕ, List, Some, IfOk};
-    ghost use Rattle.hsms_compare_logs.specs.Comparison.{AreCompared};
+    ghost use Rattle.std.specs.Prelude.{◌≡◌, ℕ, List, Some, IfOk, IfErr};
+    ghost use Rattle.hsms_compare_logs.specs.Comparison.{AreCompared, AreNotCompared};
 
     /// Compares two logs, the host's and equipment's in either order, each from its first `up` to the next one.
     ///
@@ -75,8 +73,10 @@ impl LogComparison {
         first: R,
         second: S,
     ) -> Result<LogComparison, CompareFault>
-        ensures { IfOk result (λ comparison. (one other : List ℕ)
+        ensures ok { IfOk result (λ comparison. (one other : List ℕ)
             → (R.state first).left ≡ Some one → (S.state second).left ≡ Some other → AreCompared one other comparison) }
+        ensures err { IfErr result (λ fault. (one other : List ℕ)
+            → (R.state first).left ≡ Some one → (S.state second).left ≡ Some other → AreNotCompared one other fault) }
     {
         let Some(first) = OpenedLog::open(alloc, first)? else {
             return Err(CompareFault::FirstLineOfFirst);
@@ -88,9 +88,22 @@ impl LogComparison {
             return Err(fault);
         }
         let role = first.settings.role();
+        let is_in_order = are_in_order(&first.settings, &second.settings);
         match role {
-            Role::Host => Ok(LogComparison::of(alloc, first.entries, second.entries)?),
-            Role::Equipment => Ok(LogComparison::of(alloc, second.entries, first.entries)?),
+            Role::Host => Ok(LogComparison::of(alloc, first.entries, second.entries, is_in_order)?),
+            Role::Equipment => Ok(LogComparison::of(
+                alloc,
+                second.entries,
+                first.entries,
+                is_in_order,
+            )?),
         }
     }
+}
+
+/// Returns whether both logs are of version 1, so that their connections are paired in order.
+fn are_in_order(first: &Settings, second: &Settings) -> bool
+    ensures { result ≡ ((first.now.version == 1) && (second.now.version == 1)) }
+{
+    first.version() == 1 && second.version() == 1
 }

@@ -26,7 +26,7 @@ impl<R: Source + Drop> EntryReader<R> {
     ghost use Rattle.hsms_compare.specs.Conversation.{Line};
     ghost use Rattle.hsms_compare.specs.Readings.{IsRead, pending};
     ghost use Rattle.hsms_compare_logs.specs.Audited.{ReadsText};
-    ghost use Rattle.hsms_compare_logs.specs.LogEntries.{after_up};
+    ghost use Rattle.hsms_compare_logs.specs.LogEntries.{after_up, up_line};
     ghost use Rattle.hsms_compare_logs.specs.Entries.{AreLeft, most_left};
 
     /// Returns the next entry, or `None` at the end.
@@ -60,20 +60,21 @@ impl<R: Source + Drop> EntryReader<R> {
         Ok(None)
     }
 
-    /// Reads up to the first `up`, or to the end.
-    pub fn skip_to_up(&mut self, alloc: Global) -> Result<(), ReadFault>
-        ensures entries { OnOk result ((found : List Line)
+    /// Reads up to the first `up`, or to the end. Returns the number of the line of that `up`.
+    pub fn skip_to_up(&mut self, alloc: Global) -> Result<Option<u64>, ReadFault>
+        ensures entries { IfOk result (λ up. (found : List Line)
             → AreLeft self.old.input.block.items (R.state self.old.input.source).left self.old.max self.old.lines self.old.is_ended found
-            → AreLeft self.new.input.block.items (R.state self.new.input.source).left self.new.max self.new.lines self.new.is_ended (after_up found)) }
+            → (up ≡ up_line found)
+            × AreLeft self.new.input.block.items (R.state self.new.input.source).left self.new.max self.new.lines self.new.is_ended (after_up found)) }
         ensures text { OnOk result ((text : List ℕ) → ReadsText text self.old.input.audit (R.state self.old.input.source).left
             → ReadsText text self.new.input.audit (R.state self.new.input.source).left) }
     {
         loop {
             match self.next(alloc)? {
-                None => return Ok(()),
+                None => return Ok(None),
                 Some(next) => {
                     if Content::is_up(&next.entry.event) {
-                        return Ok(());
+                        return Ok(Some(next.position));
                     }
                 }
             }

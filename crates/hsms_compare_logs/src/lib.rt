@@ -1,4 +1,5 @@
-//! Comparison of the texts of two session logs of version 1, each read once from a source and audited in the same pass.
+//! Comparison of the texts of two session logs, each read once from a source and audited in the same pass: of their first
+//! connections.
 #![tactic(auto)]
 
 mod bounded_audit;
@@ -9,9 +10,13 @@ mod input;
 mod line_read;
 mod log_entries;
 mod opened_log;
+mod pair_verdict;
 mod read_entry;
+mod read_log;
 
 pub use comparing::LogComparison;
 pub use comparing_logs::CompareFault;
 pub use log_entries::LogEntries;
 pub use opened_log::OpenedLog;
+pub use pair_verdict::{FactKind, PairVerdict};
+pub use read_log::ReadLog;

@@ -5,6 +5,7 @@ use crate::entry_reader::EntryReader;
 use crate::input::{Input, InputLine};
 use crate::log_entries::LogEntries;
 use hsms_compare::ReadFault;
+use hsms_compare_repair::LogFrames;
 use hsms_frame::Source;
 use hsms_log::{read_settings, without_carriage_return};
 use hsms_machine::Settings;
@@ -21,11 +22,12 @@ pub struct OpenedLog<R> {
 }
 
 impl<R: Source + Drop> OpenedLog<R> {
-    ghost use Rattle.std.specs.Prelude.{◌≡◌, ◌++◌, ◌∷◌, ℕ, Bool, List, Some, IfOk, IfSome};
+    ghost use Rattle.std.specs.Prelude.{◌≡◌, ◌++◌, ◌∷◌, ℕ, Bool, List, Some, None, IfOk, IfSome};
+    ghost use Rattle.hsms_machine.specs.Settings.{Parameters};
     ghost use Rattle.hsms_compare.specs.Conversation.{Line};
     ghost use Rattle.hsms_compare_logs.specs.Audited.{ReadsText};
-    ghost use Rattle.hsms_compare_logs.specs.LogEntries.{HasEntries, HasSettings, connection_of, is_open_connection};
-    ghost use Rattle.hsms_compare_logs.specs.Connection.{LogLeft};
+    ghost use Rattle.hsms_compare_logs.specs.LogEntries.{HasEntries, HasSettings, connection_of, has_later_connections, is_open_connection};
+    ghost use Rattle.hsms_compare_logs.specs.Connection.{LogLeft, ReadsConnection};
     ghost use Rattle.hsms_compare_logs.specs.InnerConnection.{IsFirstLine};
 
     /// Reads the settings of a log. Returns `None` if its first line encodes none.
@@ -40,9 +42,15 @@ impl<R: Source + Drop> OpenedLog<R> {
             → (R.state source).left ≡ Some text → HasEntries text log.settings found
             → LogLeft log.entries.reader.input.block.items (R.state log.entries.reader.input.source).left log.entries.reader.max
             log.entries.reader.lines log.entries.reader.is_ended log.entries.next log.entries.is_down log.entries.is_followed
-            (connection_of found) (is_open_connection found))) }
+            (connection_of found) (is_open_connection found) (has_later_connections found))) }
         ensures text { IfOk result (λ log. IfSome log (λ log. (text : List ℕ) → (R.state source).left ≡ Some text
             → ReadsText text log.entries.reader.input.audit (R.state log.entries.reader.input.source).left)) }
+        ensures connection { IfOk result (λ log. IfSome log (λ log. (text : List ℕ) → (R.state source).left ≡ Some text
+            → ReadsConnection text log.entries.reader.input.block.items (R.state log.entries.reader.input.source).left
+            log.entries.reader.max log.entries.reader.lines log.entries.reader.is_ended log.entries.next log.entries.is_down
+            log.entries.is_followed log.entries.up log.entries.frames)) }
+        ensures none { IfOk result (λ log. log ≡ None → (text : List ℕ) (s : Parameters)
+            → (R.state source).left ≡ Some text → HasSettings text s → ⊥) }
     {
         let mut input = Input {
             source,
@@ -70,9 +78,16 @@ impl<R: Source + Drop> OpenedLog<R> {
             → HasEntries text log.settings found
             → LogLeft log.entries.reader.input.block.items (R.state log.entries.reader.input.source).left log.entries.reader.max
             log.entries.reader.lines log.entries.reader.is_ended log.entries.next log.entries.is_down log.entries.is_followed
-            (connection_of found) (is_open_connection found))) }
+            (connection_of found) (is_open_connection found) (has_later_connections found))) }
         ensures text { IfOk result (λ log. IfSome log (λ log. (text : List ℕ) → ReadsText text input.audit (R.state input.source).left
             → ReadsText text log.entries.reader.input.audit (R.state log.entries.reader.input.source).left)) }
+        ensures connection { IfOk result (λ log. IfSome log (λ log. (text octets : List ℕ)
+            → (R.state input.source).left ≡ Some octets → IsFirstLine text line.now (input.block.items ++ octets) is_ended
+            → ReadsConnection text log.entries.reader.input.block.items (R.state log.entries.reader.input.source).left
+            log.entries.reader.max log.entries.reader.lines log.entries.reader.is_ended log.entries.next log.entries.is_down
+            log.entries.is_followed log.entries.up log.entries.frames)) }
+        ensures none { IfOk result (λ log. log ≡ None → (text left : List ℕ) (s : Parameters)
+            → IsFirstLine text line.now left is_ended → HasSettings text s → ⊥) }
     {
         let Some(settings) = read_settings(without_carriage_return(line)) else {
             return Ok(None);
@@ -83,9 +98,11 @@ impl<R: Source + Drop> OpenedLog<R> {
             lines: 1,
             is_ended,
         };
-        reader.skip_to_up(alloc)?;
+        let up = reader.skip_to_up(alloc)?;
         let mut entries = LogEntries {
             reader,
+            up,
+            frames: LogFrames::new(alloc, false),
             next: None,
             is_down: false,
             is_followed: false,

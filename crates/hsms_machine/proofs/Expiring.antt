@@ -24,10 +24,9 @@ use Rattle.hsms_machine.specs.Settings.{Parameters}
 use Rattle.hsms_machine.specs.ViewRules.{IsUntil, is_closed_by, pool_after}
 use Rattle.hsms_machine.specs.Transaction.{Pool, SentData, SentControl, TakenData, TakenControl, opened_as, opened_as_at, passes}
 use Rattle.hsms_machine.specs.View.{open_of, view_of}
-use Rattle.hsms_machine.proofs.OtherEntries.{in_order-filter}
+use Rattle.hsms_machine.proofs.KeptTransactions.{in_order-push, in_order-filter}
 use Rattle.hsms_machine.proofs.Connection.{on-before}
 use Rattle.hsms_machine.proofs.First.{applies, not_first}
-use Rattle.hsms_machine.proofs.KeptTransactions.{in_order-push}
 use Rattle.hsms_machine.proofs.Mapped.{any_first, overdue_falls}
 use Rattle.hsms_machine.proofs.Push.{view-push}
 use Rattle.hsms_machine.proofs.Runs.{run-front, run-next}

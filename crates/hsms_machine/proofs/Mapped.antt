@@ -1,10 +1,9 @@
 -- The open transactions of a map, by the list of its values.
-use Rattle.std.proofs.Common.{◌≡◌, ℕ, ◌+◌, ◌-◌, ◌^◌, ◌<◌, ◌≤◌, min, Bool, true, false, not, cond, ◌==◌, ◌&&◌, ◌||◌, List, [], ◌∷◌, Option, Some, None, is_some, inl, inr, refl, sym, ap, subst, ◌∙◌, arith, filter, nat_lt, nat_le, nat_eq, length}
+use Rattle.std.proofs.Common.{◌≡◌, ℕ, ◌+◌, ◌-◌, ◌^◌, ◌<◌, ◌≤◌, min, Bool, true, false, not, cond, ◌==◌, ◌&&◌, ◌||◌, List, [], ◌∷◌, Option, Some, None, is_some, inl, inr, refl, sym, ap, subst, ◌∙◌, arith, filter, nat_lt, nat_le, length}
 use Rattle.std.specs.Prelude.{IfSome, IfNone}
 use Rattle.std.specs.Bool.{then_some}
 use Rattle.std.specs.List.{AllByRecursion, list_any, find, cons_option}
-use Rattle.std.specs.Cmp.{nat_eq_equiv}
-use Rattle.std.specs.Map.{values_of, lookup}
+use Rattle.std.specs.Map.{values_of}
 use Rattle.std.proofs.lemmas.Bool.{cases_Bool, and_parts, or_cases, eqb-true, eq-eqb, ltb-true, ltb-false, lt-ltb, le-ltb, leb-true, le-leb}
 use Rattle.hsms_frame.specs.Header.{kind_of}
 use Rattle.hsms_frame.specs.declared.header.Header.{Header}
@@ -16,7 +15,7 @@ use Rattle.hsms_machine.specs.InnerMessage.{may_conclude}
 use Rattle.hsms_machine.specs.Transaction.{passes, answers, answers_kind, rejects, concludes}
 use Rattle.hsms_machine.specs.Timer.{due_at, due_times, least_of, least_in}
 use Rattle.hsms_machine.specs.OpeningOrder.{IsOrdered, AreUntil, first_of}
-use Rattle.hsms_machine.specs.InnerOpeningOrder.{AreKeyed, AreSince, AreInOrder, AreApart, uses}
+use Rattle.hsms_machine.specs.InnerOpeningOrder.{AreSince, AreInOrder, AreApart, uses}
 
 -- The parts of an `
 --
@@ -31,13 +30,6 @@ or_false false b e = e
 
 -- ---- a look-up by system bytes
 
-pub lookup-find : (system : ℕ) (es : List (ℕ × Transaction)) → AreKeyed es → lookup (nat_eq system) es ≡ find (λ opened. opened.header.system == system) (values_of es)
-lookup-find system [] keyed = refl
-lookup-find system (e ∷ es) keyed =
-    let same : nat_eq system e.0 ≡ (e.1.header.system == system) = ap (nat_eq system) keyed.0 ∙ nat_eq_equiv.symm system e.1.header.system in
-    let rest : lookup (nat_eq system) es ≡ find (λ opened. opened.header.system == system) (values_of es) = lookup-find system es keyed.1 in
-    (λ i. cond (same i) (Some e.1) (rest i))
-
 some_cond : (b : Bool) (x : Transaction) (r : Option Transaction) (c : Bool) → is_some r ≡ c → is_some (cond b (Some x) r) ≡ (b || c)
 some_cond true x r c e = refl
 some_cond false x r c e = e
@@ -45,9 +37,6 @@ some_cond false x r c e = e
 pub find-some : (test : Transaction → Bool) (xs : List Transaction) → is_some (find test xs) ≡ list_any test xs
 find-some test [] = refl
 find-some test (x ∷ xs) = some_cond (test x) x (find test xs) (list_any test xs) (find-some test xs)
-
-pub lookup-uses : (system : ℕ) (es : List (ℕ × Transaction)) → AreKeyed es → is_some (lookup (nat_eq system) es) ≡ uses system (values_of es)
-lookup-uses system es keyed = ap is_some (lookup-find system es keyed) ∙ find-some (λ opened. opened.header.system == system) (values_of es)
 
 found_case : (test : Transaction → Bool) (x opened : Transaction) (xs : List Transaction) (b : Bool) → test x ≡ b → (find test xs ≡ Some opened → list_any (λ other. test other && (other.time == opened.time)) xs ≡ true) → cond b (Some x) (find test xs) ≡ Some opened → ((b && (x.time == opened.time)) || list_any (λ other. test other && (other.time == opened.time)) xs) ≡ true
 found_case test x opened xs true t later e =
@@ -59,18 +48,6 @@ found_case test x opened xs false t later e = later e
 pub found_any : (test : Transaction → Bool) (opened : Transaction) (xs : List Transaction) → find test xs ≡ Some opened → list_any (λ other. test other && (other.time == opened.time)) xs ≡ true
 found_any test opened [] e = absurd cc
 found_any test opened (x ∷ xs) e = found_case test x opened xs (test x) refl (found_any test opened xs) e
-
-pub is_none_at : (r : Option Transaction) → is_some r ≡ false → r ≡ None
-is_none_at None e = refl
-is_none_at (Some x) e = absurd (let d : true ≡ false = e in cc)
-
-pub lookup-fresh : (system : ℕ) (es : List (ℕ × Transaction)) → AreKeyed es → uses system (values_of es) ≡ false → lookup (nat_eq system) es ≡ None
-lookup-fresh system es keyed fresh = is_none_at (lookup (nat_eq system) es) (lookup-uses system es keyed ∙ fresh)
-
--- Nothing is found in an empty list.
-pub find-empty : (system : ℕ) (es : List (ℕ × Transaction)) → length es ≡ 0 → find (λ opened. opened.header.system == system) (values_of es) ≡ None
-find-empty system [] e = refl
-find-empty system (x ∷ es) e = absurd (omega arith)
 
 -- ---- a test that only the transaction of some system bytes can pass
 

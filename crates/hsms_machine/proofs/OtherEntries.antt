@@ -1,13 +1,13 @@
 -- The oldest open transaction may be stored outside the map.
-use Rattle.std.proofs.Common.{◌≡◌, ℕ, ◌-◌, ◌^◌, ◌<◌, ◌≤◌, Bool, true, false, not, ◌==◌, ◌||◌, List, [], ◌∷◌, ◌++◌, Option, Some, None, refl, sym, ap, subst, ◌∙◌, arith, filter, length, cond, option_to_list, append_assoc}
+use Rattle.std.proofs.Common.{◌≡◌, ℕ, ◌-◌, ◌^◌, ◌<◌, ◌≤◌, Bool, true, false, not, ◌==◌, List, [], ◌∷◌, ◌++◌, Option, Some, None, refl, sym, ap, subst, ◌∙◌, arith, filter, length, cond, option_to_list, append_assoc}
 use Rattle.std.specs.List.{find}
 use Rattle.std.proofs.lemmas.Bool.{eqb-true}
 use Rattle.std.proofs.lemmas.List.Elements.{filter-append}
 use Rattle.hsms_machine.specs.declared.open_transactions.Transaction.{Transaction}
 use Rattle.hsms_machine.specs.OpeningOrder.{AreUntil}
-use Rattle.hsms_machine.specs.InnerOpeningOrder.{AreSince, AreInOrder, AreApart, AreListed, uses}
+use Rattle.hsms_machine.specs.InnerOpeningOrder.{AreInOrder, AreApart, AreListed, uses}
 use Rattle.hsms_machine.proofs.Mapped.{or_parts, or_false, any_none, filter_none}
-use Rattle.hsms_machine.proofs.KeptTransactions.{apart-push, in_order-push}
+use Rattle.hsms_machine.proofs.KeptTransactions.{apart-push, in_order-push, apart-filter, in_order-filter}
 
 -- ---- some system bytes
 
@@ -49,41 +49,6 @@ module _ (test : Transaction → Bool) (system : ℕ) (only : (x : Transaction) 
       ap (λ l. option_to_list oldest ++ l) is ∙ ap (λ l. l ++ filter (λ x. not (test x)) xs) (sym other) ∙ sym (filter-append (λ x. not (test x)) (option_to_list oldest) xs)
 
 module _ (test : Transaction → Bool) where
-  uses-filter : (system : ℕ) (xs : List Transaction) → uses system xs ≡ false → uses system (filter test xs) ≡ false
-  uses-filter system [] h = refl
-  uses-filter system (x ∷ xs) h = by_case (uses-filter system xs parts.1) (test x)
-    where
-      parts : ((x.header.system == system) ≡ false) × (uses system xs ≡ false)
-      parts = or_parts (x.header.system == system) (uses system xs) h
-
-      by_case : uses system (filter test xs) ≡ false → (b : Bool) → uses system (cond b (x ∷ filter test xs) (filter test xs)) ≡ false
-      by_case later true = ap (λ c. c || uses system (filter test xs)) parts.0 ∙ later
-      by_case later false = later
-
-  apart-filter : (xs : List Transaction) → AreApart xs → AreApart (filter test xs)
-  apart-filter [] h = tt
-  apart-filter (x ∷ xs) h = by_case (apart-filter xs h.1) (test x)
-    where
-      by_case : AreApart (filter test xs) → (b : Bool) → AreApart (cond b (x ∷ filter test xs) (filter test xs))
-      by_case later true = (uses-filter x.header.system xs h.0, later)
-      by_case later false = later
-
-  since-filter : (time : ℕ) (xs : List Transaction) → AreSince time xs → AreSince time (filter test xs)
-  since-filter time [] h = tt
-  since-filter time (x ∷ xs) h = by_case (since-filter time xs h.1) (test x)
-    where
-      by_case : AreSince time (filter test xs) → (b : Bool) → AreSince time (cond b (x ∷ filter test xs) (filter test xs))
-      by_case later true = (h.0, later)
-      by_case later false = later
-
-  pub in_order-filter : (xs : List Transaction) → AreInOrder xs → AreInOrder (filter test xs)
-  in_order-filter [] h = tt
-  in_order-filter (x ∷ xs) h = by_case (in_order-filter xs h.1) (test x)
-    where
-      by_case : AreInOrder (filter test xs) → (b : Bool) → AreInOrder (cond b (x ∷ filter test xs) (filter test xs))
-      by_case later true = (since-filter x.time xs h.0, later)
-      by_case later false = later
-
   pub fewer : (xs : List Transaction) → length (filter test xs) ≤ length xs
   fewer [] = omega arith
   fewer (x ∷ xs) = by_case (fewer xs) (test x)
@@ -97,8 +62,8 @@ module _ (test : Transaction → Bool) where
       let few : length queue < 2 ^ 63 - 1 = h.few in
       record {
         few = omega (arith, few, le);
-        apart = subst AreApart (sym is) (apart-filter (option_to_list oldest ++ queue) h.apart);
-        in_order = subst AreInOrder (sym is) (in_order-filter (option_to_list oldest ++ queue) h.in_order);
+        apart = subst AreApart (sym is) (apart-filter test (option_to_list oldest ++ queue) h.apart);
+        in_order = subst AreInOrder (sym is) (in_order-filter test (option_to_list oldest ++ queue) h.in_order);
       }
 
 -- ---- none

@@ -52,6 +52,22 @@ pub fn open_input<R: Files + Input>(
     }
 }
 
+/// Checks that standard input is open if one of the names is `-`. If it is closed, the first file that is opened would take
+/// its place.
+///
+/// # Errors
+///
+/// Returns `Read` if standard input is closed, or cannot be read.
+pub fn check_standard<R: Input>(rt: &R, names: &[&str]) -> Result<(), ToolFault> {
+    if names.iter().any(|name| *name == STANDARD) {
+        return match rt.reader().read(&mut []) {
+            Ok(_) => Ok(()),
+            Err(_) => Err(ToolFault::Device("Read")),
+        };
+    }
+    Ok(())
+}
+
 // Opens a file that is no directory.
 fn opened_file<R: Files>(rt: &R, name: &str) -> io::Result<R::File> {
     let file = File::open(rt, name)?;

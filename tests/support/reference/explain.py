@@ -25,6 +25,17 @@ MOST_CLOSED = 4096
 TOLD_WHOLE = 3
 GROUPS = 256
 
+# How many lines that are not written are kept for a failure that names them, and how long they may be.
+KEPT_LINES = 1024
+LONGEST_KEPT = 4096
+
+# How many lines of a page are written, before only failures are.
+PAGE_LINES = 5000
+
+# How many slowest replies are listed, and how many primaries that expired or have no reply.
+SLOWEST = 10
+LISTED = 100
+
 # The number of kinds of primaries that are distinguished.
 KINDS = 64
 
@@ -34,6 +45,9 @@ DOTS = b"       ..\n"
 # The first time of 1970, and the last one that is written as a date, in ms since then.
 EPOCH = datetime(1970, 1, 1, tzinfo=timezone.utc)
 LAST_DATE = 253402207200999
+
+# What a later failure may name.
+NAMEABLE = ("primary", "select.req", "linktest.req", "separate", "up", "cut")
 
 # The line that words of what was expected name.
 LINE_NAMED = re.compile(r"\bline (\d+)")
@@ -219,6 +233,8 @@ class Line:
         self.number, self.notes = number, []
         # Whether its entry, as repaired, opens a transaction, and whether it starts a connection.
         self.opens = self.starts = False
+        # Whether a later failure may name it, and it is kept for that.
+        self.is_kept = False
         front = b"%6d %*s " % (number, 24 if is_utc else 7, time.encode())
         self.said, self.unescaped = front + (said if entry else visible(said)) + b"\n", front + said + b"\n"
         self.members: Object = {"type": "line", "line": number}
@@ -331,41 +347,143 @@ class Told(NamedTuple):
     line: Line
     notes: List[Union[Note, Alike]]
 
+    def text(self, is_escaped: bool) -> bytes:
+        return self.line.text(self.notes, is_escaped)
+
+    def object(self) -> Object:
+        return self.line.object(self.notes)
+
+    def failures(self) -> List[Note]:
+        """Those that are written in full."""
+        return [it for it in self.notes if isinstance(it, Note) and it.rule]
+
+    def names(self, number: int) -> bool:
+        """Whether a failure names a line."""
+        return any(number in named_by(it.members) for it in self.failures())
+
+
+class Named(NamedTuple):
+    """A line that is written since a failure names it. It precedes the last line written, or not."""
+
+    told: Told
+    is_back: bool
+
+
+class Jump(NamedTuple):
+    """The next line is not the one after the line above it, but no lines are left out between them."""
+
+
+# What is written: lines, and marks between them.
+Shown = Union[Told, Named, Gap, Jump]
+
+
+def line_of(shown: Union[Told, Named]) -> Told:
+    return shown.told if isinstance(shown, Named) else shown
+
+
+def named_by(members: Object) -> List[int]:
+    """The lines that a failure names: that of the open transaction, of what waited, and of the hint."""
+    waited = LINE_NAMED.search(members.get("overdue", ""))
+    named = [members.get("concerns"), members.get("expected_line"), int(waited[1]) if waited else None]
+    return [it for it in named if it is not None]
+
+
+class Writer:
+    """Writes lines in their order. The last lines before a failure are held; older ones that a failure may name are
+    kept."""
+
+    def __init__(self, around: int):
+        self.around, self.after, self.last, self.is_back = around, 0, 0, False
+        self.held: List[Told] = []
+        self.kept: List[Told] = []
+        self.shown: List[Shown] = []
+
+    def tell(self, told: Told, is_whole: bool):
+        if is_whole:
+            self.write(told)
+        elif told.failures():
+            self.recall(told)
+            for one in [*self.held, told]:
+                self.write(one)
+            self.held, self.after = [], self.around
+        elif self.after:
+            self.write(told)
+            self.after -= 1
+        else:
+            self.held.append(told)
+            if len(self.held) > self.around:
+                self.leave(self.held.pop(0))
+
+    def leave(self, told: Told):
+        self.kept += [told] * told.line.is_kept
+        del self.kept[:-KEPT_LINES]
+
+    def write(self, told: Told):
+        self.go_to(told.line.number)
+        self.shown.append(told)
+
+    def go_to(self, number: int):
+        if number > self.last + 1:
+            self.shown.append(Gap(self.last + 1, number - 1))
+        elif self.is_back:
+            self.shown.append(Jump())
+        self.last, self.is_back = number, False
+
+    def recall(self, told: Told):
+        named = [it for it in self.kept if told.names(it.line.number)]
+        self.kept = [it for it in self.kept if it not in named]
+        for it in named:
+            is_back = it.line.number < self.last
+            if is_back:
+                self.shown.append(Jump())
+                self.is_back = True
+            else:
+                self.go_to(it.line.number)
+            self.shown.append(Named(it, is_back))
+
+    def end(self, count: int):
+        self.shown += [Gap(self.last + 1, count)] * (count > self.last)
+
 
 class Excerpt(NamedTuple):
-    """The filter of lines, with `around` those that fail, with that many before and after them; and whether their times
-    are written as dates."""
+    """The filter of lines, with `around` those that fail, with that many before and after them; whether their times are
+    written as dates; whether primaries are listed; and of a page whether it has every line."""
 
     around: Optional[int] = None
     first: int = 1
     last: Optional[int] = None
     is_utc: bool = False
+    has_lists: bool = False
+    is_page: bool = False
+    is_every: bool = False
 
     def words(self) -> List[str]:
         only = [] if self.around is None else ["--only", "failures", "--around", str(self.around)]
         first = [] if self.first == 1 else ["--from", str(self.first)]
         last = [] if self.last is None else ["--to", str(self.last)]
-        return [*only, *first, *last, *(["--utc"] if self.is_utc else [])]
+        flags = (("--utc", self.is_utc), ("--lists", self.has_lists), ("--all", self.is_every))
+        return [*only, *first, *last, *(name for name, is_set in flags if is_set)]
+
+    def shortened(self, count: int) -> Optional[int]:
+        """The first line from which on a page of a log of so many lines has only failures although it could have all."""
+        first = self.first + PAGE_LINES
+        is_cut = self.is_page and not self.is_every and self.around is None
+        return first if is_cut and first <= count and self.has(first) else None
 
     def has(self, number: int) -> bool:
         return number >= self.first and (self.last is None or number <= self.last)
 
-    def shown(self, lines: List[Line]) -> Tuple[List[Union[Told, Gap]], List[Rest]]:
+    def shown(self, lines: List[Line]) -> Tuple[List[Shown], List[Rest]]:
         """The lines that are written, with the gaps between them, before and after them, and the failures that are not
         written whole.
         """
-        groups = Groups()
-        within = {line.number: Told(line, groups.told(line)) for line in lines if self.has(line.number)}
-        numbers = set(within)
-        if self.around is not None:
-            failing = [at for at, told in within.items() if any(isinstance(it, Note) and it.rule for it in told.notes)]
-            numbers &= {number for at in failing for number in range(at - self.around, at + self.around + 1)}
-        shown: List[Union[Told, Gap]] = []
-        last = 0
-        for number in sorted(numbers):
-            shown += [Gap(last + 1, number - 1)] * (number > last + 1) + [within[number]]
-            last = number
-        return shown + [Gap(last + 1, len(lines))] * (len(lines) > last), groups.rests()
+        groups, writer, cut = Groups(), Writer(5 if self.around is None else self.around), self.shortened(len(lines))
+        for line in lines:
+            if self.has(line.number):
+                is_whole = self.around is None and (cut is None or line.number < cut)
+                writer.tell(Told(line, groups.told(line)), is_whole)
+        writer.end(len(lines))
+        return writer.shown, groups.rests()
 
 
 WHOLE = Excerpt()
@@ -383,7 +501,8 @@ class Telling:
         self.openers: List[Optional[int]] = []
         self.failures: Dict[str, int] = {}
         self.lines: List[Line] = []
-        self.judged = 0
+        # The entries as they are logged, each with the number of its line.
+        self.logged: List[Tuple[int, Entry]] = []
         # Of the last Select.req that is left out: how many entries were before it, its line, and the rule that it breaks.
         self.left_out = (0, 0, "")
 
@@ -402,7 +521,8 @@ class Telling:
         words = f"{entry.event} {messages.shown(entry.frame, DEEPEST)}" if entry.frame else None
         shown = words.encode() if words else line.split(b" ", 1)[1]
         self.lines.append(Line(number, entry, shown, self.is_utc))
-        self.judged += 1
+        self.lines[-1].is_kept = len(line) <= LONGEST_KEPT and (entry.frame.kind if entry.frame else entry.event) in NAMEABLE
+        self.logged.append((number, entry))
         self.judge(entry, number)
 
     def tell_rule(self, rule: str, sentence: str, sort: Sort):
@@ -438,7 +558,7 @@ class Telling:
                 self.left_out = (len(self.entries), number, rule)
             if is_own:
                 self.tell_rule(rule, sentence_of(step, rule), sort_of(before, step, rule))
-                self.tell_concern(step, rule)
+                self.tell_concern(before, step, rule)
                 self.tell_expected(before, step, rule)
                 words = remedy_words(step, remedy, self.is_utc)
                 self.further(words, remedy=words, **({"put": words_of(remedy[1])} if remedy[1] else {}))
@@ -560,14 +680,63 @@ class Telling:
             return None
         return f"the only open primary is line {self.places[at]}: it expects {reply_to(frame)} {frame.system:08x}"
 
-    def tell_concern(self, entry: Entry, rule: str):
+    def tell_overdue(self, opener: Entry, entry: Entry, timer: str, limit: int):
+        """Tells the request whose timer has expired, and whether the entry is its reply."""
+        request, waited = opener.frame, entry.time - opener.time
+        if waited <= limit:
+            return
+        at = next(at for at in self.open() if self.entries[at] is opener)
+        name = f"S{request.stream}F{request.function} W" if request.kind == "primary" else request.kind
+        words = f"{name} {request.system:08x} of line {self.places[at]} waited {waited} ms ({timer} {limit})"
+        if entry.event in (TAKEN, DISCARDED) and session.answers(request, entry.frame):
+            words += f"; this is its reply, {waited - limit} ms late"
+        concerns = {"concerns": self.places[at]} if timer == "T3" else {}
+        self.further(words, **concerns, overdue=words, waited=waited)
+
+    def tell_overdue_link(self, before: Before, entry: Entry):
+        """Tells what waited past T6, or otherwise since when the connection waits, past T7."""
+        if before.waited_past_t6(entry.time):
+            return self.tell_overdue(before.sent_control[0], entry, "T6", self.settings.t6)
+        at = next(at for at in self.positions() if self.entries[at] is before.up)
+        waited = entry.time - before.up.time
+        words = f"up of line {self.places[at]} waited {waited} ms (T7 {self.settings.t7})"
+        self.further(words, overdue=words, waited=waited)
+
+    def tell_concern(self, before: Before, entry: Entry, rule: str):
+        if rule == "T3Overdue":
+            return self.tell_overdue(before.sent_data[0], entry, "T3", self.settings.t3)
+        if rule == "LinkOverdue":
+            return self.tell_overdue_link(before, entry)
         for at in self.open():
             opener = self.entries[at]
-            is_oldest = rule == "T3Overdue" and opener.event == SENT and opener.frame.is_data
             is_meant = rule == "SystemInUse" and opener.event == entry.event
-            if is_oldest or is_meant and opener.frame.system == entry.frame.system:
+            if is_meant and opener.frame.system == entry.frame.system:
                 self.further(f"open transaction: line {self.places[at]}", concerns=self.places[at])
                 return
+
+    def doubts(self) -> List[str]:
+        """Which settings of line 1 no entry agrees with: the device, the version, the link and the role."""
+        settings = self.settings
+        frames = [(line, it.event, it.frame) for line, it in self.logged if it.event in (SENT, TAKEN)]
+        sessions = [frame.session for _, _, frame in frames if frame.is_data]
+        connections = sum(it.event == "up" for _, it in self.logged)
+        told = []
+        if len(sessions) > 1 and set(sessions) == {sessions[0]} != {settings.device}:
+            question = f": is the device {sessions[0]}?" if sessions[0] <= 32767 else ""
+            data = f"all {len(sessions)} data messages have session {sessions[0]:04x}"
+            told.append(f"{data}; line 1 says {settings.device}{question}")
+        if settings.version == 1 and connections > 1:
+            told.append(f"line 1 is of version 1, and the log has {connections} connections: version 2 allows them")
+        asked = [(line, event, "Select.req") for line, event, it in frames if it.kind == "select.req"]
+        errors = [(line, event, f"S9F{it.function}") for line, event, it in frames if it.kind == "primary" and it.stream == 9]
+        sender = SENT if settings.link == "active" else TAKEN
+        reporter = SENT if settings.role == "equipment" else TAKEN
+        for seen, right, word in ((asked, sender, settings.link), (errors, reporter, settings.role)):
+            if seen and all(event != right for _, event, _ in seen):
+                line, event, name = seen[0]
+                way = "sent" if event == SENT else "received"
+                told.append(f"{name} is {way} at line {line} and line 1 says {word}")
+        return told
 
     def outcomes(self) -> List[Object]:
         """What became of the primaries with W, by direction and function."""
@@ -590,6 +759,28 @@ class Telling:
             }
             for (kind, event), places in kinds.items()
         ]
+
+    def lists(self) -> List[Object]:
+        """The primaries with the slowest replies, those that expired, and those without a reply."""
+        closings = {opener: at for at, opener in enumerate(self.openers) if opener is not None}
+        slowest, expired, unanswered = [], [], []
+        for at, entry in enumerate(self.entries):
+            if entry.event not in (SENT, TAKEN) or entry.frame.kind != "primary" or not entry.frame.wait:
+                continue
+            frame, end = entry.frame, closings.get(at)
+            asked = {"line": self.places[at], "system": f"{frame.system:08x}", "stream": frame.stream}
+            asked.update(function=frame.function, direction="sent" if entry.event == SENT else "received")
+            if end is None:
+                unanswered.append({"type": "unanswered", **asked})
+                continue
+            closing = self.entries[end]
+            ended = {"after": closing.time - entry.time, "end": self.places[end]}
+            if closing.event == "t3":
+                expired.append((end, {"type": "expired", **asked, **ended}))
+            elif closing.frame.kind == "reply" and closing.frame.function:
+                slowest.append((-ended["after"], end, {"type": "slowest", **asked, **ended}))
+        told = [it for *_, it in sorted(slowest, key=lambda it: it[:2])[:SLOWEST]]
+        return told + [it for _, it in sorted(expired, key=lambda it: it[0])[:LISTED]] + unanswered[:LISTED]
 
     def outcome(self, places: List[int], closings: Dict[int, int], still_open: Set[int]) -> Object:
         counts = dict.fromkeys(("answered", "aborted", "expired", "rejected", "ended", "waiting"), 0)
@@ -632,6 +823,13 @@ def outcome_text(outcome: Object) -> bytes:
     return f"{name} W {outcome['direction']}={outcome['opened']}{''.join(words)}\n".encode()
 
 
+def listed_text(listed: Object) -> bytes:
+    """A primary of a list, in words."""
+    name = "{type}: S{stream}F{function} W {system} {direction} at line {line}".format(**listed)
+    ended = f", {listed['after']} ms to line {listed['end']}" if "end" in listed else ""
+    return f"{name}{ended}\n".encode()
+
+
 def rounded(time: int) -> int:
     """A time down to its eight highest binary digits. One of 2^32 or more is taken for the greatest below."""
     time = min(time, 2**32 - 1)
@@ -643,15 +841,23 @@ class Ladder:
     """Which transactions that shown lines open end in each gap, and which are open at each shown start of a connection
     and at the end, where there are some."""
 
-    def __init__(self, shown: List[Union[Told, Gap]], lines: List[Line]):
+    def __init__(self, shown: List[Shown], lines: List[Line]):
+        # What ends at a line that is written since a failure names it.
+        self.further: List[str] = []
         self.waiting: List[int] = []
         self.gaps: List[List[str]] = []
         self.open: List[List[int]] = []
         for it in shown:
             if isinstance(it, Gap):
-                self.gaps.append([words for line in lines[it.first - 1 : it.last] for words in self.ended(line)])
-            else:
+                ended = [words for line in lines[it.first - 1 : it.last] for words in self.ended(line)]
+                self.gaps.append([*self.further, *ended])
+                self.further = []
+            elif isinstance(it, Jump):
+                self.gaps.append([])
+            elif isinstance(it, Told):
                 self.show(it.line)
+            elif not it.is_back:
+                self.further += self.ended(it.told.line)
         self.open += [self.waiting] * bool(self.waiting)
 
     def ended(self, line: Line) -> List[str]:
@@ -689,34 +895,43 @@ class Explained(NamedTuple):
     """The explanation of a log without the verdict."""
 
     lines: List[Line]
-    shown: List[Union[Told, Gap]]
+    shown: List[Shown]
+    # Which settings no entry agrees with.
+    doubts: List[str]
     # Why nothing was audited, if so.
     unjudged: Optional[str]
     rests: List[Rest]
     # Nothing of these where line 1 cannot be read.
     failures: Optional[Dict[str, int]]
     outcomes: List[Object]
+    lists: List[Object]
 
     def text(self, is_escaped: bool = True) -> bytes:
-        told = [DOTS if isinstance(it, Gap) else it.line.text(it.notes, is_escaped) for it in self.shown]
+        told = [DOTS if isinstance(it, (Gap, Jump)) else line_of(it).text(is_escaped) for it in self.shown]
+        told += [f"{words}\n".encode() for words in self.doubts]
         if self.unjudged:
             told.append(f"{self.unjudged}\n".encode())
         told += [rest.text() for rest in self.rests]
         if self.failures is not None:
             counts = "".join(f" {rule}={count}" for rule, count in self.failures.items())
             told.append(f"failures={sum(self.failures.values())}{counts}\n".encode())
-        return b"".join(told + [outcome_text(outcome) for outcome in self.outcomes])
+        told += [outcome_text(outcome) for outcome in self.outcomes]
+        return b"".join(told + [listed_text(listed) for listed in self.lists])
 
     def objects(self) -> List[Object]:
         told: List[Object] = []
         for it in self.shown:
-            told.append({"type": "gap", "from": it.first, "to": it.last} if isinstance(it, Gap) else it.line.object(it.notes))
+            if isinstance(it, Gap):
+                told.append({"type": "gap", "from": it.first, "to": it.last})
+            elif not isinstance(it, Jump):
+                told.append(line_of(it).object())
+        told += [{"type": "doubt", "text": words} for words in self.doubts]
         if self.unjudged:
             told.append({"type": "unjudged", "text": self.unjudged})
         told += [{"type": "rest", **rest._asdict()} for rest in self.rests]
         if self.failures is not None:
             told.append({"type": "failures", "count": sum(self.failures.values()), "rules": self.failures})
-        return told + self.outcomes
+        return told + self.outcomes + self.lists
 
 
 def unjudged(lines: List[bytes], excerpt: Excerpt) -> Explained:
@@ -726,7 +941,7 @@ def unjudged(lines: List[bytes], excerpt: Excerpt) -> Explained:
     for line, octets in list(zip(told, lines))[:1]:
         line.notes.append(unreadable(reasons.of_first_line(octets)))
     why = "line 1 is unreadable" if lines else "the log is empty"
-    return Explained(told, excerpt.shown(told)[0], f"not audited: {why}", [], None, [])
+    return Explained(told, excerpt.shown(told)[0], [], f"not audited: {why}", [], None, [], [])
 
 
 def explained(log: bytes, excerpt: Excerpt) -> Explained:
@@ -739,8 +954,9 @@ def explained(log: bytes, excerpt: Excerpt) -> Explained:
     for number, line in enumerate(lines[1:], 2):
         telling.tell(line, number)
     shown, rests = excerpt.shown(telling.lines)
-    nothing = None if telling.judged else "not audited: the log has no entries"
-    return Explained(telling.lines, shown, nothing, rests, telling.failures, telling.outcomes())
+    nothing = None if telling.logged else "not audited: the log has no entries"
+    lists = telling.lists() if excerpt.has_lists else []
+    return Explained(telling.lines, shown, telling.doubts(), nothing, rests, telling.failures, telling.outcomes(), lists)
 
 
 def verdict_object(words: str) -> Object:
@@ -753,16 +969,17 @@ def verdict_object(words: str) -> Object:
 
 class Answer(NamedTuple):
     """The explanation of a log: as text, as the objects of JSON, and as text with control characters as they are. Also
-    what ends in the gaps of a page, and what is open."""
+    what ends in the gaps of a page, what is open, and from which line on a page has only failures."""
 
     text: bytes
     objects: List[Object]
     unescaped: bytes
     ladder: Ladder
+    shortened: Optional[int]
 
 
 def explain(log: bytes, excerpt: Excerpt = WHOLE) -> Answer:
     told, verdict = explained(log, excerpt), session.audit(log).verdict
     end = f"{verdict}\n".encode()
     ladder = Ladder(told.shown, told.lines)
-    return Answer(told.text() + end, [*told.objects(), verdict_object(verdict)], told.text(is_escaped=False) + end, ladder)
+    return Answer(told.text() + end, [*told.objects(), verdict_object(verdict)], told.text(is_escaped=False) + end, ladder, excerpt.shortened(len(told.lines)))

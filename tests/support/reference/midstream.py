@@ -157,6 +157,7 @@ class Told:
     lines: List[Line] = field(default_factory=list)
     fault: Optional[Tuple[str, int]] = None
     given_up: List[bytes] = field(default_factory=list)  # what the packets bring that are kept, if a beginning is not sure
+    start: int = 0  # the packet with which both directions have begun
 
     @property
     def missing(self) -> Optional[int]:
@@ -215,10 +216,10 @@ def told_from(seen: List[Seen], begins: List[int], options: Options) -> Told:
         if one.what == "up" or one.packet < seen[start].packet:
             continue
         if one.what == "message" and not HEADER <= len(one.octets) - 4 <= options.max:
-            return Told(supposed(messages, begun, options), ("Length", one.packet))
+            return Told(supposed(messages, begun, options), ("Length", one.packet), start=seen[start].packet)
         is_bare = one.what == "down" and one.packet in bare
         messages.append(Line(one.packet, 0 if is_bare else max(one.time, begun), one.what, one.end, one.octets))
-    return Told(supposed(messages, begun, options), told.fault)
+    return Told(supposed(messages, begun, options), told.fault, start=seen[start].packet)
 
 
 # What is before.
@@ -285,6 +286,11 @@ def supposed(lines: List[Line], begun: int, options: Options) -> List[Line]:
             line = replace(line, time=max(line.time, *(one.time for one in found if one.what != "left out")))
         found.append(line)
     return found if any(line.what == "message" and line.packet for line in found) else []
+
+
+def is_too_early(told: Told, last: int) -> bool:
+    """Whether a log whose last entry has this time may not go on with a session: its times would be raised."""
+    return bool(told.lines) and told.lines[0].time < last
 
 
 def log_of(told: Told, end: int, options: Options) -> bytes:

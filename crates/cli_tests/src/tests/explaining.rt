@@ -14,6 +14,8 @@ const WHOLE: Excerpt = Excerpt {
     to: u32::MAX,
     form: OutputFormat::Text,
     utc: false,
+    lists: false,
+    every: false,
 };
 
 // The reply comes a millisecond too late, and no line says that the wait for it was given up.
@@ -33,7 +35,7 @@ const LATE_TOLD: &str = "     1         hsms-log 1 host active 0 45000 6000 1000
      5    1000 > data 0000 00000002 S1F1 W .
      6   46001 < data 0000 00000002 S1F2 <L [2] <A [1] \"A\"> <A [1] \"B\">> .
        FAIL T3Overdue: no reply came within T3, and no `t3` is logged
-            open transaction: line 5
+            S1F1 W 00000002 of line 5 waited 45001 ms (T3 45000); this is its reply, 1 ms late
             continues as if `46000 t3 00000002` were logged before it
        FAIL NoTransaction: no matching open transaction
             line 5 has the same system bytes, but already timed out at line 6
@@ -60,6 +62,7 @@ const CUT_TOLD: &str = "     1         hsms-log 2 host active 0 45000 6000 10000
      4       0 up
      5   10001 down
        FAIL LinkOverdue: T6 or T7 has expired, and no `cut` is logged
+            up of line 4 waited 10001 ms (T7 10000)
             continues as if `10000 cut t7` were logged before it
      6         nothing
        FAIL unreadable: not a valid log line
@@ -150,13 +153,15 @@ const FAILURES: Excerpt = Excerpt {
     to: u32::MAX,
     form: OutputFormat::Text,
     utc: false,
+    lists: false,
+    every: false,
 };
 
 const LATE_FAILURES_TOLD: &str = "       ..
      5    1000 > data 0000 00000002 S1F1 W .
      6   46001 < data 0000 00000002 S1F2 <L [2] <A [1] \"A\"> <A [1] \"B\">> .
        FAIL T3Overdue: no reply came within T3, and no `t3` is logged
-            open transaction: line 5
+            S1F1 W 00000002 of line 5 waited 45001 ms (T3 45000); this is its reply, 1 ms late
             continues as if `46000 t3 00000002` were logged before it
        FAIL NoTransaction: no matching open transaction
             line 5 has the same system bytes, but already timed out at line 6
@@ -174,6 +179,8 @@ const FRONT: Excerpt = Excerpt {
     to: 4,
     form: OutputFormat::Text,
     utc: false,
+    lists: false,
+    every: false,
 };
 
 const LATE_FRONT_TOLD: &str = "       ..
@@ -191,6 +198,14 @@ fail line=6 rule=T3Overdue
 fn shows_an_excerpt(rt: HostRuntime) -> Result<(), AllocError> {
     let alloc = rt.alloc();
     check_log_lines(&rt, alloc, FAILURES, LATE, "Ok(false)", LATE_FAILURES_TOLD)?;
+    check_log_lines(
+        &rt,
+        alloc,
+        BARE_FAILURES,
+        LATE,
+        "Ok(false)",
+        LATE_FAILURES_TOLD,
+    )?;
     check_log_lines(&rt, alloc, FRONT, LATE, "Ok(false)", LATE_FRONT_TOLD)
 }
 
@@ -263,6 +278,8 @@ const FROM_SEVEN: Excerpt = Excerpt {
     to: u32::MAX,
     form: OutputFormat::Text,
     utc: false,
+    lists: false,
+    every: false,
 };
 
 // Only the lines that fail, and none around them.
@@ -273,6 +290,8 @@ const BARE_FAILURES: Excerpt = Excerpt {
     to: u32::MAX,
     form: OutputFormat::Text,
     utc: false,
+    lists: false,
+    every: false,
 };
 
 #[test]
@@ -315,6 +334,20 @@ S6F11 W received=1 answered=1 min=301 median=301 p99=301 max=301 line=12
 pass entries=14 sent=7 taken=6 discarded=0 expired=0 waiting=1
 ";
 
+// The same, but for the lines, with lists of the primaries.
+const LISTS_TOLD: &str = "       ..
+    15    6000 > data 0000 00000006 S1F1 W .
+failures=0
+S1F1 W sent=5 answered=3 aborted=1 waiting=1 min=5 median=12 p99=40 max=40 line=8
+S6F11 W received=1 answered=1 min=301 median=301 p99=301 max=301 line=12
+slowest: S6F11 W 00000009 received at line 11, 301 ms to line 12
+slowest: S1F1 W 00000003 sent at line 7, 40 ms to line 8
+slowest: S1F1 W 00000002 sent at line 5, 12 ms to line 6
+slowest: S1F1 W 00000004 sent at line 9, 5 ms to line 10
+unanswered: S1F1 W 00000006 sent at line 15
+pass entries=14 sent=7 taken=6 discarded=0 expired=0 waiting=1
+";
+
 // Only the last line.
 const LAST: Excerpt = Excerpt {
     lines: Lines::All,
@@ -323,12 +356,19 @@ const LAST: Excerpt = Excerpt {
     to: u32::MAX,
     form: OutputFormat::Text,
     utc: false,
+    lists: false,
+    every: false,
 };
 
 #[test]
 fn shows_how_long_replies_took(rt: HostRuntime) -> Result<(), AllocError> {
     let alloc = rt.alloc();
-    check_log_lines(&rt, alloc, LAST, REPLIES, "Ok(true)", REPLIES_TOLD)
+    check_log_lines(&rt, alloc, LAST, REPLIES, "Ok(true)", REPLIES_TOLD)?;
+    let lists = Excerpt {
+        lists: true,
+        ..LAST
+    };
+    check_log_lines(&rt, alloc, lists, REPLIES, "Ok(true)", LISTS_TOLD)
 }
 
 // Asserts that a read or write failed, and that the earlier output is kept: a prefix of the complete output.

@@ -107,10 +107,10 @@ returns-in_err-missing-in-Err-clause-refused g c =
     rw (p.1, p.2) (λ refusal. absurd (missing_refuses c.in-Err.fault 0 _ c.in_err-missing-in-Err.ensures refusal))
 
 pub returns-in_ok-missing-in-Ok-clause-endless : goal.returns-in_ok-missing-in-Ok-clause-endless
-returns-in_ok-missing-in-Ok-clause-endless g c = never_endless c.finish.result _ c.finish.ensures.word
+returns-in_ok-missing-in-Ok-clause-endless g c = never_endless c.finish.result _ c.finish.ensures.error
 
 pub returns-in_ok-missing-in-Err-clause-endless : goal.returns-in_ok-missing-in-Err-clause-endless
-returns-in_ok-missing-in-Err-clause-endless g c = never_endless c.finish-in-Err.result _ c.finish-in-Err.ensures.word
+returns-in_ok-missing-in-Err-clause-endless g c = never_endless c.finish-in-Err.result _ c.finish-in-Err.ensures.error
 
 pub returns-in_err-missing-in-Ok-clause-endless : goal.returns-in_err-missing-in-Ok-clause-endless
 returns-in_err-missing-in-Ok-clause-endless g c =

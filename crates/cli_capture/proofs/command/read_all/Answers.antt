@@ -131,7 +131,7 @@ returns-clause-refuses g c = never_reads c.args.packets.now _ c.args.table.now c
 pub returns-in_err-missing-in-Packet-clause-endless : goal.returns-in_err-missing-in-Packet-clause-endless
 returns-in_err-missing-in-Packet-clause-endless g c =
     let p = err_from_is_err_and c.from_residual-in_err-missing-in-Packet.result c.from_residual-in_err-missing-in-Packet.ensures.1 in
-    rw (p.1, p.2) (write_ends _ _ c.in_err-missing-in-Packet.ensures.word)
+    rw (p.1, p.2) (write_ends _ _ c.in_err-missing-in-Packet.ensures.error)
 
 pub returns-in_err-missing_by-in-Err-clause-endless : goal.returns-in_err-missing_by-in-Err-clause-endless
 returns-in_err-missing_by-in-Err-clause-endless g c =

@@ -17,4 +17,4 @@ returns-in-Ok-clause-deals g c =
 pub returns-in-Err-clause-refuses : goal.returns-in-Err-clause-refuses
 returns-in-Err-clause-refuses g c =
     puts_refused c.args.packet c.args.record.now c.args.octets.now c.args.table.now c.in-Err.stop c.args.report.now c.take_packet-taken.new.report _ _
-    c.fault_of.result c.in-Err.ensures.refuses c.fault_of.ensures c.in_ok-put_out.ensures.ok
+    c.error_of.result c.in-Err.ensures.refuses c.error_of.ensures c.in_ok-put_out.ensures.ok

@@ -38,7 +38,7 @@ returns-in-Some-clause-takes c =
       c.in-Ok.connection,
       c.in-Some.ending,
       sym c.ending.ensures ∙ c.in-Some.is,
-      c.subsequent.ensures ∙ ap (λ (e : Ending). lack_behind e None) c.ending_in.ensures,
+      c.lack_behind.ensures ∙ ap (λ (e : Ending). lack_behind e None) c.ending_in.ensures,
       subst (λ (s : Seen). TakesOn c.args.connection s c.args.emitted.now.items c.in-Ok.connection c.take.new.emitted.items) cut c.in-Ok.ensures.emitted,
       subst (λ (s : Seen). TakesInTime c.args.connection s c.args.emitted.now.items c.in-Ok.connection c.take.new.emitted.items) cut c.in-Ok.ensures.times,
     )

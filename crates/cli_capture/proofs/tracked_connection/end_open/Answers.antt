@@ -17,14 +17,14 @@ returns-in-Over-clause-ends c =
 pub returns-in_ok-go_down-in-Proceeds-clause-ends : goal.returns-in_ok-go_down-in-Proceeds-clause-ends
 returns-in_ok-go_down-in-Proceeds-clause-ends c =
     end_goes_ok c.conclude-in-Proceeds.result c.args.pair.now c.args.is_replaced c.args.missing c.args.«open» c.hear_all.new.logs c.go_down.new.logs
-    c.new-emitted.result.items c.end.new.emitted.items c.in-Ok.ending c.in_ok-shortfall.field-0 c.subsequent-shortfall.result c.if-is_replaced.go_down c.args.report.now
+    c.new-emitted.result.items c.end.new.emitted.items c.in-Ok.ending c.in_ok-shortfall.field-0 c.lack_behind-shortfall.result c.if-is_replaced.go_down c.args.report.now
     c.hear_all.new.report c.go_down.new.report c.conclude-in-Proceeds.new.report c.new-emitted.ensures.items c.in-Ok.ensures.emitted c.in-Ok.ensures.times
     c.in-Proceeds.is c.in_ok-shortfall.ensures.reception c.in_ok-shortfall.ensures.same
-    c.subsequent-shortfall.ensures
+    c.lack_behind-shortfall.ensures
     (elim c.if-is_replaced.branch [
       | then-is_replaced w ↦
-          replaced_then c.args.is_replaced c.subsequent-shortfall.result w.is_none.result c.if-is_replaced.go_down w.if-is_replaced.true w.is_none.ensures w.go_down-is
-      | else-is_replaced w ↦ replaced_else c.args.is_replaced c.subsequent-shortfall.result c.if-is_replaced.go_down w.if-is_replaced.false
+          replaced_then c.args.is_replaced c.lack_behind-shortfall.result w.is_none.result c.if-is_replaced.go_down w.if-is_replaced.true w.is_none.ensures w.go_down-is
+      | else-is_replaced w ↦ replaced_else c.args.is_replaced c.lack_behind-shortfall.result c.if-is_replaced.go_down w.if-is_replaced.false
           (w.go_down-is ∙ w.if-is_replaced.false)
     ])
     c.in_ok-go_down-in-Proceeds.ensures.down c.in_ok-go_down-in-Proceeds.ensures.same c.conclude-in-Proceeds.ensures.once
@@ -38,13 +38,13 @@ returns-in-Over-clause-logged c =
 pub returns-in_ok-go_down-in-Proceeds-clause-logged : goal.returns-in_ok-go_down-in-Proceeds-clause-logged
 returns-in_ok-go_down-in-Proceeds-clause-logged c =
     ends_page c.conclude-in-Proceeds.result c.args.pair.now c.args.is_replaced c.args.missing c.args.«open» c.hear_all.new.logs c.go_down.new.logs
-    c.new-emitted.result.items c.end.new.emitted.items c.in-Ok.ending c.in_ok-shortfall.field-0 c.subsequent-shortfall.result c.if-is_replaced.go_down c.args.report.now
+    c.new-emitted.result.items c.end.new.emitted.items c.in-Ok.ending c.in_ok-shortfall.field-0 c.lack_behind-shortfall.result c.if-is_replaced.go_down c.args.report.now
     c.hear_all.new.report c.go_down.new.report c.conclude-in-Proceeds.new.report c.new-emitted.ensures.items c.in-Ok.ensures.emitted c.in_ok-shortfall.ensures.logged
-    c.subsequent-shortfall.ensures
+    c.lack_behind-shortfall.ensures
     (elim c.if-is_replaced.branch [
       | then-is_replaced w ↦
-          replaced_then c.args.is_replaced c.subsequent-shortfall.result w.is_none.result c.if-is_replaced.go_down w.if-is_replaced.true w.is_none.ensures w.go_down-is
-      | else-is_replaced w ↦ replaced_else c.args.is_replaced c.subsequent-shortfall.result c.if-is_replaced.go_down w.if-is_replaced.false
+          replaced_then c.args.is_replaced c.lack_behind-shortfall.result w.is_none.result c.if-is_replaced.go_down w.if-is_replaced.true w.is_none.ensures w.go_down-is
+      | else-is_replaced w ↦ replaced_else c.args.is_replaced c.lack_behind-shortfall.result c.if-is_replaced.go_down w.if-is_replaced.false
           (w.go_down-is ∙ w.if-is_replaced.false)
     ])
     c.in_ok-go_down-in-Proceeds.ensures.logged c.conclude-in-Proceeds.ensures.logged
@@ -67,13 +67,13 @@ pub returns-in_ok-go_down-in-Proceeds-clause-refuses : goal.returns-in_ok-go_dow
 returns-in_ok-go_down-in-Proceeds-clause-refuses c =
     err_map c.conclude-in-Proceeds.result
     (λ st. ends_left c.args.pair.now c.args.is_replaced c.args.missing c.args.«open» c.hear_all.new.logs c.go_down.new.logs
-    c.new-emitted.result.items c.end.new.emitted.items c.in-Ok.ending c.in_ok-shortfall.field-0 c.subsequent-shortfall.result c.if-is_replaced.go_down st c.args.report.now
+    c.new-emitted.result.items c.end.new.emitted.items c.in-Ok.ending c.in_ok-shortfall.field-0 c.lack_behind-shortfall.result c.if-is_replaced.go_down st c.args.report.now
     c.hear_all.new.report c.go_down.new.report c.conclude-in-Proceeds.new.report c.new-emitted.ensures.items c.in-Ok.ensures.emitted c.in_ok-shortfall.ensures.logged
-    c.subsequent-shortfall.ensures
+    c.lack_behind-shortfall.ensures
     (elim c.if-is_replaced.branch [
       | then-is_replaced w ↦
-          replaced_then c.args.is_replaced c.subsequent-shortfall.result w.is_none.result c.if-is_replaced.go_down w.if-is_replaced.true w.is_none.ensures w.go_down-is
-      | else-is_replaced w ↦ replaced_else c.args.is_replaced c.subsequent-shortfall.result c.if-is_replaced.go_down w.if-is_replaced.false
+          replaced_then c.args.is_replaced c.lack_behind-shortfall.result w.is_none.result c.if-is_replaced.go_down w.if-is_replaced.true w.is_none.ensures w.go_down-is
+      | else-is_replaced w ↦ replaced_else c.args.is_replaced c.lack_behind-shortfall.result c.if-is_replaced.go_down w.if-is_replaced.false
           (w.go_down-is ∙ w.if-is_replaced.false)
     ])
     c.in_ok-go_down-in-Proceeds.ensures.logged) c.conclude-in-Proceeds.ensures.refuses

@@ -8,7 +8,7 @@ use Rattle.cli_options.proofs.clap_command.command.Goals as goal
 
 pub loop-subcommand-preserved : goal.loop-subcommand-preserved
 loop-subcommand-preserved c =
-    let size : length c.subcommands.result ≡ 6 = sym (length-map c.subcommands.result shape_described) ∙ ap length c.subcommands.ensures in
+    let size : length c.subcommands.result ≡ 7 = sym (length-map c.subcommands.result shape_described) ∙ ap length c.subcommands.ensures in
     let is = ap (λ (a : App). a.top) c.in_ok-command.ensures in
     let adds = c.in_ok-hsms.ensures.shape (third_fails _ _ _ _ (ap (λ (a : App). a.top.is_plain) c.in_ok-command.ensures)) in
     with_next_subcommand shape_described c.subcommands.result c.loop-subcommand.subcommand-index _ (app_of c.subcommand_required-hsms.result) (app_of c.loop-subcommand.hsms)
@@ -16,7 +16,7 @@ loop-subcommand-preserved c =
 
 pub returns : goal.returns
 returns c =
-    let size : length c.subcommands.result ≡ 6 = sym (length-map c.subcommands.result shape_described) ∙ ap length c.subcommands.ensures in
+    let size : length c.subcommands.result ≡ 7 = sym (length-map c.subcommands.result shape_described) ∙ ap length c.subcommands.ensures in
     let all : map shape_described (take c.loop-subcommand.subcommand-index c.subcommands.result) ≡ command_line.subs =
     ap (map shape_described) (take_all c.loop-subcommand.subcommand-index c.subcommands.result (omega (arith, c.loop-subcommand-test.false, size))) ∙ c.subcommands.ensures in
     let described : with_subcommands (app_of c.subcommand_required-hsms.result) command_line.subs ≡ command_line = search rules in

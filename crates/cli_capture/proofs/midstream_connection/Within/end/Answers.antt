@@ -32,20 +32,20 @@ returns-then-is_none-clause-ends c =
     let w = c.args.self in
     let emitted = c.end.new.emitted.items in
     let joined = c.hear_all.new.joined in
-    let lack = c.subsequent-shortfall.result in
+    let lack = c.lack_behind-shortfall.result in
     let ends = subst (λ (hs : List TimedEvent). EndsAs w.connection hs emitted c.in-Ok.ending) c.new-emitted.ensures.items c.in-Ok.ensures.emitted in
     let processes_input = subst (λ (x : Progress). HearsEach c.args.pair.now (map (in_capture c.deref.result.now) emitted) w.joined c.args.report.now x joined c.hear_all.new.report) c.in-Proceeds.is
     c.in_ok-progress.ensures.processes_input in
     subst (λ (b : Bool). OnOk c.replace.result (EndsWithin c.args.pair.now b c.args.missing w c.args.report.now c.replace.new.report)) (sym c.if-is_replaced.true)
     (left_replaced c.replace.result c.args.pair.now c.args.missing lack emitted w c.deref.result.now c.in-Ok.ending joined c.args.report.now c.hear_all.new.report c.replace.new.report ends processes_input
-    (c.subsequent-shortfall.ensures ∙ ap (λ (e : Ending). lack_behind e c.args.missing) c.ending_in.ensures) (search rules) c.replace.ensures.replaced)
+    (c.lack_behind-shortfall.ensures ∙ ap (λ (e : Ending). lack_behind e c.args.missing) c.ending_in.ensures) (search rules) c.replace.ensures.replaced)
 
 pub returns-clause-ends : goal.returns-clause-ends
 returns-clause-ends c =
     let w = c.args.self in
     let emitted = c.end.new.emitted.items in
     let joined = c.hear_all.new.joined in
-    let lack = c.subsequent-shortfall.result in
+    let lack = c.lack_behind-shortfall.result in
     let ends = subst (λ (hs : List TimedEvent). EndsAs w.connection hs emitted c.in-Ok.ending) c.new-emitted.ensures.items c.in-Ok.ensures.emitted in
     let processes_input = subst (λ (x : Progress). HearsEach c.args.pair.now (map (in_capture c.deref.result.now) emitted) w.joined c.args.report.now x joined c.hear_all.new.report) c.in-Proceeds.is
     c.in_ok-progress.ensures.processes_input in
@@ -55,7 +55,7 @@ returns-clause-ends c =
       | else-is_replaced-via-else-is_replaced w ↦ ap (λ (b : Bool). b && is_none lack) w.if-is_replaced.false
     ] in
     left_finished c.finish-2.result c.args.pair.now c.args.is_replaced c.args.missing lack emitted w c.deref.result.now c.in-Ok.ending joined c.args.report.now c.hear_all.new.report
-    c.finish-2.new.report ends processes_input (c.subsequent-shortfall.ensures ∙ ap (λ (e : Ending). lack_behind e c.args.missing) c.ending_in.ensures) none c.finish-2.ensures.finishes
+    c.finish-2.new.report ends processes_input (c.lack_behind-shortfall.ensures ∙ ap (λ (e : Ending). lack_behind e c.args.missing) c.ending_in.ensures) none c.finish-2.ensures.finishes
 
 pub returns-in_err-progress-clause-refuses : goal.returns-in_err-progress-clause-refuses
 returns-in_err-progress-clause-refuses c =
@@ -83,11 +83,11 @@ returns-then-is_none-clause-refuses c =
     let w = c.args.self in
     let emitted = c.end.new.emitted.items in
     let joined = c.hear_all.new.joined in
-    let lack = c.subsequent-shortfall.result in
+    let lack = c.lack_behind-shortfall.result in
     let ends = subst (λ (hs : List TimedEvent). EndsAs w.connection hs emitted c.in-Ok.ending) c.new-emitted.ensures.items c.in-Ok.ensures.emitted in
     let processes_input = subst (λ (x : Progress). HearsEach c.args.pair.now (map (in_capture c.deref.result.now) emitted) w.joined c.args.report.now x joined c.hear_all.new.report) c.in-Proceeds.is
     c.in_ok-progress.ensures.processes_input in
-    let lack_is = c.subsequent-shortfall.ensures ∙ ap (λ (e : Ending). lack_behind e c.args.missing) c.ending_in.ensures in
+    let lack_is = c.lack_behind-shortfall.ensures ∙ ap (λ (e : Ending). lack_behind e c.args.missing) c.ending_in.ensures in
     err_map c.replace.result
     (λ st refused. end_left_refused c.args.pair.now c.args.missing lack emitted w c.deref.result.now c.in-Ok.ending joined st c.args.report.now c.hear_all.new.report c.replace.new.report
     ends processes_input lack_is c.in_ok-progress.ensures.emitted
@@ -98,11 +98,11 @@ returns-clause-refuses c =
     let w = c.args.self in
     let emitted = c.end.new.emitted.items in
     let joined = c.hear_all.new.joined in
-    let lack = c.subsequent-shortfall.result in
+    let lack = c.lack_behind-shortfall.result in
     let ends = subst (λ (hs : List TimedEvent). EndsAs w.connection hs emitted c.in-Ok.ending) c.new-emitted.ensures.items c.in-Ok.ensures.emitted in
     let processes_input = subst (λ (x : Progress). HearsEach c.args.pair.now (map (in_capture c.deref.result.now) emitted) w.joined c.args.report.now x joined c.hear_all.new.report) c.in-Proceeds.is
     c.in_ok-progress.ensures.processes_input in
-    let lack_is = c.subsequent-shortfall.ensures ∙ ap (λ (e : Ending). lack_behind e c.args.missing) c.ending_in.ensures in
+    let lack_is = c.lack_behind-shortfall.ensures ∙ ap (λ (e : Ending). lack_behind e c.args.missing) c.ending_in.ensures in
     err_map c.finish-2.result
     (λ st refused. end_left_refused c.args.pair.now c.args.missing lack emitted w c.deref.result.now c.in-Ok.ending joined st c.args.report.now c.hear_all.new.report c.finish-2.new.report
     ends processes_input lack_is c.in_ok-progress.ensures.emitted refused.ends) c.finish-2.ensures.refuses

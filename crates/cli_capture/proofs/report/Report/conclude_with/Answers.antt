@@ -1,4 +1,4 @@
-use Rattle.std.proofs.Common.{sym, ap, ◌∙◌}
+use Rattle.std.proofs.Common.{refl, sym, ap, ◌∙◌}
 use Rattle.cli_capture.specs.declared.report.Report.{Report}
 use Rattle.cli_capture.proofs.Refusals.{noted_refused}
 use Rattle.cli_capture.proofs.Unrefused.{log_stops}
@@ -11,5 +11,5 @@ returns-in-Log-clause-unrefused c =
 
 pub returns-in-Log-clause-refuses : goal.returns-in-Log-clause-refuses
 returns-in-Log-clause-refuses c =
-    noted_refused c.args.shortfall c.in-Some.shortfall c.note-first.result c.refusal.result c.args.self.now c.note-first.new.self c.in-Some.is
-    c.note-first.ensures.first c.refusal.ensures (ap (λ (r : Report). r.page.octets) c.note-first.ensures.noted)
+    noted_refused c.args.shortfall c.in-Some.shortfall c.note-first.result _ c.args.self.now c.note-first.new.self c.in-Some.is
+    c.note-first.ensures.first refl (ap (λ (r : Report). r.page.octets) c.note-first.ensures.noted)

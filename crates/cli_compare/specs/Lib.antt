@@ -1,0 +1,3 @@
+pub mod CompareErrors
+pub mod FactLines
+pub mod Comparison

@@ -1,0 +1,7 @@
+use Rattle.std.proofs.Common.{◌≡◌}
+use Rattle.cli_options.specs.declared.explain_options.OutputFormat.TheVariants.{Text}
+use Rattle.explain_forms.specs.OutputBuffer.{AddsSome}
+use Rattle.explain_forms.proofs.formatter.Emitter.listed.Given as goal
+
+abbrev pub invariant-loop-listed : goal.invariant-loop-listed
+invariant-loop-listed l = l.fn.self.form ≡ Text → AddsSome l.initial.page l.page
