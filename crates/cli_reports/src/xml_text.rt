@@ -32,7 +32,11 @@ fn is_barred(character: char) -> bool
     ensures { result ≡ is_barred_code character }
 {
     let code = u32::from(character);
-    code < 9 || (10 < code && code < 32) || (126 < code && code < 160) || code == 0xfffe || code == 0xffff
+    code < 9
+        || (10 < code && code < 32)
+        || (126 < code && code < 160)
+        || code == 0xfffe
+        || code == 0xffff
 }
 
 // Returns the reference to a character that could be markup.
