@@ -3,6 +3,9 @@
 
 _hsms() {
   local word=${COMP_WORDS[COMP_CWORD]} before=${COMP_WORDS[COMP_CWORD - 1]} words
+  if [ "${COMP_WORDS[1]} $before" = 'audit --format' ]; then
+    mapfile -t COMPREPLY < <(compgen -W 'text json junit' -- "$word") && return
+  fi
   case $before in
     --only) mapfile -t COMPREPLY < <(compgen -W 'failures' -- "$word") && return ;;
     --format) mapfile -t COMPREPLY < <(compgen -W 'text json html' -- "$word") && return ;;
@@ -18,7 +21,7 @@ _hsms() {
     esac
     case ${COMP_WORDS[1]} in
       show) words='--max --depth --hex --bare --help --verbose' ;;
-      audit) words='--quiet --help --verbose' ;;
+      audit) words='--quiet --format --help --verbose' ;;
       explain) words='--only --around --from --to --format --utc --lists --all --help --verbose' ;;
       compare) words='--help --verbose' ;;
       capture) words='--port --peer --active --log --midstream --device --t3 --t6 --t7 --t8 --max --depth --help --verbose' ;;

@@ -32,6 +32,7 @@ _hsms() {
     audit)
       _arguments \
         '--quiet[Write only the lines of failing logs]' \
+        '--format[Output format\: text, json (an object for each log) or junit (an XML report) \[default\: text\]]:FORMAT:(text json junit)' \
         '--help[Print help]' \
         '--verbose[Explain errors\: what happened, and what to do]' \
         '*:FILE:_files'

@@ -56,6 +56,7 @@ SIDE_BY_SIDE = [
     Script("gate/capture_midstream", PROGRAM),
     Script("gate/io_errors", COMPILER),
     Script("gate/operands", PROGRAM),
+    Script("gate/reports", PROGRAM),
     Script("gate/corrupt_inputs", PROGRAM),
     Script("gate/endpoint_inputs", DRIVER),
     Script("gate/capture_formats", PROGRAM),

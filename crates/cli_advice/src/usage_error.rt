@@ -24,13 +24,14 @@ pub fn refused_words(alloc: Global, words: &[String]) -> Result<String, AllocErr
 // Returns which option of a command line the command itself rejects, and why.
 fn rejected_option(alloc: Global, words: &[String]) -> Result<String, AllocError> {
     let mut before = "";
+    let is_audit = words.get(1).is_some_and(|word| word.as_str() == "audit");
     for word in words {
         let word = word.as_str();
         let (option, value) = match word.split_once('=') {
             Some(parts) if word.starts_with("--") => parts,
             _ => (before, word),
         };
-        if let Some(expected) = expected_value(option, value) {
+        if let Some(expected) = expected_value(option, value, is_audit) {
             return format!(in alloc; "{option} {value}: expected {expected}");
         }
         before = word;
@@ -47,13 +48,16 @@ fn rejected_option(alloc: Global, words: &[String]) -> Result<String, AllocError
 }
 
 // Returns what the command takes as the value of an option, if this value is another.
-fn expected_value(option: &str, value: &str) -> Option<&'static str> {
+fn expected_value(option: &str, value: &str, is_audit: bool) -> Option<&'static str> {
     match option {
         "--role" | "--active" | "--log" => {
             (!matches!(value, "host" | "equipment")).then_some("host or equipment")
         }
         "--link" => (!matches!(value, "active" | "passive")).then_some("active or passive"),
         "--only" => (value != "failures").then_some("failures"),
+        "--format" if is_audit => {
+            (!matches!(value, "text" | "json" | "junit")).then_some("text, json or junit")
+        }
         "--format" => (!matches!(value, "text" | "json" | "html")).then_some("text, json or html"),
         "--peer" => value.parse::<IpAddr>().is_err().then_some("an IP address"),
         _ => None,

@@ -82,8 +82,8 @@ impl AuditReport {
         }
     }
 
-    // Returns the report after one more log.
-    fn counting(self, verdict: Verdict) -> AuditReport
+    /// Returns the report after one more log.
+    pub fn counting(self, verdict: Verdict) -> AuditReport
         ensures { result ≡ after_verdict self verdict }
     {
         match verdict {

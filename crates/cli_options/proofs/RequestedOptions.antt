@@ -149,6 +149,7 @@ encodes_to words (request.Task (asked.Help text)) (fine, (name, rows, entered, a
 encodes_to words (request.Task asked.Audit) work = work
 encodes_to words (request.Task (asked.Show s)) work = work
 encodes_to words (request.Task (asked.Encode e)) work = work
+encodes_to words (request.Report report) work = work
 encodes_to words (request.Explain excerpt) work = work
 encodes_to words request.Compare work = work
 encodes_to words (request.Capture capturing) work = work
@@ -177,6 +178,7 @@ entered_operands words (request.Task (asked.Help text)) entered (name, rows, is,
 entered_operands words (request.Task asked.Audit) entered asks = refl
 entered_operands words (request.Task (asked.Show s)) entered asks = refl
 entered_operands words (request.Task (asked.Encode e)) entered asks = refl
+entered_operands words (request.Report report) entered asks = refl
 entered_operands words (request.Explain excerpt) entered asks = refl
 entered_operands words request.Compare entered asks = refl
 entered_operands words (request.Capture capturing) entered asks = refl
@@ -228,6 +230,7 @@ help_explained words app k (request.Task (asked.Help text)) is fails help (inr k
 help_explained words app k (request.Task asked.Audit) is fails help kind = absurd help
 help_explained words app k (request.Task (asked.Show s)) is fails help kind = absurd help
 help_explained words app k (request.Task (asked.Encode e)) is fails help kind = absurd help
+help_explained words app k (request.Report report) is fails help kind = absurd help
 help_explained words app k (request.Explain excerpt) is fails help kind = absurd help
 help_explained words app k request.Compare is fails help kind = absurd help
 help_explained words app k (request.Capture capturing) is fails help kind = absurd help
@@ -244,6 +247,7 @@ help_operands words (request.Task (asked.Help text)) help = refl
 help_operands words (request.Task asked.Audit) help = absurd help
 help_operands words (request.Task (asked.Show s)) help = absurd help
 help_operands words (request.Task (asked.Encode e)) help = absurd help
+help_operands words (request.Report report) help = absurd help
 help_operands words (request.Explain excerpt) help = absurd help
 help_operands words request.Compare help = absurd help
 help_operands words (request.Capture capturing) help = absurd help

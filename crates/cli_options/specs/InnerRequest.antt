@@ -22,6 +22,7 @@ IsHelpText (asked.Encode e) = ⊥
 
 abbrev pub IsHelp : Request → Type 0
 IsHelp (request.Task task) = IsHelpText task
+IsHelp (request.Report report) = ⊥
 IsHelp (request.Explain excerpt) = ⊥
 IsHelp request.Compare = ⊥
 IsHelp (request.Capture capturing) = ⊥

@@ -1,4 +1,5 @@
 pub mod OptionValues
+pub mod AuditOptions
 pub mod InnerOptionValues
 pub mod ExplainOptions
 pub mod CaptureOptions

@@ -9,6 +9,7 @@ use Rattle.cli_options.specs.declared.request.Request.{Request}
 use Rattle.cli_options.specs.declared.request.Request.TheVariants as request
 use Rattle.cli_options.specs.declared.request.Task.{Task}
 use Rattle.cli_options.specs.declared.request.Task.TheVariants as asked
+use Rattle.cli_options.specs.AuditOptions.{HasReportForm, audit_rules}
 use Rattle.cli_options.specs.CaptureOptions.{HasCapturing, IsCapturingWithinLimits, capture_rules}
 use Rattle.cli_options.specs.OptionValues.{IsFlag, depth_number, device_number, flag_in, flag_option, max_number, number_in, operands, option_of, system_number}
 use Rattle.cli_options.specs.CompareOptions.{compare_rules, has_two_files}
@@ -29,7 +30,7 @@ show_command = record (named (codes "show")) {
 }
 
 abbrev pub audit_command : Shape
-audit_command = record (named (codes "audit")) { rules = operands (codes "FILE") ∷ flag_option (codes "quiet") ∷ [] }
+audit_command = record (named (codes "audit")) { rules = audit_rules }
 
 abbrev pub explain_command : Shape
 explain_command = record (named (codes "explain")) { rules = explain_rules }
@@ -80,7 +81,7 @@ is_bare form.BareLines = true
 -- Holds if a subcommand with this name and these matches requests this task.
 abbrev pub AsksForTask : Text → List Row → Task → Type 0
 AsksForTask name rows (asked.Help text) = ⊥
-AsksForTask name rows asked.Audit = name ≡ codes "audit"
+AsksForTask name rows asked.Audit = (name ≡ codes "audit") × HasReportForm rows None
 AsksForTask name rows (asked.Show s) =
     (name ≡ codes "show") × (number_in max_number rows ≡ Some s.max) × (number_in depth_number rows ≡ Some s.depth)
     × (form_in rows ≡ Some s.form)
@@ -91,6 +92,7 @@ AsksForTask name rows (asked.Encode e) =
 -- Holds if a subcommand with this name and these matches requests this.
 abbrev pub AsksFor : Text → List Row → Request → Type 0
 AsksFor name rows (request.Task task) = AsksForTask name rows task
+AsksFor name rows (request.Report report) = (name ≡ codes "audit") × HasReportForm rows (Some report)
 AsksFor name rows (request.Explain excerpt) = (name ≡ codes "explain") × HasExcerpt rows excerpt
 AsksFor name rows request.Compare = (name ≡ codes "compare") × IsTrue (has_two_files rows)
 AsksFor name rows (request.Capture capturing) = (name ≡ codes "capture") × HasCapturing rows capturing
@@ -114,6 +116,7 @@ ParsesTask words (asked.Encode e) = ParsesWork words (request.Task (asked.Encode
 -- Holds if the words request this, or may call for help or for the version.
 abbrev pub EncodesTo : List Text → Request → Type 0
 EncodesTo words (request.Task task) = ParsesTask words task
+EncodesTo words (request.Report report) = ParsesWork words (request.Report report)
 EncodesTo words (request.Explain excerpt) = ParsesWork words (request.Explain excerpt)
 EncodesTo words request.Compare = ParsesWork words request.Compare
 EncodesTo words (request.Capture capturing) = ParsesWork words (request.Capture capturing)
@@ -148,6 +151,7 @@ task_operands words (asked.Encode e) = operands_by (subcommand_of command_line w
 -- Those of the words, if they request this.
 abbrev pub operands_for : List Text → Request → Operands
 operands_for words (request.Task task) = task_operands words task
+operands_for words (request.Report report) = operands_by (subcommand_of command_line words)
 operands_for words (request.Explain excerpt) = operands_by (subcommand_of command_line words)
 operands_for words request.Compare = operands_by (subcommand_of command_line words)
 operands_for words (request.Capture capturing) = operands_by (subcommand_of command_line words)
@@ -177,6 +181,7 @@ IsTaskWithinLimits (asked.Encode e) =
 -- Holds if each number of a request is within its limits. Those of settings are by their type.
 abbrev pub IsWithinLimits : Request → Type 0
 IsWithinLimits (request.Task task) = IsTaskWithinLimits task
+IsWithinLimits (request.Report report) = Unit {0}
 IsWithinLimits (request.Explain excerpt) = IsExcerptWithinLimits excerpt
 IsWithinLimits request.Compare = Unit {0}
 IsWithinLimits (request.Capture capturing) = IsCapturingWithinLimits capturing

@@ -52,9 +52,11 @@ const AUDIT_HELP: &str = help!(
     SelectStatus   status 0, but the session is already selected\n  \
     NoCause        a discarded message that breaks no rule\n\n\
     In a log of version 2, an `up` right after a `down` starts a new connection.\n\n\
-    With several files each line begins with the name of its file, and the last line has the counts.\n\n\
+    With several files each line begins with the name of its file, and the last line has the counts. A report (--format\n\
+    json or junit) has an entry for each file.\n\n\
     Example: hsms audit session.log\n\
-    Example: hsms audit --quiet *.log\n\n\
+    Example: hsms audit --quiet *.log\n\
+    Example: hsms audit --format junit *.log > report.xml\n\n\
     Exit status: 0 each log passes; 1 a log fails; 2 invalid command line, or a file cannot be opened (Open); 3 read error\n\
     (Read), write error (Write), too much input (Endless) or out of memory (Memory). -v explains errors."
 );

@@ -1,8 +1,8 @@
 //! The command line of `hsms`: its description for `clap`, and what its words request.
 //!
 //! [`parse`] returns what the words request, as a [`Request`]: a [`Task`] between standard input and standard output, a
-//! log to explain, two logs to compare, a capture whose connections are audited, or a connection to serve. An error of the command is a
-//! [`ToolFault`]. [`exit_status`] returns the status with which the command ends:
+//! report on logs, a log to explain, two logs to compare, a capture whose connections are audited, or a connection to
+//! serve. An error of the command is a [`ToolFault`]. [`exit_status`] returns the status with which the command ends:
 //!
 //! ```
 //! let request = parse(alloc, &words)?;
@@ -10,6 +10,7 @@
 //! ```
 #![tactic(auto)]
 
+mod audit_options;
 mod capture_options;
 mod clap_command;
 mod compare_options;
@@ -21,6 +22,7 @@ mod request;
 mod rule_texts;
 mod serve_options;
 
+pub use audit_options::ReportForm;
 pub use capture_options::Capturing;
 pub use clap_command::command;
 pub use explain_options::{Excerpt, Lines, OutputFormat};

@@ -2,11 +2,12 @@
 //! describes an option by the text of its help.
 
 ghost use Rattle.std.specs.Prelude.{◌≡◌, map};
+ghost use Rattle.cli_options.specs.AuditOptions.{audit_rules};
 ghost use Rattle.cli_options.specs.CaptureOptions.{capture_rules};
 ghost use Rattle.cli_options.specs.InnerClapCommand.{rule_described};
 ghost use Rattle.cli_options.specs.CompareOptions.{compare_rules};
 ghost use Rattle.cli_options.specs.ExplainOptions.{explain_rules};
-ghost use Rattle.cli_options.specs.Request.{audit_command, encode_command, show_command};
+ghost use Rattle.cli_options.specs.Request.{encode_command, show_command};
 ghost use Rattle.cli_options.specs.ServeOptions.{serve_rules};
 
 use hsms_machine::{
@@ -120,14 +121,15 @@ pub fn show_options() -> &'static [Described]
     &SHOW_OPTIONS
 }
 
-static AUDIT_OPTIONS: [Described; 2] = options![
+static AUDIT_OPTIONS: [Described; 3] = options![
     Files(FILE) => FILES_HELP,
     Flag("quiet") => "Write only the lines of failing logs",
+    Word("format", "FORMAT") => "Output format: text, json (an object for each log) or junit (an XML report) [default: text]",
 ];
 
 /// Returns the options of `hsms audit`.
 pub fn audit_options() -> &'static [Described]
-    ensures { map rule_described result.now ≡ audit_command.rules }
+    ensures { map rule_described result.now ≡ audit_rules }
 {
     &AUDIT_OPTIONS
 }

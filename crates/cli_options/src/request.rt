@@ -1,18 +1,20 @@
 //! What the command line requests. It is checked before anything is read.
 
-ghost use Rattle.std.specs.Prelude.{◌≡◌, ◌≢◌, IsTrue, IfOk, IfErr, IfSome, None, [], codes, map, string_bytes, unwrap_or};
+ghost use Rattle.std.specs.Prelude.{◌≡◌, ◌≢◌, IsTrue, IfOk, IfErr, IfSome, Some, None, [], codes, map, string_bytes, unwrap_or};
 ghost use Rattle.clap.specs.Words.{all_of, found_of, kind_of, rows_of, subcommand_rows_of};
 ghost use Rattle.clap.specs.declared.error.kind.ErrorKind.TheVariants.{OutOfMemory};
+ghost use Rattle.cli_options.specs.AuditOptions.{HasReportForm};
 ghost use Rattle.cli_options.specs.CompareOptions.{has_two_files};
 ghost use Rattle.cli_options.specs.Request.{AsksBy, AsksFor, AsksForTask, HasOperands, IsTaskWithinLimits, IsWithinLimits, EncodesTo, ParsesNothing, form_in, no_operands, operands_by, operands_in, operands_of};
 ghost use Rattle.cli_options.specs.InnerRequest.{CallsForText, IsHelp};
 ghost use Rattle.cli_options.specs.Status.{IsRefusedFor};
+ghost use Rattle.cli_options.specs.declared.audit_options.ReportForm.{ReportForm};
 ghost use Rattle.cli_options.specs.declared.request.Encoding.{Encoding};
 ghost use Rattle.cli_options.specs.declared.request.Request.{Request};
 ghost use Rattle.cli_options.specs.declared.request.Showing.{Showing};
-ghost use Rattle.cli_options.specs.declared.request.Task.{Task};
 ghost use Rattle.cli_options.specs.declared.request.Task.TheVariants as asked;
 
+use crate::audit_options::{ReportForm, report_form_of};
 use crate::capture_options::{Capturing, capturing_of};
 use crate::clap_command::command;
 use crate::compare_options::names_two_files;
@@ -41,6 +43,8 @@ pub struct CommandLine<'a> {
 pub enum Request<'a> {
     /// A task between standard input and standard output.
     Task(Task),
+    /// Write a report on logs in this format.
+    Report(ReportForm),
     /// Explain the log on standard input, and show this of it.
     Explain(Excerpt),
     /// Compare the logs in two files.
@@ -152,6 +156,9 @@ fn asked_by<'a>(name: &str, options: &ArgMatches<'a>) -> Option<Request<'a>>
         → AsksFor name.now (rows_of (found_of options.now)) request → ⊥ }
 {
     match name {
+        "audit" => audit_of(options),
+        "show" => Some(Request::Task(Task::Show(showing_of(options)?))),
+        "encode" => Some(Request::Task(Task::Encode(encoding_of(options)?))),
         "explain" => Some(Request::Explain(excerpt_of(options)?)),
         "compare" => compare_of(options),
         "capture" => Some(Request::Capture(capturing_of(options)?)),
@@ -160,7 +167,7 @@ fn asked_by<'a>(name: &str, options: &ArgMatches<'a>) -> Option<Request<'a>>
             Some(service) => Some(Request::Serve(service)),
             None => None,
         },
-        _ => Some(Request::Task(task_of(name, options)?)),
+        _ => None,
     }
 }
 
@@ -176,17 +183,17 @@ fn compare_of<'a>(options: &ArgMatches<'_>) -> Option<Request<'a>>
     None
 }
 
-// Returns what a subcommand requests, if it is a task.
-fn task_of(name: &str, options: &ArgMatches<'_>) -> Option<Task>
-    ensures asks { IfSome result (AsksForTask name.now (rows_of (found_of options.now))) }
-    ensures limits { IfSome result IsTaskWithinLimits }
-    ensures none { result ≡ None → (task : Task) → AsksForTask name.now (rows_of (found_of options.now)) task → ⊥ }
+// Returns what `hsms audit` requests.
+fn audit_of<'a>(options: &ArgMatches<'_>) -> Option<Request<'a>>
+    ensures asks { IfSome result (AsksFor (codes "audit") (rows_of (found_of options.now))) }
+    ensures limits { IfSome result IsWithinLimits }
+    ensures no_text { result ≡ None → HasReportForm (rows_of (found_of options.now)) None → ⊥ }
+    ensures no_report { result ≡ None → (form : ReportForm)
+        → HasReportForm (rows_of (found_of options.now)) (Some form) → ⊥ }
 {
-    match name {
-        "audit" => Some(Task::Audit),
-        "show" => Some(Task::Show(showing_of(options)?)),
-        "encode" => Some(Task::Encode(encoding_of(options)?)),
-        _ => None,
+    match report_form_of(options)? {
+        None => Some(Request::Task(Task::Audit)),
+        Some(form) => Some(Request::Report(form)),
     }
 }
 

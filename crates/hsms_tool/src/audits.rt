@@ -1,10 +1,11 @@
-//! The audits of several logs.
+//! The audits of several logs, and reports on logs.
 
-use crate::input::{buffered, open_input};
+use crate::input::{STANDARD, buffered, open_input};
 use crate::submit;
 use cli_advice::{Failure, KeptLines};
 use cli_filters::AuditReport;
-use cli_options::ToolFault;
+use cli_options::{ReportForm, ToolFault};
+use cli_reports::LogReport;
 use hsms_frame::{Reader, Sink, Writer, give_all};
 use std::alloc::Global;
 use std::fs::Files;
@@ -92,4 +93,49 @@ fn audit_input<R: Eprint, I: Read + Drop, W: Sink>(
         };
     }
     Ok(())
+}
+
+/// Writes a report on the logs in files, by default on the log on standard input. Returns the status.
+pub fn report_each<R: Eprint + Files + Input + Print>(
+    alloc: Global,
+    rt: &R,
+    form: ReportForm,
+    files: &[&str],
+    quiet: bool,
+    is_verbose: bool,
+) -> Result<u8, Failure> {
+    let mut sink = Writer::new(io::writer(rt));
+    let mut report = LogReport::new(alloc, form, quiet);
+    if files.is_empty() {
+        report_file(alloc, rt, STANDARD, &mut report, &mut sink, is_verbose)?;
+    }
+    for name in files {
+        report_file(alloc, rt, name, &mut report, &mut sink, is_verbose)?;
+    }
+    report.finish(alloc, &mut sink)?;
+    Ok(report.status())
+}
+
+// Reports on the log in a file. If the file cannot be opened, reports that.
+fn report_file<R: Eprint + Files + Input, W: Sink>(
+    alloc: Global,
+    rt: &R,
+    name: &str,
+    report: &mut LogReport,
+    sink: &mut W,
+    is_verbose: bool,
+) -> Result<(), Failure> {
+    match open_input(alloc, rt, name, is_verbose) {
+        Ok(input) => {
+            let done = report.audit(alloc, name, buffered(alloc, input)?, sink);
+            done.map_err(|error| Failure::from(error).of_file(alloc, name))
+        }
+        Err(failure) => {
+            if failure.is_memory() {
+                return Err(failure);
+            }
+            submit(alloc, rt, &failure, is_verbose);
+            Ok(report.skip(alloc, name, sink)?)
+        }
+    }
 }

@@ -1,0 +1,2 @@
+pub mod JsonObject
+pub mod Xml
