@@ -101,6 +101,8 @@ def cases_of_inputs():
     yield from notation(
         b"S1F1 <L <L>> .", "Deep at=8", [f"line 1, column 9: {deep}", "S1F1 <L <L>> .", 8 * " " + "^"], "--depth", "1"
     )
+    comment = [f"line 2, column 6: {syntax}", "S1F1 ? . # S1F1 ? .", "     ^"]
+    yield Case([*HERE_AT, "1", "--send"], 2, "Syntax at=17", comment, b"# a comment\n" + comment[1].encode())
     yield from notation(b" " * 67108865, "Input", ["the input is longer than 67108864 bytes: split it"])
     large = "a value or list has more than 16777215 bytes or elements"
     yield Case(["encode"], 2, "TooLarge", [large], b'S1F1 <A "' + (1 << 24) * b"x" + b'"> .')

@@ -543,11 +543,17 @@ def random_replies_are_those_of_the_reference():
         end = End(Settings("equipment", "passive", 0, 45000, 6000, 10000, 5000, 1048576, 32), desk_of(replies), 1)
         end.start(0)
         end.hear(octets + control(9, 120))
-        script = "\n".join(map(printed, replies)).encode()
+        script = commented(chance, map(printed, replies)).encode()
         serving, peer = equipment("--answer", "--mdln", "M", "--softrev", "1", script=script, send=False)
         peer.send(octets + control(9, 120))
         peer.rest()
         served(serving, events(log_of(end).decode()))
+
+
+def commented(chance, messages):
+    """A script of these messages, with comments on lines of their own and after messages."""
+    comments = ("#", "# S9F9 .", '#"', "##\t<A 'x'>\r", "# \u00fc", "")
+    return "".join(f"{chance.choice(comments)}\n{text}{chance.choice(comments)}\n" for text in messages)
 
 
 def desk_of(replies):
@@ -776,8 +782,29 @@ def address_is_none():
         refused(Serving("equipment", "passive", free_port(), address=address), 3, "Link")
 
 
+def script_has_comments():
+    """From `#` to the end of the line, but not in a quoted text; alone, after a message, in one, and at the end."""
+    peers = Listening()
+    script = b'# "a\nS1F1 W # .\n<A "#" 0x23 "#\\"># "\n. # "\nS1F3 W<L#\n>.\n#\n\n#S1F1 W .'
+    serving = Serving("host", "active", peers.port, script=script)
+    peer = peers.accepted()
+    peer.send(SELECTED)
+    peer.wants(SELECT, data(1, 1, 2, b"\x41\x04###\\", wait=True))
+    peer.send(data(1, 2, 2))
+    peer.wants(data(1, 3, 3, b"\x01\x00", wait=True))
+    peer.send(data(1, 4, 3))
+    same(peer.rest(), control(9, 4))
+    same(serving.ended()[::2], (0, ""))
+    ran = subprocess.run([PROGRAM, "encode"], input=script, capture_output=True, timeout=SOON)
+    same((ran.returncode, ran.stdout, ran.stderr), (2, b"", b"hsms: Syntax at=0\n"))
+
+
 def script_is_refused_before_the_connection():
     for script, words in (
+        (b"S1F1 W # .\n", "Syntax at=11"),
+        (b"# a comment\nS1F1 W <U1 256> .", "Number at=23"),
+        (b'S1F1 <A "#"> # "\n# "\nx', "Syntax at=21"),
+        (b'S1F1 <A "# \n"> .', "Syntax at=11"),
         (b"S1F1 W <U1 256> .", "Number at=11"),
         (b"S1F1 W .\nS1F1 W", "Syntax at=15"),
         (b"S1F1 <B [2] 0x00> .", "Count at=8"),
@@ -1079,6 +1106,7 @@ TESTS = [
     numbers_at_their_limits,
     port_is_in_use,
     address_is_none,
+    script_has_comments,
     script_is_refused_before_the_connection,
     command_line_is_refused,
     help_tells_every_option,

@@ -1,3 +1,4 @@
 pub mod CallCounts
+pub mod Comments
 pub mod Script
 pub mod Serving

@@ -7,6 +7,7 @@
 
 mod attempt;
 mod call_counts;
+mod comments;
 mod handler_choice;
 mod line_writer;
 mod script;

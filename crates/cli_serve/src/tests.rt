@@ -1,6 +1,7 @@
 //! An endpoint over a loopback connection. The peer is in the same process, and sends everything before the endpoint runs.
 
 use crate::attempt::{Attempts, ConnectError};
+use crate::comments::without_comments;
 use crate::handler_choice::desk_of;
 use crate::serving::serve_to;
 use crate::tcp_link::{SocketLink, connected, first_link, listener_of};
@@ -171,6 +172,19 @@ fn check_active<R: Abort + Clock + Net>(
     let verdict = "pass entries=5 sent=2 taken=1 discarded=0 expired=0 waiting=0\n";
     serve_and_audit(rt, alloc, link, service, &[Step::Separate], verdict)?;
     check_received(rt, &mut peer, SELECTS_AND_LEAVES);
+    Ok(())
+}
+
+#[test]
+fn comments_are_read_as_spaces(rt: HostRuntime) -> Result<(), AllocError> {
+    let script = b"# \"\nS1F1 W <A \"#\"># S1F3 .\n.";
+    let read = without_comments(Vec::from_slice(rt.alloc(), script)?);
+    let wanted = b"   \nS1F1 W <A \"#\">        \n.";
+    assert_so(
+        &rt,
+        read.as_slice() == wanted.as_slice(),
+        "comments are spaces",
+    );
     Ok(())
 }
 
