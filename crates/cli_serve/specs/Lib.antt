@@ -1,3 +1,4 @@
+pub mod AnswerCounts
 pub mod CallCounts
 pub mod Comments
 pub mod Script
