@@ -1,3 +1,5 @@
+pub mod AnswerCounts
 pub mod CallCounts
+pub mod Comments
 pub mod Script
 pub mod Serving
