@@ -11,4 +11,4 @@ returns-clause-ok c =
     on_ok_weaker c.put.result
     (λ stored. stored_from c.args.base c.args.place c.saturating_sub.result (held_of c.args.flags.syn c.args.octets.now c.args.flags.fin) c.cells_after-rest.result.now (all_of c.args.cells.now)
     (all_of c.join.new.self) (all_of c.put.new.self) c.join.ensures
-    (c.cells_after-rest.ensures ∙ ap (λ (z : List HeldCell). drop (min (c.args.base - c.args.place) (length z)) z) (c.deref.ensures ∙ c.in_ok-carried.ensures)) c.saturating_sub.ensures stored) c.put.ensures.ok
+    (c.cells_after-rest.ensures ∙ ap (λ (z : List HeldCell). drop (min (c.args.base - c.args.place) (length z)) z) (c.deref.ensures.value ∙ c.in_ok-carried.ensures)) c.saturating_sub.ensures stored) c.put.ensures.ok

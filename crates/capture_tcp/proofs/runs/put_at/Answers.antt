@@ -4,7 +4,7 @@ use Rattle.capture_tcp.specs.InnerRuns.{CellRun}
 use Rattle.capture_tcp.proofs.StoredRuns.{removed, stores_none, stores_run}
 use Rattle.capture_tcp.proofs.runs.put_at.Goals as goal
 
-run_of : ℕ → List HeldCell → CellRun
+abbrev run_of : ℕ → List HeldCell → CellRun
 run_of at cells = record { at = at; cells = cells }
 
 pub returns-then-stop-place-clause-ok : goal.returns-then-stop-place-clause-ok
