@@ -240,8 +240,7 @@ stores_run k count place stop end cs new rs ts r w many e stops lt cut is list e
     has_drop (λ (q : CellRun). end_of_run q ≤ stop) k i (k + i) rs refl
     (within_start 0 high end stop (k + i) rs h (stops ∙ ap (start_at end rs) next) (subst (HasAt (λ (q : CellRun). end_of_run q ≤ end) rs) one (w.0 (omega (arith, f)))))) in
     let zs = drop_apart place m m stop count (drop k rs) rest (omega arith) top (if_drop (λ (q : CellRun). stop ≤ q.at) k count (k + count) rs refl (starts_from end stop (k + count) rs stops)) in
-    let split : rs ≡ take k rs ++ (take count (drop k rs) ++ drop count (drop k rs)) = sym (take-append-drop k rs) ∙ ap (λ (z : List CellRun). take k rs ++ z) (sym (take-append-drop count (drop k rs))) in
-    (
+    let split : rs ≡ take k rs ++ (take count (drop k rs) ++ drop count (drop k rs)) = sym (take-append-drop k rs) ∙ ap (λ (z : List CellRun). take k rs ++ z) (sym (take-append-drop count (drop k rs))) in (
       subst (AreApart 0 (max high (place + length cs))) (sym list)
           (subst (λ (n : ℕ). AreApart 0 (max high n) (take k rs ++ r ∷ drop count (drop k rs))) e
           (append_apart 0 place m (take k rs) (r ∷ drop count (drop k rs)) xs (omega (arith, at), subst (λ (n : ℕ). AreApart n m (drop count (drop k rs))) (sym r_end) zs))),
@@ -315,8 +314,7 @@ stores_rest k place known next cs rest rs ts s is at e stores high h =
     let long : length rest ≡ length cs - known = ap length e ∙ length-drop known cs in
     let few : known ≤ length cs = is.2 in
     let first = stores ends (from k s is) high h in
-    let same : next + length rest ≡ place + length cs = omega (arith, at, long, few) in
-    (
+    let same : next + length rest ≡ place + length cs = omega (arith, at, long, few) in (
       subst (λ (n : ℕ). AreApart 0 (max high n) ts) same first.0,
       λ n.
           first.1 n

@@ -138,9 +138,7 @@ impl ReassemblyBuffer {
         ensures held { (ps : List Placed) (d : End) → IsStoreOf self.old ps d → IsStoreOf self.new ps d }
         ensures few { length self.new.cells ≡ length self.old.cells - (place - self.old.place) }
     {
-        let count = place
-            .saturating_sub(self.place)
-            .min(self.cells.len());
+        let count = place.saturating_sub(self.place).min(self.cells.len());
         self.cells.let_go(count);
         self.place = self.place.max(place);
     }

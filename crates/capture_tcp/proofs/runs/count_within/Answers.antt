@@ -16,8 +16,8 @@ loop-run-preserved c = (
   λ lt.
       let at : c.args.index + (c.loop-run.count + 1 - 1) ≡ c.args.index + c.loop-run.count = omega arith in
       subst (HasAt (λ (q : CellRun). end_of_run q ≤ c.args.end) c.args.runs.now.items) (sym at)
-          (has_run (λ (q : CellRun). end_of_run q ≤ c.args.end) (c.args.index + c.loop-run.count) c.args.runs.now.items c.in-Some.run'.now
-          (let lt = c.in-Some.ensures.variant.0 refl in omega (arith, lt, c.args.runs.now.ok.0)) c.in-Some.ensures.lookup (c.if-not-ends_by.ensures.ends refl)),
+      (has_run (λ (q : CellRun). end_of_run q ≤ c.args.end) (c.args.index + c.loop-run.count) c.args.runs.now.items c.in-Some.run'.now
+      (let lt = c.in-Some.ensures.variant.0 refl in omega (arith, lt, c.args.runs.now.ok.0)) c.in-Some.ensures.lookup (c.if-not-ends_by.ensures.ends refl)),
   (let lt = c.in-Some.ensures.variant.0 refl in omega (arith, lt, c.args.runs.now.ok.0)),
 )
 
@@ -25,6 +25,6 @@ pub returns : goal.returns
 returns c = (
   c.loop-run.invariant.0,
   if_past (λ (q : CellRun). c.args.end < end_of_run q) c.args.runs.now.items (c.args.index + c.loop-run.count) (not_inside (c.args.index + c.loop-run.count) (deque_len c.args.runs.now) (length c.args.runs.now.items) c.args.runs.now.ok.0
-  (λ lt. let g = c.in_default.ensures.variant.1 lt in let is = c.in_default.is in cc)),
+      (λ lt. let g = c.in_default.ensures.variant.1 lt in let is = c.in_default.is in cc)),
   c.loop-run.invariant.1,
 )
