@@ -42,6 +42,17 @@ abbrev pub is_cut_by_t6 : Event → Bool
 is_cut_by_t6 (Cut cause) = is_t6 cause
 is_cut_by_t6 event = false
 
+-- True if the event sends a frame.
+abbrev pub is_sent : Event → Bool
+is_sent (Sent frame) = true
+is_sent event = false
+
+-- True if the event receives a frame.
+abbrev pub is_received : Event → Bool
+is_received (Taken frame) = true
+is_received (Discarded frame) = true
+is_received event = false
+
 abbrev pub is_discarded : Event → Bool
 is_discarded (Discarded frame) = true
 is_discarded event = false

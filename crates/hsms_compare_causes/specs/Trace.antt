@@ -13,6 +13,10 @@ use Rattle.hsms_compare_causes.specs.Search.{FirstFrom}
 abbrev pub counterpart_at : TracedLog → ℕ → Counterpart
 counterpart_at log k = slice_index_or log.counterparts.items k Undecided
 
+-- The line number of the entry at k.
+abbrev pub line_number : TracedLog → ℕ → ℕ
+line_number log k = slice_index_or log.lines.items k 0
+
 abbrev pub index_of : Counterpart → Option ℕ
 index_of (At k) = Some k
 index_of counterpart = None
@@ -28,14 +32,15 @@ abbrev pub IsReply : (own other : TracedLog) → ℕ → Header → (m a : Optio
 IsReply own other j request (Some m) a = a ≡ index_of (counterpart_at other m)
 IsReply own other j request None a = FirstFrom (λ entry. answers_by request entry.event) own.entries.items (j + 1) a
 
--- The first entry of the other log after b that ends the session or the connection.
-abbrev pub IsConnectionEnd : TracedLog → (b e : Option ℕ) → Type 0
-IsConnectionEnd other None e = e ≡ None
-IsConnectionEnd other (Some b) e = FirstFrom (λ entry. ends_connection entry.event) other.entries.items (b + 1) e
+-- The first entry of the other log after b that ends the session or the connection, if it sends no answer.
+abbrev pub IsConnectionEnd : TracedLog → (b m e : Option ℕ) → Type 0
+IsConnectionEnd other None m e = e ≡ None
+IsConnectionEnd other (Some b) (Some m) e = e ≡ None
+IsConnectionEnd other (Some b) None e = FirstFrom (λ entry. ends_connection entry.event) other.entries.items (b + 1) e
 
 -- Holds if these entries belong to the request that the own entry at j sends.
 pub record IsTrace (own other : TracedLog) (j : ℕ) (request : Header) (trace : RequestTrace) : Type 0 where
   pub received_so : trace.received ≡ index_of (counterpart_at own j)
   pub answered_so : IsConclusion other request trace.received trace.answered
   pub reply_so : IsReply own other j request trace.answered trace.reply
-  pub ended_so : IsConnectionEnd other trace.received trace.ended
+  pub ended_so : IsConnectionEnd other trace.received trace.answered trace.ended

@@ -5,7 +5,7 @@ ghost use Rattle.hsms_frame.specs.Header.{kind_of};
 ghost use Rattle.hsms_machine.specs.Message.{is_data_request as opens_data_transaction, is_control_request as opens_control_transaction, is_request, is_reject_kind, separates as is_separation};
 ghost use Rattle.hsms_machine.specs.Session.{ends_session as is_session_end};
 ghost use Rattle.hsms_machine.specs.Transaction.{closes_sent as is_closing, closes_taken as is_conclusion};
-ghost use Rattle.hsms_compare_causes.specs.Events.{answers_by, is_answer as is_answer_to, ends_connection as is_connection_end, is_discarded as is_discarding, is_cut_by_t6 as is_t6, request_if, request_of};
+ghost use Rattle.hsms_compare_causes.specs.Events.{answers_by, is_answer as is_answer_to, ends_connection as is_connection_end, is_discarded as is_discarding, is_received as is_receipt, is_sent as is_sending, is_cut_by_t6 as is_t6, request_if, request_of};
 
 use hsms_frame::{Header, Kind, kind};
 use hsms_machine::{Cause, Event, Message, concludes};
@@ -153,6 +153,20 @@ pub fn is_cut_by_t6(event: &Event) -> bool
         Event::Cut(cause) => matches!(*cause, Cause::T6),
         Event::Down => false,
     }
+}
+
+/// Returns whether an event sends a frame.
+pub fn is_sent(event: &Event) -> bool
+    ensures { result ≡ is_sending event.now }
+{
+    matches!(event, Event::Sent(_))
+}
+
+/// Returns whether an event receives a frame.
+pub fn is_received(event: &Event) -> bool
+    ensures { result ≡ is_receipt event.now }
+{
+    matches!(event, Event::Taken(_) | Event::Discarded(_))
 }
 
 /// Returns whether an event discards a frame.

@@ -11,19 +11,28 @@
 #![tactic(auto)]
 
 mod causes;
+mod connection_log;
+mod counterparts;
 mod events;
+mod failed_request;
 mod failure_cause;
+mod failures;
 mod own_outcome;
 mod own_outcomes;
 mod request_trace;
 mod search;
 mod traced_log;
+mod traced_logs;
 mod traced_request;
 mod tracing;
 mod wanted;
 
+pub use connection_log::ConnectionLog;
+pub use failed_request::{FailedRequest, RequestLines, RequestTimes};
 pub use failure_cause::FailureCause;
+pub use failures::failures_of;
 pub use own_outcome::OwnOutcome;
 pub use request_trace::RequestTrace;
 pub use traced_log::{Counterpart, TracedLog};
+pub use traced_logs::TracedLogs;
 pub use traced_request::TracedRequest;

@@ -9,6 +9,6 @@ pub struct RequestTrace {
     pub answered: Option<usize>,
     /// The own log's entry that receives it. If there is no such answer: the first after the request that receives one.
     pub reply: Option<usize>,
-    /// The other log's first entry after `received` that ends the session or the connection.
+    /// If nothing is answered: the other log's first entry after `received` that ends the session or the connection.
     pub ended: Option<usize>,
 }

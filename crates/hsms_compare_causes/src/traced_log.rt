@@ -36,6 +36,8 @@ impl Counterpart {
 #[derive(Drop)]
 pub struct TracedLog {
     pub entries: Vec<Entry>,
+    /// Of each entry, its line number.
+    pub lines: Vec<u64>,
     /// Of each entry, the counterpart of its frame.
     pub counterparts: Vec<Counterpart>,
     /// Whether the connection may have more entries.
@@ -46,7 +48,7 @@ pub struct TracedLog {
 
 impl TracedLog {
     ghost use Rattle.std.specs.Prelude.{◌≡◌};
-    ghost use Rattle.hsms_compare_causes.specs.Trace.{counterpart_at};
+    ghost use Rattle.hsms_compare_causes.specs.Trace.{counterpart_at, line_number};
 
     /// Returns what the other log has of the frame of the entry at an index.
     pub fn matched(&self, index: usize) -> Counterpart
@@ -56,5 +58,15 @@ impl TracedLog {
             return self.counterparts[index];
         }
         Counterpart::Undecided
+    }
+
+    /// Returns the line number of the entry at an index, or 0 if there is none.
+    pub fn line(&self, index: usize) -> u64
+        ensures { result ≡ line_number self.now index }
+    {
+        if index < self.lines.len() {
+            return self.lines[index];
+        }
+        0
     }
 }

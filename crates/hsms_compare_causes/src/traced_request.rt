@@ -24,7 +24,7 @@ pub struct TracedRequest {
 }
 
 impl TracedRequest {
-    ghost use Rattle.std.specs.Prelude.{◌≡◌, None, IfNone, IfSome};
+    ghost use Rattle.std.specs.Prelude.{◌≡◌, None, MatchOption};
     ghost use Rattle.hsms_compare_causes.specs.TracedRequest.{IsTraced, request_at};
 
     /// Traces the request that the own entry at an index sends. `settings` are those of the own log. Returns `None` if
@@ -35,8 +35,7 @@ impl TracedRequest {
         index: usize,
         settings: &Settings,
     ) -> Option<TracedRequest>
-        ensures some { IfSome result (IsTraced own.now other.now index settings.now) }
-        ensures none { IfNone result (request_at own.now index ≡ None) }
+        ensures { MatchOption result (request_at own.now index ≡ None) (IsTraced own.now other.now index settings.now) }
     {
         if index >= own.entries.len() {
             return None;

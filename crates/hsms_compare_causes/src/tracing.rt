@@ -23,7 +23,7 @@ pub fn trace(own: &TracedLog, other: &TracedLog, index: usize, request: Header) 
         received,
         answered,
         reply: reply(own, other, index, request, answered),
-        ended: connection_end(other, received),
+        ended: connection_end(other, received, answered),
     }
 }
 
@@ -53,12 +53,20 @@ fn reply(
     }
 }
 
-/// Returns the first entry after the one that receives a request which ends the session or the connection.
-fn connection_end(other: &TracedLog, received: Option<usize>) -> Option<usize>
-    ensures { IsConnectionEnd other.now received result }
+/// Returns the first entry after the one that receives a request which ends the session or the connection, if the
+/// other log has no answer.
+fn connection_end(
+    other: &TracedLog,
+    received: Option<usize>,
+    answered: Option<usize>,
+) -> Option<usize>
+    ensures { IsConnectionEnd other.now received answered result }
 {
     match received {
-        Some(index) => first_after(other.entries.as_slice(), index, Wanted::ConnectionEnd),
+        Some(index) => match answered {
+            Some(_) => None,
+            None => first_after(other.entries.as_slice(), index, Wanted::ConnectionEnd),
+        },
         None => None,
     }
 }

@@ -2,6 +2,7 @@
 
 use crate::events::{
     answers, closes_accepted, closes_sent, ends_connection, ends_session, is_cut_by_t6,
+    is_received, is_sent,
 };
 use hsms_frame::Header;
 use hsms_machine::Entry;
@@ -19,6 +20,10 @@ pub enum Wanted {
     Cut { since: u64, limit: u64 },
     /// An entry that is later than this limit after a time.
     Past { since: u64, limit: u64 },
+    /// An entry that sends a frame.
+    Sent,
+    /// An entry that receives a frame, accepted or discarded.
+    Received,
     /// An entry that ends the session.
     SessionEnd,
     /// An entry that ends the session or the connection.
@@ -41,6 +46,8 @@ impl Wanted {
                 is_cut_by_t6(&entry.event) && limit <= entry.time.saturating_sub(since)
             }
             Wanted::Past { since, limit } => limit < entry.time.saturating_sub(since),
+            Wanted::Sent => is_sent(&entry.event),
+            Wanted::Received => is_received(&entry.event),
             Wanted::SessionEnd => ends_session(&entry.event),
             Wanted::ConnectionEnd => ends_connection(&entry.event),
         }
