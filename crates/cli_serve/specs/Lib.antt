@@ -1,5 +1,5 @@
-pub mod AnswerCounts
 pub mod CallCounts
 pub mod Comments
+pub mod InnerAnswerCounts
 pub mod Script
 pub mod Serving

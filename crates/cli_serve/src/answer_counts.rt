@@ -2,7 +2,7 @@
 
 ghost use Rattle.std.specs.Prelude.{◌≡◌, ◌==◌, ℕ, List, OnOk};
 ghost use Rattle.hsms_machine.specs.Entry.{frame_event};
-ghost use Rattle.cli_serve.specs.AnswerCounts.{CountsLine, answers, asks, counted};
+ghost use Rattle.cli_serve.specs.InnerAnswerCounts.{CountsLine, answers, asks, counted};
 
 use hsms_frame::{Header, Kind, kind};
 use hsms_log::{What, read_frame_line};
