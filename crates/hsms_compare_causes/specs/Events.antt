@@ -1,5 +1,5 @@
 -- Tests of the events that a trace looks for.
-use Rattle.std.specs.Prelude.{◌&&◌, ◌||◌, not, Bool, true, false, Option, Some, None, if◌then◌else◌}
+use Rattle.std.specs.Prelude.{◌&&◌, ◌||◌, not, Bool, true, false, Option, Some, None}
 use Rattle.hsms_frame.specs.Header.{kind_of}
 use Rattle.hsms_frame.specs.declared.header.Header.{Header}
 use Rattle.hsms_machine.specs.declared.entry.Cause.{Cause}

@@ -1,5 +1,5 @@
 -- Why a request was not answered in time, by what both logs have of it.
-use Rattle.std.specs.Prelude.{◌-◌, ℕ, Bool, true, false, Option, Some, None, length, nat_le, nat_lt, if◌then◌else◌}
+use Rattle.std.specs.Prelude.{◌-◌, ℕ, Bool, false, Option, Some, None, length, nat_le, nat_lt, if◌then◌else◌}
 use Rattle.hsms_machine.specs.Entry.{entry_at}
 use Rattle.hsms_compare.specs.Outcome.{time_between}
 use Rattle.hsms_compare_causes.specs.declared.failure_cause.FailureCause.{FailureCause}
