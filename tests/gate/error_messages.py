@@ -73,6 +73,8 @@ def cases_of_words():
         yield Case(["capture", "--peer", address], 2, "command line", [f"--peer {address}: expected an IP address"])
     for options in (["--once"], ["--connections", "2"], ["--t5", "10000"]):
         yield Case([*HERE_AT, "1", *options], 2, "command line", [f"{options[0]} needs --reconnect"])
+    yield Case([*HERE_AT, "0"], 2, "command line", ["--port 0 needs --link passive"])
+    yield Case([*HERE_AT, "1", "--port-file=x"], 2, "command line", ["--port-file needs --link passive"])
     port = "invalid value '0' for '--port <N>': 0 is not in 1..=65535"
     yield Case(["capture", "--port", "0"], 2, "command line", [port])
     role = "--role both: expected host or equipment"
@@ -204,6 +206,8 @@ def cases_of_devices():
         yield Case(words, 3, "Write", [write], capture_examples.late_reply().octets, full)
     log = "cannot write the log: is standard output open, the disk full, or the pipe closed?"
     yield Case([*LISTENS, "--address", HERE, "--port", str(free_port())], 3, "Log", [log], how=full)
+    port = "cannot write the port to the file of --port-file: check its name and its permissions"
+    yield Case([*LISTENS, "--address", HERE, "--port", "0", "--port-file", "/"], 3, "PortFile", [port])
 
 
 def little_memory():

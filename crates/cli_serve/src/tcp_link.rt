@@ -101,28 +101,15 @@ impl<'a, 's, R: Clock + Net, A: Attempts + Drop> Again for SocketLink<'a, 's, R,
     }
 }
 
-/// Returns the connection of a service, or the first one of a service that continues after it. An active end makes it,
-/// and a passive end accepts it.
+/// Returns the listener of a passive end.
 ///
 /// # Errors
 ///
-/// Returns the system's error if there is no connection. A service that continues tries again: an active end unless an
-/// allocation failed, and a passive one if the peer gave up the connection or a signal came. `attempts` receives each
-/// failed attempt.
-pub fn connected<'a, 's, R: Clock + Net, A: Attempts + Drop>(
-    rt: &'a R,
-    service: &'a Service<'s>,
-    attempts: A,
-) -> Result<SocketLink<'a, 's, R, A>, ConnectError> {
-    let listener = listener_of(rt, service)?;
-    first_link(rt, service, listener, attempts)
-}
-
-// Returns the listener of a passive end.
-pub(crate) fn listener_of<R: Net>(
+/// Returns the system's error if it cannot listen there.
+pub fn listener_of<R: Net>(
     rt: &R,
     service: &Service<'_>,
-) -> io::Result<Option<R::Listener>> {
+) -> Result<Option<R::Listener>, ConnectError> {
     match service.settings.link() {
         Side::Active => Ok(None),
         Side::Passive => {
@@ -132,8 +119,15 @@ pub(crate) fn listener_of<R: Net>(
     }
 }
 
-// Returns the first connection of a service. If the service ends after it, it no longer listens then.
-pub(crate) fn first_link<'a, 's, R: Clock + Net, A: Attempts + Drop>(
+/// Returns the connection of a service, or the first one of a service that continues after it. An active end makes it,
+/// and a passive end accepts it by its listener. If the service ends after it, it no longer listens then.
+///
+/// # Errors
+///
+/// Returns the system's error if there is no connection. A service that continues tries again: an active end unless an
+/// allocation failed, and a passive one if the peer gave up the connection or a signal came. `attempts` receives each
+/// failed attempt.
+pub fn connected<'a, 's, R: Clock + Net, A: Attempts + Drop>(
     rt: &'a R,
     service: &'a Service<'s>,
     mut listener: Option<R::Listener>,
