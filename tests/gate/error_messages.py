@@ -43,6 +43,8 @@ class Case:
     told: List[str]
     octets: bytes = b""
     how: dict = field(default_factory=dict)
+    # What `-v` writes before the fault.
+    before: str = ""
 
 
 def notation(octets, fault, told, *options):
@@ -265,7 +267,8 @@ def cases_of_links():
     waits.listener.close()
     broke = "the connection failed: the peer reset it, or accepted no data for T8. The log shows how far it got"
     with ResettingPeer() as resets:
-        yield Case([*HERE_AT, str(resets.port)], 3, "Link", [broke])
+        reset = "hsms: the connection ended: the peer reset it\n"
+        yield Case([*HERE_AT, str(resets.port)], 3, "Link", [broke], before=reset)
     peers.listener.close()
 
 
@@ -302,7 +305,7 @@ def told_by(case, words, env):
 
 def tell(case):
     fault = f"hsms: {case.fault}\n"
-    worded = fault + "".join(f"{line}\n" for line in case.told)
+    worded = case.before + fault + "".join(f"{line}\n" for line in case.told)
     same(told_by(case, case.words, {"HSMS_VERBOSE": ""}), (case.status, fault))
     same(told_by(case, ["-v", *case.words], {}), (case.status, worded))
     same(told_by(case, [*case.words, "-v"], {}), (case.status, worded))

@@ -683,6 +683,36 @@ def reset():
     stopped(serving, "Link", ["up", "< ffff0000000100000001", "> ffff0000000200000001", "down"])
 
 
+def end_is_explained():
+    """With `-v`, why a connection ended: the peer closed or reset it, or accepted nothing for T8; not that this end left."""
+    ended = "hsms: the connection ended: the peer {}\n"
+    peers = Listening()
+    serving = Serving("host", "active", peers.port, "-v", "--reconnect", "--connections", "3", "--t5", "50")
+    for _ in range(3):
+        peer = peers.next_one()
+        peer.wants(SELECT)
+        peer.close()
+    same(serving.ended()[::2], (0, 3 * ended.format("closed it")))
+    peers.listener.close()
+    serving, peer = equipment("-v")
+    peer.send(SELECT + control(9, 2))
+    same(peer.rest(), SELECTED)
+    same(serving.ended()[::2], (0, f"hsms: listening on {HERE}:{serving.port}\n"))
+    long = b'S10F1 <A "' + 60000 * b"x" + b'"> .'
+    for options, talk, why in (
+        ([], lambda peer: peer.reset(), "reset it"),
+        (["--t8", "200"], lambda peer: peer.send(SELECTED), "accepted no data for T8"),
+    ):
+        peers = Listening()
+        serving = Serving("host", "active", peers.port, "-v", *options, script=500 * long, stdout=subprocess.DEVNULL)
+        peer = peers.accepted()
+        peer.wants(SELECT)
+        talk(peer)
+        status, _, told = serving.ended()
+        same((status, told.split("hsms: Link\n")[0]), (3, ended.format(why)))
+        peer.close()
+
+
 def never_connected():
     serving = Serving("equipment", "passive", free_port())
     time.sleep(A_WHILE)
@@ -1215,6 +1245,7 @@ TESTS = [
     closed_before_it_is_answered,
     closed_while_a_reply_is_awaited,
     reset,
+    end_is_explained,
     never_connected,
     terminated,
     all_that_is_logged_arrives,

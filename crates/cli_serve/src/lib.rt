@@ -16,7 +16,7 @@ mod serving;
 mod tcp_link;
 mod tcp_stream;
 
-pub use attempt::{Attempts, ConnectError};
+pub use attempt::{Attempts, ConnectError, Ending};
 pub use call_counts::Counters;
 pub use handler_choice::{ChosenHandler, desk_of};
 pub use line_writer::Lines;

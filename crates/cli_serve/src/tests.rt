@@ -1,7 +1,7 @@
 //! An endpoint over a loopback connection. The peer is in the same process, and sends everything before the endpoint runs.
 
 use crate::answer_counts::AnswerCounts;
-use crate::attempt::{Attempts, ConnectError};
+use crate::attempt::{Attempts, ConnectError, Ending};
 use crate::comments::without_comments;
 use crate::handler_choice::desk_of;
 use crate::serving::serve_to;
@@ -43,6 +43,8 @@ struct Once;
 
 impl Attempts for Once {
     fn failed(&mut self, _: ConnectError) {}
+
+    fn ended(&mut self, _: Ending) {}
 }
 
 fn assert_so(rt: &impl Abort, is_so: bool, name: &str) {
