@@ -10,6 +10,7 @@ import resource
 import select
 import signal
 import socket
+import stat
 import struct
 import subprocess
 import sys
@@ -843,6 +844,18 @@ def port_is_any_free():
         served(serving, ["up", "cut t7", "down"])
 
 
+def port_goes_to_a_pipe():
+    """A named pipe gets the port, and stays a pipe."""
+    with tempfile.TemporaryDirectory() as folder:
+        file = f"{folder}/port"
+        os.mkfifo(file)
+        serving = Serving("equipment", "passive", 0, "--port-file", file, "--t7", "100")
+        with open(file, encoding="ascii") as pipe:
+            Peer.connected(int(pipe.read())).rest()
+        served(serving, ["up", "cut t7", "down"])
+        same((stat.S_ISFIFO(os.stat(file).st_mode), os.listdir(folder)), (True, ["port"]))
+
+
 def port_cannot_be_written():
     with tempfile.TemporaryDirectory() as folder:
         os.mkdir(f"{folder}/port")
@@ -1256,6 +1269,7 @@ TESTS = [
     numbers_at_their_limits,
     port_is_in_use,
     port_is_any_free,
+    port_goes_to_a_pipe,
     port_cannot_be_written,
     address_is_none,
     script_has_comments,

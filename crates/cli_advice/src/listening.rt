@@ -2,7 +2,7 @@
 
 use cli_options::{Service, ToolFault};
 use std::alloc::Global;
-use std::fs::{Files, remove_file, rename, write};
+use std::fs::{Files, metadata, remove_file, rename, write};
 use std::io;
 use std::io::ErrorKind;
 use std::net::OpenListener;
@@ -34,8 +34,8 @@ pub fn report_listener<R: Eprint + Files, L: OpenListener>(
     Ok(())
 }
 
-// Writes the port and LF to a file. The file has them in full as soon as it has this name: they are written to a file
-// with a temporary name before.
+// Writes the port and LF to a file. A regular file has them in full as soon as it has this name: they are written to a
+// file with a temporary name before. A device or a named pipe is written to, and not replaced.
 fn write_port<R: Files, L: OpenListener>(
     alloc: Global,
     rt: &R,
@@ -44,6 +44,9 @@ fn write_port<R: Files, L: OpenListener>(
 ) -> io::Result<()> {
     let port = listener.local_addr()?.port();
     let text = format!(in alloc; "{port}\n")?;
+    if matches!(metadata(rt, file), Ok(found) if !found.is_file()) {
+        return write(rt, file, text.as_str());
+    }
     let part = format!(in alloc; "{file}.part")?;
     write(rt, part.as_str(), text.as_str())?;
     let renamed = rename(rt, part.as_str(), file);
