@@ -1,6 +1,6 @@
 #!/bin/sh
-# Runs a tool and a host, and writes their logs to a folder, by default this one. The status is 0 if all messages were
-# sent and answered, both logs pass, and they agree.
+# Runs a tool and a host, and writes their logs to a folder, by default the current one. The status is 0 if all messages
+# were sent and answered, both logs pass, and they agree.
 set -eu
 scripts=$(cd "$(dirname "$0")" && pwd)
 cd "${1:-.}"
