@@ -1,12 +1,12 @@
 -- Cells that are stored among runs.
-use Rattle.std.proofs.Common.{◌≡◌, ◌<◌, ◌≤◌, ◌+◌, ◌-◌, ◌++◌, ◌∷◌, ℕ, zero, suc, Bool, true, false, cond, nat_le, List, [], length, max, min, take, drop, slice_get, Option, Some, None, is_some, refl, sym, ap, subst, ◌∙◌, arith, inl, inr, length-drop, length-take}
-use Rattle.std.proofs.lemmas.Bool.{le-leb, lt-leb, cases_lt}
+use Rattle.std.proofs.Common.{◌≡◌, ◌<◌, ◌≤◌, ◌+◌, ◌-◌, ◌++◌, ◌∷◌, ℕ, zero, suc, true, List, [], length, max, min, take, drop, slice_get, Option, Some, None, is_some, refl, sym, ap, subst, ◌∙◌, arith, inl, inr, length-drop, length-take}
+use Rattle.std.proofs.lemmas.Bool.{le-leb, cases_lt}
 use Rattle.std.proofs.lemmas.List.{drop-drop, take-append-drop}
 use Rattle.capture_tcp.specs.declared.reassembly.Cell.{Cell as HeldCell}
 use Rattle.capture_tcp.specs.TcpStreams.{or_else}
 use Rattle.capture_tcp.specs.InnerReassembly.{cell_from}
 use Rattle.capture_tcp.specs.InnerRuns.{CellRun, end_of_run, run_cell, AreApart, HasAt, IfAt, IsAfter, IsKnown, AreWithin, start_at, cell_or, first_copies, StoresRun, StoresAt}
-use Rattle.capture_tcp.proofs.ApartRuns.{after_all, before_all, get_drop, has_both, has_drop, has_map, higher, if_drop, if_map, lower, rises, too_early, too_late}
+use Rattle.capture_tcp.proofs.ApartRuns.{after_all, before_all, get_drop, has_both, has_drop, has_map, higher, if_drop, if_map, lower, too_early, too_late}
 
 -- ---- one of two cells
 

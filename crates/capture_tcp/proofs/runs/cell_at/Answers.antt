@@ -1,4 +1,4 @@
-use Rattle.std.proofs.Common.{◌≡◌, ◌<◌, ◌-◌, length, ◌∙◌, arith}
+use Rattle.std.proofs.Common.{◌∙◌, arith}
 use Rattle.capture_tcp.proofs.ApartRuns.{found_before, found_none, within}
 use Rattle.capture_tcp.proofs.runs.cell_at.Goals as goal
 

@@ -1,4 +1,4 @@
-use Rattle.std.proofs.Common.{◌≡◌, ◌<◌, ◌≤◌, ◌-◌, ℕ, min, length, refl, ap, ◌∙◌, arith}
+use Rattle.std.proofs.Common.{◌≡◌, ◌≤◌, ◌-◌, ℕ, min, refl, ap, ◌∙◌, arith}
 use Rattle.capture_tcp.specs.InnerRuns.{CellRun, end_of_run}
 use Rattle.capture_tcp.proofs.ApartRuns.{has_run, of_run, within}
 use Rattle.capture_tcp.proofs.runs.known_from.Goals as goal

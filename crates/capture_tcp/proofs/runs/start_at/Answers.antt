@@ -1,4 +1,4 @@
-use Rattle.std.proofs.Common.{◌≡◌, ℕ, length, min, ap, refl, ◌∙◌, arith}
+use Rattle.std.proofs.Common.{ℕ, length, min, ap, refl, ◌∙◌, arith}
 use Rattle.std.specs.VecDeque.{deque_len}
 use Rattle.capture_tcp.proofs.ApartRuns.{not_inside, start_is, start_none}
 use Rattle.capture_tcp.proofs.runs.start_at.Goals as goal

@@ -1,4 +1,4 @@
-use Rattle.std.proofs.Common.{◌≡◌, ◌≤◌, ◌<◌, arith}
+use Rattle.std.proofs.Common.{◌≤◌, ◌<◌, arith}
 use Rattle.std.proofs.lemmas.Bool.{leb-true, leb-false}
 use Rattle.capture_tcp.specs.InnerRuns.{CellRun}
 use Rattle.capture_tcp.proofs.ApartRuns.{has_run, if_run}

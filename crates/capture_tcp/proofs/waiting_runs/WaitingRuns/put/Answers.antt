@@ -1,4 +1,4 @@
-use Rattle.std.proofs.Common.{◌≡◌, ◌≤◌, ◌+◌, ◌-◌, List, length, max, Option, refl, subst, arith}
+use Rattle.std.proofs.Common.{◌≤◌, ◌+◌, ◌-◌, List, length, max, Option, refl, subst}
 use Rattle.capture_tcp.specs.declared.reassembly.Cell.{Cell as HeldCell}
 use Rattle.capture_tcp.specs.InnerReassembly.{IsStored}
 use Rattle.capture_tcp.specs.InnerRuns.{cells_between, run_cell}
