@@ -140,11 +140,6 @@ LINE_OF_A_PROOF = re.compile(
 )
 A_NAME_IS_GONE = re.compile(r"has no\b|is not in scope|was not admitted")
 
-# In the gate the line after does not count for the bodies of a crate with this file in its folder of edits: not all of
-# them were tried so. By hand it does.
-NOT_TRIED = "not-tried"
-FIRST_LINE_ALONE = set()
-
 
 class BadEdit(Exception):
     """An edit that cannot be applied."""
@@ -661,7 +656,7 @@ class Room:
             for path in filled:
                 if path in self.by_hand:
                     self.make_hole(path)
-        found = refused_in(output, self.crate)
+        found = refused_in(output)
         proved = {named(path.split("::")[1:]) for path in BUT_FOR_HOLES.findall(output)}
         refused = {it: [said for of in function(it) for said in found.get(of, [])] for it in edits if function(it) & found.keys()}
         return {it for it in edits if (function(it) <= proved if asked else not status)}, refused, output
@@ -699,7 +694,7 @@ class Room:
         return ran.returncode, ran.stdout.decode(errors="replace")
 
 
-def refused_in(output, crate):
+def refused_in(output):
     """The functions of a crate that a check refuses by a goal or a line of their own, by module or type and name, with
     what it says.
     """
@@ -709,7 +704,7 @@ def refused_in(output, crate):
         if goal:
             found.setdefault(named(path.split("::")[1:]), []).append(goal[1])
     for path, said, more in LINE_OF_A_PROOF.findall(output):
-        if not A_NAME_IS_GONE.search(re.sub(r"`[^`]*`", "", said + ("" if crate in FIRST_LINE_ALONE else more))):
+        if not A_NAME_IS_GONE.search(re.sub(r"`[^`]*`", "", said + more)):
             # a file of a function's proof lies in its folder; a lemma of a file of its own speaks of what is not a
             # function
             *parts, file = path.split("/")
@@ -882,10 +877,10 @@ class Trial:
         proved, refused, output = self.check([edit])
         if not refused and None in edit.turned():
             # what a definition turns may be a lemma of its functions
-            refused = refused_in(output, self.crate)
+            refused = refused_in(output)
         if not refused and edit.paths():
             proved, _, output = self.check([edit], of_crate=True)
-            refused = refused_in(output, self.crate)
+            refused = refused_in(output)
         if proved:
             self.fail(edit, "NOT REFUSED: the crate is proved with it")
         elif not refused:
@@ -999,7 +994,7 @@ def try_one(crate, name, body):
             print(f"BAD EDIT: {error}")
             return 2
     print(output, end="")
-    refused = refused_in(output, crate)
+    refused = refused_in(output)
     for (module, function), goals in refused.items():
         print(f"refused: {module or crate} {function}: {', '.join(goals)}")
     if proved or not refused:
@@ -1086,7 +1081,6 @@ def main():
         crates = [it for it in every if not asked.names or it in asked.names]
         bodies = {it: bodies_of(it, (gate_folder(it),) if asked.beside else ()) for it in crates}
     if asked.beside:
-        FIRST_LINE_ALONE.update(it for it in crates if os.path.exists(f"{EDITS}/{it}/{NOT_TRIED}"))
         os.setpgid(0, 0)
     proofs = Proofs(asked.beside)
     if not asked.beside and not is_built_below(crates, proofs.proved()):
