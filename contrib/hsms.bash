@@ -11,7 +11,7 @@ _hsms() {
     --format) mapfile -t COMPREPLY < <(compgen -W 'text json html' -- "$word") && return ;;
     --role | --active | --log) mapfile -t COMPREPLY < <(compgen -W 'host equipment' -- "$word") && return ;;
     --link) mapfile -t COMPREPLY < <(compgen -W 'active passive' -- "$word") && return ;;
-    --max | --depth | --around | --from | --to | --port | --peer | --device | --t3 | --t6 | --t7 | --t8 | --system | --address | --linktest | --first-system | --turns | --mdln | --softrev | --connections | --t5) return ;;
+    --max | --depth | --around | --from | --to | --port | --peer | --device | --t3 | --t6 | --t7 | --t8 | --system | --address | --port-file | --linktest | --first-system | --turns | --mdln | --softrev | --connections | --t5) return ;;
   esac
   if [ "$COMP_CWORD" = 1 ]; then
     words='show audit explain compare capture encode serve help --help --verbose --version'
@@ -26,7 +26,7 @@ _hsms() {
       compare) words='--help --verbose' ;;
       capture) words='--port --peer --active --log --midstream --device --t3 --t6 --t7 --t8 --max --depth --help --verbose' ;;
       encode) words='--device --system --max --depth --hex --help --verbose' ;;
-      serve) words='--role --link --address --port --device --t3 --t6 --t7 --t8 --linktest --max --depth --first-system --turns --mdln --softrev --send --answer --all-sent --reconnect --once --connections --t5 --help --verbose' ;;
+      serve) words='--role --link --address --port --port-file --device --t3 --t6 --t7 --t8 --linktest --max --depth --first-system --turns --mdln --softrev --send --answer --all-sent --all-answered --reconnect --once --connections --t5 --help --verbose' ;;
       help) words='show audit explain compare capture encode serve' ;;
       *) return ;;
     esac

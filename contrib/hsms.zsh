@@ -91,7 +91,8 @@ _hsms() {
         '--role[Role of this end\: host or equipment]:ROLE:(host equipment)' \
         '--link[Connection mode\: active connects, passive listens]:LINK:(active passive)' \
         '--address[Where to connect to or listen\: IP address or host name]:A:' \
-        '--port[TCP port\: 1 to 65535]:P:' \
+        '--port[TCP port\: 1 to 65535; 0 with --link passive\: any free port]:P:' \
+        '--port-file[With --link passive\: write the port to this file]:FILE:' \
         '--device[Device ID, the session ID of data messages\: 0 to 32767 \[default\: 0\]]:N:' \
         '--t3[T3 reply timeout in ms\: 1 to 3600000 \[default\: 45000\]]:N:' \
         '--t6[T6 control transaction timeout in ms\: 1 to 3600000 \[default\: 6000\]]:N:' \
@@ -107,6 +108,7 @@ _hsms() {
         '--send[Send the messages on standard input, then Separate.req]' \
         '--answer[Use those with even functions as replies, send the others]' \
         '--all-sent[Exit with status 1 if a message was not sent]' \
+        '--all-answered[Exit with status 1 if a reply was missing, late, or function 0]' \
         '--reconnect[Serve connection after connection, in one log of version 2]' \
         '--once[With --reconnect\: send the script on the first connection only]' \
         '--connections[With --reconnect\: stop after this many connections\: 1 to 4294967295 \[default\: 4294967295\]]:N:' \

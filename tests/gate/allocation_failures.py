@@ -305,6 +305,10 @@ def judge_of_log(wanted, collections):
     return is_well
 
 
+# What an end writes its port into. It is removed when this ends.
+FOLDER = tempfile.TemporaryDirectory(prefix="hsms-port-")
+
+
 def served():
     """Equipment that listens, and is selected, tested and separated; and a host that connects, and says nothing."""
     port, listener = free_port(), socket.create_server((HERE, 0))
@@ -312,9 +316,10 @@ def served():
     threading.Thread(target=peer_that_answers, args=(listener,), daemon=True).start()
     serve = [PROGRAM, "serve", "--address", HERE]
     equipment = [*serve, "--role", "equipment", "--link", "passive", "--port", str(port)]
+    equipment += ["--port-file", f"{FOLDER.name}/port"]
     yield Check("an equipment that is served", equipment, b"", judge_of_log(EQUIPMENT_LOG, 2))
-    host = [*serve, "--role", "host", "--link", "active", "--port", str(listener.getsockname()[1]), "--send"]
-    yield Check("a host that is served", host, b"", judge_of_log(HOST_LOG, 4))
+    host = [*serve, "--role", "host", "--link", "active", "--port", str(listener.getsockname()[1])]
+    yield Check("a host that is served", [*host, "--send", "--all-answered"], b"", judge_of_log(HOST_LOG, 4))
 
 
 def calls(program):

@@ -10,7 +10,8 @@
   follows the one before it in its log, and a received message the sent one, has no cycle. That is compared for whole
   logs, and for logs with a line that is removed, changed, doubled or swapped with the next one.
 - `hsms compare` writes of each of these pairs what the reference says of the first connections, with its status. Of
-  orders it tells the first contradiction alone. It runs what `rt ci` has built, or `--program P`. With `--alone` it runs
+  orders it tells the first contradiction alone, and of failed requests none if the logs contradict each other, or if one
+  is of version 2 and neither end received data. It runs what `rt ci` has built, or `--program P`. With `--alone` it runs
   no program.
 
 Use: compare_reference.py [CONVERSATIONS] [--program P | --alone]. The last line is `N passed, M failed`.
@@ -203,6 +204,11 @@ def written(texts):
                 "order", host=host.line(at[HOST]), host_from=equipment.line(sent[HOST]), equipment=equipment.line(at[EQUIPMENT]),
                 equipment_from=host.line(sent[EQUIPMENT]),
             )
+        if not first_stop(pair)[3] and (is_version_1 or host.has_received_data or equipment.has_received_data):
+            comparison.stats, comparison.unlike = {HOST: {}, EQUIPMENT: {}}, []
+            for end in ENDS:
+                for request in pair.requests(end):
+                    comparison.tell_request(request)
     is_whole = pair and all(len(it.connections) == 1 for it in logs.values()) and not counts["unfound"]
     verdict = "disagree" if any(counts[it] for it in CONTRADICTIONS) else "agree" if is_whole else "undecided"
     lines = [text_of(it) for it in objects] + [f"{end}: {logs[end].verdict}" for end in ENDS]

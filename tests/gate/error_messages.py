@@ -43,6 +43,8 @@ class Case:
     told: List[str]
     octets: bytes = b""
     how: dict = field(default_factory=dict)
+    # What `-v` writes before the fault.
+    before: str = ""
 
 
 def notation(octets, fault, told, *options):
@@ -73,6 +75,8 @@ def cases_of_words():
         yield Case(["capture", "--peer", address], 2, "command line", [f"--peer {address}: expected an IP address"])
     for options in (["--once"], ["--connections", "2"], ["--t5", "10000"]):
         yield Case([*HERE_AT, "1", *options], 2, "command line", [f"{options[0]} needs --reconnect"])
+    yield Case([*HERE_AT, "0"], 2, "command line", ["--port 0 needs --link passive"])
+    yield Case([*HERE_AT, "1", "--port-file=x"], 2, "command line", ["--port-file needs --link passive"])
     port = "invalid value '0' for '--port <N>': 0 is not in 1..=65535"
     yield Case(["capture", "--port", "0"], 2, "command line", [port])
     role = "--role both: expected host or equipment"
@@ -101,6 +105,8 @@ def cases_of_inputs():
     yield from notation(
         b"S1F1 <L <L>> .", "Deep at=8", [f"line 1, column 9: {deep}", "S1F1 <L <L>> .", 8 * " " + "^"], "--depth", "1"
     )
+    comment = [f"line 2, column 6: {syntax}", "S1F1 ? . # S1F1 ? .", "     ^"]
+    yield Case([*HERE_AT, "1", "--send"], 2, "Syntax at=17", comment, b"# a comment\n" + comment[1].encode())
     yield from notation(b" " * 67108865, "Input", ["the input is longer than 67108864 bytes: split it"])
     large = "a value or list has more than 16777215 bytes or elements"
     yield Case(["encode"], 2, "TooLarge", [large], b'S1F1 <A "' + (1 << 24) * b"x" + b'"> .')
@@ -202,6 +208,8 @@ def cases_of_devices():
         yield Case(words, 3, "Write", [write], capture_examples.late_reply().octets, full)
     log = "cannot write the log: is standard output open, the disk full, or the pipe closed?"
     yield Case([*LISTENS, "--address", HERE, "--port", str(free_port())], 3, "Log", [log], how=full)
+    port = "cannot write the port to the file of --port-file: check its name and its permissions"
+    yield Case([*LISTENS, "--address", HERE, "--port", "0", "--port-file", "/"], 3, "PortFile", [port])
 
 
 def little_memory():
@@ -259,7 +267,8 @@ def cases_of_links():
     waits.listener.close()
     broke = "the connection failed: the peer reset it, or accepted no data for T8. The log shows how far it got"
     with ResettingPeer() as resets:
-        yield Case([*HERE_AT, str(resets.port)], 3, "Link", [broke])
+        reset = "hsms: the connection ended: the peer reset it\n"
+        yield Case([*HERE_AT, str(resets.port)], 3, "Link", [broke], before=reset)
     peers.listener.close()
 
 
@@ -296,7 +305,7 @@ def told_by(case, words, env):
 
 def tell(case):
     fault = f"hsms: {case.fault}\n"
-    worded = fault + "".join(f"{line}\n" for line in case.told)
+    worded = case.before + fault + "".join(f"{line}\n" for line in case.told)
     same(told_by(case, case.words, {"HSMS_VERBOSE": ""}), (case.status, fault))
     same(told_by(case, ["-v", *case.words], {}), (case.status, worded))
     same(told_by(case, [*case.words, "-v"], {}), (case.status, worded))

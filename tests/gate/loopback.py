@@ -13,6 +13,7 @@ import socket
 import struct
 import subprocess
 import sys
+import tempfile
 import time
 
 sys.dont_write_bytecode = True
@@ -29,7 +30,8 @@ from tests.support.reference.session import Settings
 from tests.support.retry import is_held
 from tests.support.serve_peers import (
     A_WHILE, EQUIPMENT_LOG, HERE, HOST_LOG, PASSED, SCRIPT, SELECT, SELECTED, SOON, Listening, Peer, Serving, audited,
-    control, data, equipment, events, free_port, in_time, message, passes, refused, same, served, stopped, times,
+    control, data, equipment, events, free_port, in_time, is_listened_at, message, passes, refused, same, served,
+    stopped, times,
 )
 
 PROGRAM = Serving.program = program_given()
@@ -543,11 +545,17 @@ def random_replies_are_those_of_the_reference():
         end = End(Settings("equipment", "passive", 0, 45000, 6000, 10000, 5000, 1048576, 32), desk_of(replies), 1)
         end.start(0)
         end.hear(octets + control(9, 120))
-        script = "\n".join(map(printed, replies)).encode()
+        script = commented(chance, map(printed, replies)).encode()
         serving, peer = equipment("--answer", "--mdln", "M", "--softrev", "1", script=script, send=False)
         peer.send(octets + control(9, 120))
         peer.rest()
         served(serving, events(log_of(end).decode()))
+
+
+def commented(chance, messages):
+    """A script of these messages, with comments on lines of their own and after messages."""
+    comments = ("#", "# S9F9 .", '#"', "##\t<A 'x'>\r", "# \u00fc", "")
+    return "".join(f"{chance.choice(comments)}\n{text}{chance.choice(comments)}\n" for text in messages)
 
 
 def desk_of(replies):
@@ -675,6 +683,36 @@ def reset():
     stopped(serving, "Link", ["up", "< ffff0000000100000001", "> ffff0000000200000001", "down"])
 
 
+def end_is_explained():
+    """With `-v`, why a connection ended: the peer closed or reset it, or accepted nothing for T8; not that this end left."""
+    ended = "hsms: the connection ended: the peer {}\n"
+    peers = Listening()
+    serving = Serving("host", "active", peers.port, "-v", "--reconnect", "--connections", "3", "--t5", "50")
+    for _ in range(3):
+        peer = peers.next_one()
+        peer.wants(SELECT)
+        peer.close()
+    same(serving.ended()[::2], (0, 3 * ended.format("closed it")))
+    peers.listener.close()
+    serving, peer = equipment("-v")
+    peer.send(SELECT + control(9, 2))
+    same(peer.rest(), SELECTED)
+    same(serving.ended()[::2], (0, f"hsms: listening on {HERE}:{serving.port}\n"))
+    long = b'S10F1 <A "' + 60000 * b"x" + b'"> .'
+    for options, talk, why in (
+        ([], lambda peer: peer.reset(), "reset it"),
+        (["--t8", "200"], lambda peer: peer.send(SELECTED), "accepted no data for T8"),
+    ):
+        peers = Listening()
+        serving = Serving("host", "active", peers.port, "-v", *options, script=500 * long, stdout=subprocess.DEVNULL)
+        peer = peers.accepted()
+        peer.wants(SELECT)
+        talk(peer)
+        status, _, told = serving.ended()
+        same((status, told.split("hsms: Link\n")[0]), (3, ended.format(why)))
+        peer.close()
+
+
 def never_connected():
     serving = Serving("equipment", "passive", free_port())
     time.sleep(A_WHILE)
@@ -771,13 +809,146 @@ def port_is_in_use():
     peers.listener.close()
 
 
+def written_soon(file):
+    """The content of a file that is there before long."""
+    end = time.monotonic() + SOON
+    while not os.path.exists(file) and time.monotonic() < end:
+        time.sleep(0.01)
+    with open(file, encoding="ascii") as port:
+        return port.read()
+
+
+def port_is_any_free():
+    """The system chooses the port, which `serve` writes to a file; with `-v` it says where it listens."""
+    with tempfile.TemporaryDirectory() as folder:
+        file = f"{folder}/port"
+        for verbose, again in (([], []), (["-v"], []), ([], ["--reconnect", "--connections", "2"])):
+            serving = Serving("equipment", "passive", 0, "--port-file", file, *verbose, *again)
+            text = written_soon(file)
+            same((re.fullmatch("[1-9][0-9]*\n", text) is not None, os.listdir(folder)), (True, ["port"]))
+            serving.port = int(text)
+            same(is_listened_at(serving.port), True)
+            for _ in range(2 if again else 1):
+                peer = Peer.connected(serving.port)
+                peer.send(SELECT + control(9, 2))
+                same(peer.rest(), SELECTED)
+            status, log, told = serving.ended()
+            same((status, told), (0, f"hsms: listening on {HERE}:{serving.port}\n" if verbose else ""))
+            same((log.count("up"), open(file, encoding="ascii").read()), (2 if again else 1, text))
+            os.remove(file)
+        port = free_port()
+        serving = Serving("equipment", "passive", port, "--port-file", file, "--t7", "100")
+        same(written_soon(file), f"{port}\n")
+        Peer.connected(port).rest()
+        served(serving, ["up", "cut t7", "down"])
+
+
+def port_cannot_be_written():
+    with tempfile.TemporaryDirectory() as folder:
+        os.mkdir(f"{folder}/port")
+        for file in (f"{folder}/none/port", f"{folder}/port", ""):
+            refused(Serving("equipment", "passive", 0, "--port-file", file), 3, "PortFile")
+        same(os.listdir(folder), ["port"])
+
+
+def replies_are_counted():
+    """With `--all-answered` the status is 1 unless each own primary with W has a reply, and not function 0."""
+    one, two = b"S1F1 W .", b"S1F1 W . S1F3 W ."
+    first, second = data(1, 2, 2), data(1, 4, 3)
+    late = ["--t3", "100"]
+    for script, replies, options, wanted in (
+        (b"", [], [], 0),
+        (b"S1F1 .", [], [], 0),
+        (one, [first], [], 0),
+        (two, [first, second], [], 0),
+        (two, [first, data(1, 0, 3)], [], 1),
+        (two, [data(1, 0, 2), second], [], 1),
+        (one, [], late, 1),
+        (two, [None, second], late, 1),
+        (two, [None, first + second], late, 1),
+        (one, [control(9, 7)], [], 1),
+    ):
+        for answered, status in ((["--all-answered"], wanted), ([], 0)):
+            peers = Listening()
+            serving = Serving("host", "active", peers.port, *options, *answered, script=script)
+            peer = peers.accepted()
+            peer.send(SELECTED)
+            peer.wants(SELECT)
+            for reply in replies:
+                peer.message()
+                if reply:
+                    peer.send(reply)
+            peer.rest()
+            same((script, replies, serving.ended()[::2]), (script, replies, (status, "")))
+
+
+def random_replies_are_counted():
+    """Replies, aborts, replies with another function, which are discarded, and none."""
+    for number in range(12):
+        chance = Chance(f"answered {number}")
+        replies = [chance.choice([2, 2, 2, 2, 0, 4, None]) for _ in range(chance.one(1, 2, 4))]
+        peers = Listening()
+        options = ["--t3", "100", "--all-answered"]
+        serving = Serving("host", "active", peers.port, *options, script=len(replies) * b"S1F1 W .")
+        peer = peers.accepted()
+        peer.send(SELECTED)
+        peer.wants(SELECT)
+        for system, function in enumerate(replies, start=2):
+            peer.wants(data(1, 1, system, wait=True))
+            if function is not None:
+                peer.send(data(1, function, system))
+        peer.rest()
+        status, log, told = serving.ended()
+        passes(log)
+        same((replies, status, told), (replies, 0 if set(replies) == {2} else 1, ""))
+
+
+def replies_of_several_connections():
+    for replies, wanted in ((2, 0), (1, 1)):
+        peers = Listening()
+        options = ["--reconnect", "--connections", "2", "--t5", "50", "--all-answered"]
+        serving = Serving("host", "active", peers.port, *options, script=b"S1F1 W .")
+        for number in range(2):
+            peer = peers.next_one()
+            peer.send(SELECTED)
+            peer.wants(SELECT, data(1, 1, 2, wait=True))
+            if number < replies:
+                peer.send(data(1, 2, 2))
+                peer.rest()
+            else:
+                peer.close()
+        same(serving.ended()[::2], (wanted, ""))
+        peers.listener.close()
+
+
 def address_is_none():
     for address in ("127.0.0.256", "256.256.256.256", "192.0.2.1", "not an address", ""):
         refused(Serving("equipment", "passive", free_port(), address=address), 3, "Link")
 
 
+def script_has_comments():
+    """From `#` to the end of the line, but not in a quoted text; alone, after a message, in one, and at the end."""
+    peers = Listening()
+    script = b'# "a\nS1F1 W # .\n<A "#" 0x23 "#\\"># "\n. # "\nS1F3 W<L#\n>.\n#\n\n#S1F1 W .'
+    serving = Serving("host", "active", peers.port, script=script)
+    peer = peers.accepted()
+    peer.send(SELECTED)
+    peer.wants(SELECT, data(1, 1, 2, b"\x41\x04###\\", wait=True))
+    peer.send(data(1, 2, 2))
+    peer.wants(data(1, 3, 3, b"\x01\x00", wait=True))
+    peer.send(data(1, 4, 3))
+    same(peer.rest(), control(9, 4))
+    same(serving.ended()[::2], (0, ""))
+    ran = subprocess.run([PROGRAM, "encode"], input=script, capture_output=True, timeout=SOON)
+    same((ran.returncode, ran.stdout, ran.stderr), (2, b"", b"hsms: Syntax at=0\n"))
+
+
 def script_is_refused_before_the_connection():
     for script, words in (
+        (b"S1F1 W # .\n", "Syntax at=11"),
+        (b"# a comment\nS1F1 W <U1 256> .", "Number at=23"),
+        (b'S1F1 <A "#"> # "\n# "\nx', "Syntax at=21"),
+        (b'S1F1 <A "# \n"> .', "Syntax at=11"),
         (b"S1F1 W <U1 256> .", "Number at=11"),
         (b"S1F1 W .\nS1F1 W", "Syntax at=15"),
         (b"S1F1 <B [2] 0x00> .", "Count at=8"),
@@ -818,7 +989,8 @@ def command_line_is_refused():
         ("--linktest", ["-1", "3600001"]),
     ):
         lines += [WORDS + ["--reconnect", option, value] for value in values]
-    lines += [WORDS + [option, "x"] for option in ("--send", "--answer", "--all-sent")]
+    lines += [WORDS + [option, "x"] for option in ("--send", "--answer", "--all-sent", "--all-answered")]
+    lines += [WORDS + ["--port-file", "x"], WORDS + ["--port-file"]]
     lines += [WORDS + options for options in (["--once"], ["--connections", "1"], ["--t5", "10000"])]
     lines += [WORDS + ["--once", "--connections", "2", "--t5", "50"]]
     lines += [WORDS + ["--send=1"], WORDS + ["--t9", "1"], WORDS + ["--mdln"], WORDS + ["x"]]
@@ -831,7 +1003,8 @@ def help_tells_every_option():
     run = subprocess.run([PROGRAM, "serve", "--help"], capture_output=True, timeout=SOON)
     same((run.returncode, run.stderr), (0, b""))
     for word in (
-        "role link address port device t3 t6 t7 t8 max depth first-system turns mdln softrev send answer all-sent linktest reconnect once connections t5"
+        "role link address port port-file device t3 t6 t7 t8 max depth first-system turns mdln softrev send answer all-sent all-answered"
+        " linktest reconnect once connections t5"
     ).split():
         same((word, f"--{word} " in run.stdout.decode()), (word, True))
 
@@ -841,7 +1014,7 @@ def every_option_is_taken():
     serving = Serving(
         "equipment", "passive", port, "--device", "32767", "--t3", "3600000", "--t6", "1", "--t7", "2", "--t8", "3",
         "--max", "256", "--depth", "100", "--first-system", "4294967295", "--turns", "4294967295", "--mdln", "\u00e9",
-        "--softrev", "", "--linktest", "3600000", "--all-sent", address="localhost",
+        "--softrev", "", "--linktest", "3600000", "--all-sent", "--all-answered", address="localhost",
     )
     peer = Peer.connected(port)
     peer.rest()
@@ -1057,6 +1230,9 @@ TESTS = [
     script_is_not_sent,
     script_is_sent,
     scripts_of_several_connections,
+    replies_are_counted,
+    random_replies_are_counted,
+    replies_of_several_connections,
     host_answers_by_its_script,
     replies_are_given_in_turn,
     equipment_answers_by_its_script,
@@ -1069,6 +1245,7 @@ TESTS = [
     closed_before_it_is_answered,
     closed_while_a_reply_is_awaited,
     reset,
+    end_is_explained,
     never_connected,
     terminated,
     all_that_is_logged_arrives,
@@ -1078,7 +1255,10 @@ TESTS = [
     nobody_listens,
     numbers_at_their_limits,
     port_is_in_use,
+    port_is_any_free,
+    port_cannot_be_written,
     address_is_none,
+    script_has_comments,
     script_is_refused_before_the_connection,
     command_line_is_refused,
     help_tells_every_option,

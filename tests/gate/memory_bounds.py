@@ -19,6 +19,7 @@ sys.dont_write_bytecode = True
 sys.path.insert(0, os.path.abspath(f"{__file__}/../../.."))
 
 from tests.support.command import DRIVER, PROGRAM, Answer, answer_of, call_failer
+from tests.support.pcap_writer import ACK, ACTIVE, PUSH, SELECT, Capture, Talk
 from tests.support.reference.conversations import Maker, Told
 from tests.support.reference.endpoint_inputs import Answering, Listed
 from tests.support.reference.session import Settings
@@ -82,12 +83,26 @@ def connections(*ending):
     return f"hsms-log 2 host active 0 45000 6000 10000 5000 1048576 32\n{log}".encode()
 
 
+def far_ahead(place):
+    """A connection whose host sends one byte, this many bytes after a gap."""
+    talk = Talk(Capture())
+    talk.say(10, *SELECT[0])
+    talk.say(20, *SELECT[1])
+    talk.at(30)
+    talk.segment(ACTIVE, place, PUSH | ACK, b"\1")
+    return bytes(talk.capture.octets)
+
+
 def claims():
     verdict = Answer(1, b"fail line=5 rule=Text\n", b"")
     counts = f"entries={5 * CONNECTIONS} sent={2 * CONNECTIONS} taken={CONNECTIONS} discarded=0 expired=0 waiting=1"
     waits = Answer(0, f"pass {counts}\n".encode(), b"")
     too_long, cut_off = refused(f"TooLong length={0xFFFFFFFF}"), refused("CutOff")
     greatest = f"show --max {GREATEST}"
+    ends = [("host active", "sent=1 taken=1"), ("equipment passive", "sent=1 taken=1")]
+    lines = [f"10.0.0.1:40000 10.0.0.2:5000 {end}: incomplete packet=6 pass entries=3 {counts}" for end, counts in ends]
+    gap = "".join(f"{line} discarded=0 expired=0 waiting=0\n" for line in lines)
+    incomplete = Answer(2, gap.encode(), b"hsms: Lost packet=6\n")
     return [
         in_message("show --depth 100", "03ffffff" * 100),
         in_message("show --depth 100", "03ffffff"),
@@ -107,6 +122,7 @@ def claims():
         in_notation("encode", "S1F1 <L [18446744073709551615]> .", "Count at=8"),
         Claim("audit", f"{LOG}6 > {HEADER}{'03ffffff' * 100}\n".encode(), f"{LOG}6 > {HEADER}\n".encode(), verdict),
         Claim("audit", f"{LOG}6 > {HEADER}43ffffff41\n".encode(), f"{LOG}6 > {HEADER}\n".encode(), verdict),
+        Claim("capture", far_ahead(67_000_000), far_ahead(1), incomplete),
         Claim("audit", connections(), connections("< 000001020000{0:08x}"), waits),
         at_end(octets("ffffffff" + HEADER), octets("0000000b" + HEADER)),
         at_end(octets("02000000" + HEADER), octets("0000000b" + HEADER)),

@@ -21,6 +21,13 @@ use std::alloc::{AllocError, Global};
 // The maximum number of packets that wait for the sequence number of the passive end's SYN.
 const GREATEST_WAIT: usize = 4096;
 
+/// A captured TCP segment with its payload.
+#[derive(Clone, Copy)]
+pub struct CapturedSegment<'a> {
+    pub segment: Segment,
+    pub octets: &'a [u8],
+}
+
 /// The state of such a connection.
 #[derive(Drop)]
 pub enum ConnectionState {
@@ -52,22 +59,22 @@ impl ConnectionState {
         max: u32,
         pair: &Pair,
         syn: u32,
-        segment: Segment,
-        octets: &[u8],
+        packet: CapturedSegment<'_>,
         events: &mut Vec<Event>,
     ) -> Result<ConnectionState, AllocError>
-        ensures { IfOk result (λ state. TakesPacket max pair.now syn (seen_of segment octets.now) self state
-            events.old.items events.new.items) }
+        ensures { IfOk result (λ state. TakesPacket max pair.now syn
+            (seen_of packet.entry.segment packet.entry.octets.now) self state events.old.items events.new.items) }
     {
         match self {
             ConnectionState::Over => Ok(ConnectionState::Over),
             ConnectionState::Tracked(tracked) => {
+                let CapturedSegment { segment, octets } = packet;
                 let left = take(alloc, max, pair, tracked, segment, octets, events)?;
                 Ok(state_of(left))
             }
-            ConnectionState::Opening(waiting) => wait(
-                alloc, max, pair, syn, waiting, segment, octets, events,
-            ),
+            ConnectionState::Opening(waiting) => {
+                wait(alloc, max, pair, syn, waiting, packet, events)
+            }
         }
     }
 
@@ -145,13 +152,14 @@ fn wait(
     pair: &Pair,
     syn: u32,
     mut waiting: Vec<Waiting>,
-    segment: Segment,
-    octets: &[u8],
+    packet: CapturedSegment<'_>,
     events: &mut Vec<Event>,
 ) -> Result<ConnectionState, AllocError>
-    ensures { IfOk result (λ state. TakesPacket max pair.now syn (seen_of segment octets.now) (Opening waiting) state
+    ensures { IfOk result (λ state. TakesPacket max pair.now syn
+        (seen_of packet.entry.segment packet.entry.octets.now) (Opening waiting) state
         events.old.items events.new.items) }
 {
+    let CapturedSegment { segment, octets } = packet;
     let mut held = Vec::new(alloc);
     held.extend_from_slice(octets)?;
     waiting.push(Waiting {

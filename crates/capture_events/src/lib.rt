@@ -14,7 +14,7 @@ mod logging;
 mod tracked_connection;
 mod waiting;
 
-pub use connection_state::ConnectionState;
+pub use connection_state::{CapturedSegment, ConnectionState};
 pub use event::Event;
 pub use incomplete::Shortfall;
 pub use log_item::{EntryKind, LogItem};

@@ -1,6 +1,6 @@
 -- Contiguous bytes at the front, and cells after them.
-use Rattle.std.proofs.Common.{◌≡◌, ◌<◌, ◌≤◌, ◌+◌, ◌-◌, ◌++◌, ◌∷◌, ℕ, zero, suc, Bool, true, false, cond, List, [], length, max, min, drop, get_or, slice_get, slice_set, Option, Some, None, refl, sym, ap, ◌∙◌, arith, inl, inr, length-append, length-drop}
-use Rattle.std.proofs.lemmas.Bool.{cases_lt, le-leb}
+use Rattle.std.proofs.Common.{◌≡◌, ◌<◌, ◌≤◌, ◌+◌, ◌-◌, ◌++◌, ◌∷◌, ℕ, zero, suc, Bool, true, false, cond, List, [], length, max, min, drop, get_or, slice_get, Option, Some, None, refl, sym, ap, ◌∙◌, arith, inl, inr, length-append, length-drop}
+use Rattle.std.proofs.lemmas.Bool.{cases_lt, le-leb, lt-leb}
 use Rattle.std.proofs.Math.ListN.{get_or-eq_default}
 use Rattle.std.proofs.Math.Seq.{drop-length}
 use Rattle.std.proofs.lemmas.List.{append_assoc, append-nil, drop-append-le, drop-drop, get_or-drop, nil_from_length}
@@ -10,6 +10,7 @@ use Rattle.capture_tcp.specs.TcpStreams.{or_else}
 use Rattle.capture_tcp.specs.InnerReassembly.{IsStored, cell_from, held_of, octets_of}
 use Rattle.capture_tcp.specs.Cells.{Kept, all_of, some_octets}
 use Rattle.capture_tcp.specs.InnerCells.{Joins}
+use Rattle.capture_tcp.proofs.ApartRuns.{get_drop, late}
 
 pub length_some : (ns : List ℕ) → length (some_octets ns) ≡ length ns
 length_some [] = refl
@@ -50,42 +51,31 @@ lets_go k items left os gone count subsequent le is e f g =
     ∙ ap (λ (z : List (Option HeldCell)). some_octets (drop count k.octets) ++ z) (g ∙ ap (λ (j : ℕ). drop j k.others) (e ∙ ap (λ (z : List ℕ). count - length z) (sym is)))
     ∙ sym (drop_all count k.octets k.others)
 
--- ---- what is stored
-
-stores_front : (ns : List ℕ) (os : List (Option HeldCell)) (i : ℕ) (c : HeldCell) → i < length ns
-    → some_octets ns ++ os ≡ slice_set (some_octets ns ++ os) i (or_else (get_or (some_octets ns ++ os) i None) (Some c))
-stores_front [] os i c lt = absurd (omega (arith, lt))
-stores_front (n ∷ ns) os zero c lt = refl
-stores_front (n ∷ ns) os (suc i) c lt = ap (λ (z : List (Option HeldCell)). Some (held.Octet n) ∷ z) (stores_front ns os i c (omega (arith, lt)))
-
-pub appends_none : (k : Kept) (i : ℕ) (c : HeldCell) → i < length k.octets → all_of k ≡ slice_set (all_of k) i (or_else (get_or (all_of k) i None) (Some c))
-appends_none k i c lt = stores_front k.octets k.others i c lt
-
-after_front : (ns : List ℕ) (os : List (Option HeldCell)) (j i : ℕ) (c : HeldCell) → i ≡ length ns + j
-    → some_octets ns ++ slice_set os j (or_else (get_or os j None) (Some c)) ≡ slice_set (some_octets ns ++ os) i (or_else (get_or (some_octets ns ++ os) i None) (Some c))
-after_front [] os j i c e = let at : j ≡ i = omega (arith, e) in ap (λ (k : ℕ). slice_set os k (or_else (get_or os k None) (Some c))) at
-after_front (n ∷ ns) os j zero c e = absurd (omega (arith, e))
-after_front (n ∷ ns) os j (suc i) c e = ap (λ (z : List (Option HeldCell)). Some (held.Octet n) ∷ z) (after_front ns os j i c (omega (arith, e)))
-
-pub stores_after : (k : Kept) (new : List (Option HeldCell)) (i j : ℕ) (c : HeldCell) → i ≡ length k.octets + j → new ≡ slice_set k.others j (or_else (get_or k.others j None) (Some c))
-    → all_of (record { octets = k.octets; others = new }) ≡ slice_set (all_of k) i (or_else (get_or (all_of k) i None) (Some c))
-stores_after k new i j c e f = ap (λ (z : List (Option HeldCell)). some_octets k.octets ++ z) f ∙ after_front k.octets k.others j i c e
-
 -- ---- what is joined
 
 pub some_append : (ms ns : List ℕ) (os : List (Option HeldCell)) → some_octets (ms ++ ns) ++ os ≡ some_octets ms ++ (some_octets ns ++ os)
 some_append [] ns os = refl
 some_append (m ∷ ms) ns os = ap (λ (z : List (Option HeldCell)). Some (held.Octet m) ∷ z) (some_append ms ns os)
 
+pub first_of : (cells : List (Option HeldCell)) (c : HeldCell) → Some c ≡ get_or cells 0 None → (more : List (Option HeldCell)) × (cells ≡ Some c ∷ more)
+first_of [] c e = absurd cc
+first_of (o ∷ os) c e = (os, ap (λ (z : Option HeldCell). z ∷ os) (sym e))
+
+pub shorter : (cells left more : List (Option HeldCell)) (c : Option HeldCell) → cells ≡ c ∷ more → left ≡ drop 1 cells → length left < length cells
+shorter cells left more c e f =
+    let a : length cells ≡ suc (length more) = ap length e in
+    let b : length left ≡ length more = ap length (f ∙ ap (drop 1) e) in
+    omega (arith, a, b)
+
 pub joins_none : (ns : List ℕ) (os : List (Option HeldCell)) → Joins ns os ns os
 joins_none ns os = ([], sym (append-nil ns), refl)
 
 pub joins_one : (first : List ℕ) (cells : List (Option HeldCell)) (octets new : List ℕ) (others more left : List (Option HeldCell)) (n : ℕ) → Joins first cells octets others
-    → others ≡ Some (held.Octet n) ∷ more → new ≡ octets ++ n ∷ [] → left ≡ more → Joins first cells new left
+    → others ≡ Some (held.Octet n) ∷ more → new ≡ octets ++ n ∷ [] → left ≡ drop 1 others → Joins first cells new left
 joins_one first cells octets new others more left n j e f g = (
   j.0 ++ n ∷ [],
   f ∙ ap (λ (z : List ℕ). z ++ n ∷ []) j.1 ∙ append_assoc first j.0 (n ∷ []),
-  j.2 ∙ ap (λ (z : List (Option HeldCell)). some_octets j.0 ++ z) (e ∙ ap (λ (z : List (Option HeldCell)). Some (held.Octet n) ∷ z) (sym g))
+  j.2 ∙ ap (λ (z : List (Option HeldCell)). some_octets j.0 ++ z) (e ∙ ap (λ (z : List (Option HeldCell)). Some (held.Octet n) ∷ z) (sym (g ∙ ap (drop 1) e)))
       ∙ sym (some_append j.0 (n ∷ []) left),
 )
 
@@ -95,6 +85,34 @@ joined k items new left gone le is j =
     ap (λ (z : List ℕ). some_octets z ++ left) (ap (drop gone) j.1 ∙ drop-append-le gone items j.0 le)
     ∙ some_append (drop gone items) j.0 left ∙ ap (λ (z : List (Option HeldCell)). some_octets (drop gone items) ++ z) (sym j.2)
     ∙ ap (λ (z : List ℕ). some_octets z ++ k.others) (sym is)
+
+-- ---- cells of a packet
+
+pub length_all : (k : Kept) → length (all_of k) ≡ length k.octets + length k.others
+length_all k = let a = length-append (some_octets k.octets) k.others in let b = length_some k.octets in omega (arith, a, b)
+
+-- The cells without those before a base.
+skipped : (base place before j : ℕ) (cs rest : List HeldCell) → before ≡ min (base - place) (length cs) → rest ≡ drop before cs
+    → cell_from (place - base) rest (0 + j) ≡ cell_from place cs (base + j)
+skipped base place before j cs rest e f =
+    elim (cases_lt (base + j) place) [
+      | inl lt ↦ rw (lt-leb (place - base) (0 + j) (omega (arith, lt)), lt-leb place (base + j) lt) refl
+      | inr ge ↦
+          rw (le-leb (place - base) (0 + j) (omega (arith, ge)), le-leb place (base + j) ge)
+          (elim (cases_lt (length cs) (base - place)) [
+            | inl few ↦
+                let none : length rest ≡ 0 = (let long = length-drop before cs in let same : length rest ≡ length (drop before cs) = ap length f in omega (arith, long, same, e, few)) in
+                late rest (0 + j - (place - base)) (omega (arith, none)) ∙ sym (late cs (base + j - place) (omega (arith, few)))
+            | inr fits ↦ ap (λ (z : List HeldCell). slice_get z (0 + j - (place - base))) f ∙ get_drop before (0 + j - (place - base)) (base + j - place) cs (omega (arith, e, fits, ge))
+          ])
+    ]
+
+pub stored_from : (base place from : ℕ) (cs rest : List HeldCell) (first old new : List (Option HeldCell)) → old ≡ first → rest ≡ drop (min (base - place) (length cs)) cs
+    → from ≡ place - base → IsStored 0 from rest old new → IsStored base place cs first new
+stored_from base place from cs rest first old new same f e h i =
+    h i ∙ ap (λ (n : ℕ). or_else (get_or old i None) (cell_from n rest (0 + i))) e
+    ∙ ap (or_else (get_or old i None)) (skipped base place (min (base - place) (length cs)) i cs rest refl f)
+    ∙ ap (λ (z : List (Option HeldCell)). or_else (get_or z i None) (cell_from place cs (base + i))) same
 
 -- ---- bytes that follow
 
@@ -115,6 +133,36 @@ get_after (n ∷ ns) os zero le = absurd (omega (arith, le))
 get_after (n ∷ ns) os (suc i) le =
     let same : i - length ns ≡ suc i - length (n ∷ ns) = omega arith in
     get_after ns os i (omega (arith, le)) ∙ ap (λ (k : ℕ). get_or os k None) same
+
+or_assoc : (x y z : Option HeldCell) → or_else (or_else x y) z ≡ or_else x (or_else y z)
+or_assoc None y z = refl
+or_assoc (Some c) y z = refl
+
+-- Cells that are stored after the contiguous bytes.
+pub stored_after : (k : Kept) (new : List (Option HeldCell)) (cs rest : List HeldCell) (index run from : ℕ) → run ≡ length k.octets → rest ≡ drop (min (run - index) (length cs)) cs
+    → from ≡ index - run → IsStored 0 from rest k.others new → IsStored 0 index cs (all_of k) (all_of (record { octets = k.octets; others = new }))
+stored_after k new cs rest index run from e f g h i =
+    elim (cases_lt i run) [
+      | inl lt ↦
+          get_front k.octets new i (cell_from index cs (0 + i)) (omega (arith, e, lt))
+          ∙ sym (ap (λ (o : Option HeldCell). or_else o (cell_from index cs (0 + i))) (get_front k.octets k.others i None (omega (arith, e, lt)))
+          ∙ or_assoc (get_or (some_octets k.octets) i None) None (cell_from index cs (0 + i)))
+      | inr ge ↦
+          let at : run + (i - run) ≡ 0 + i = omega (arith, ge) in
+          let same : i - length k.octets ≡ i - run = omega (arith, e) in
+          get_after k.octets new i (omega (arith, e, ge)) ∙ ap (λ (n : ℕ). get_or new n None) same ∙ h (i - run)
+          ∙ ap (λ (n : ℕ). or_else (get_or k.others (i - run) None) (cell_from n rest (0 + (i - run)))) g
+          ∙ ap (or_else (get_or k.others (i - run) None)) (skipped run index (min (run - index) (length cs)) (i - run) cs rest refl f ∙ ap (cell_from index cs) at)
+          ∙ ap (λ (o : Option HeldCell). or_else o (cell_from index cs (0 + i))) (sym (get_after k.octets k.others i (omega (arith, e, ge)) ∙ ap (λ (n : ℕ). get_or k.others n None) same))
+    ]
+
+pub stored_few : (k : Kept) (new : List (Option HeldCell)) (cs rest : List HeldCell) (index run from : ℕ) → run ≡ length k.octets → rest ≡ drop (min (run - index) (length cs)) cs
+    → from ≡ index - run → length new ≤ max (length k.others) (from + length rest) → length (all_of (record { octets = k.octets; others = new })) ≤ max (length (all_of k)) (index + length cs)
+stored_few k new cs rest index run from e f g le =
+    let a = length_all k in
+    let b = length_all (record { octets = k.octets; others = new }) in
+    let c : length rest ≡ length cs - min (run - index) (length cs) = ap length f ∙ length-drop (min (run - index) (length cs)) cs in
+    omega (arith, a, b, c, e, g, le)
 
 some_drop : (k : ℕ) (ns : List ℕ) → some_octets (drop k ns) ≡ drop k (some_octets ns)
 some_drop zero ns = refl
@@ -173,9 +221,6 @@ pub stored_plain : (base place : ℕ) (syns fins : Bool) (octets : List ℕ) (fi
 stored_plain base place syns fins octets first old new e f same h i =
     h i ∙ ap (λ (z : List (Option HeldCell)). or_else (get_or z i None) (cell_from place (octets_of octets) (base + i))) same
     ∙ sym (ap (λ (z : List HeldCell). or_else (get_or first i None) (cell_from place z (base + i))) (plain_held syns fins octets e f))
-
-pub length_all : (k : Kept) → length (all_of k) ≡ length k.octets + length k.others
-length_all k = let a = length-append (some_octets k.octets) k.others in let b = length_some k.octets in omega (arith, a, b)
 
 pub appended_length : (old new : Kept) (octets : List ℕ) (base place k : ℕ) → old.others ≡ [] → place - base ≤ length old.octets
     → k ≡ min (min (base - place) (length octets) + (length old.octets - (place - base))) (length octets)

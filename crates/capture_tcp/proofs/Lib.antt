@@ -3,6 +3,7 @@ mod Arriving
 mod KeepAlives
 mod Awaited
 mod AfterOffsets
+mod ApartRuns
 mod CarriedBytes
 pub mod MonotonicTimes
 pub mod Connecting
@@ -15,6 +16,7 @@ mod StreamPrefixes
 mod ConnectedPackets
 mod KeptCells
 mod StoredCells
+mod StoredRuns
 pub mod LastingFacts
 pub mod Later
 mod Lists
@@ -40,5 +42,6 @@ mod EmittedMessages
 mod DeliveredPackets
 pub mod UpToDown
 mod Waited
+mod WaitingCells
 mod WatchedBytes
 mod CompleteStreams

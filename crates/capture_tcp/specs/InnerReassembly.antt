@@ -1,20 +1,12 @@
 -- What only contracts of private functions use, besides the definitions of `Reassembly`.
-use Rattle.std.specs.Prelude.{◌≡◌, ◌-◌, ◌+◌, ◌++◌, ◌∷◌, ◌&&◌, ◌||◌, ℕ, Bool, false, nat_le, nat_lt, if◌then◌else◌, List, [], map, get_or, slice_get, slice_set, Option, Some, None}
+use Rattle.std.specs.Prelude.{◌≡◌, ◌-◌, ◌+◌, ◌++◌, ◌∷◌, ◌&&◌, ◌||◌, ℕ, Bool, false, nat_le, if◌then◌else◌, List, [], map, get_or, slice_get, Option, Some, None}
 use Rattle.std.specs.Option.{option_map}
 use Rattle.capture_tcp.specs.declared.reassembly.Cell.{Cell as HeldCell}
 use Rattle.capture_tcp.specs.declared.reassembly.Cell.TheVariants as held
 use Rattle.capture_tcp.specs.TcpStreams.{or_else, is_other}
 use Rattle.capture_tcp.specs.Reassembly.{wire_cell}
 
--- ---- cells that are stored one after another
-
-abbrev pub stored_at : ℕ → ℕ → HeldCell → List (Option HeldCell) → List (Option HeldCell)
-stored_at base place c ss =
-    if nat_lt place base then ss else (slice_set ss (place - base) (or_else (get_or ss (place - base) None) (Some c)))
-
-unfoldable pub stored_all : ℕ → ℕ → List HeldCell → List (Option HeldCell) → List (Option HeldCell)
-stored_all base place [] ss = ss
-stored_all base place (c ∷ cs) ss = stored_all base (place + 1) cs (stored_at base place c ss)
+-- ---- cells that are stored
 
 abbrev pub flag_of : Bool → HeldCell → List HeldCell
 flag_of is_set c = if is_set then c ∷ [] else []
@@ -32,10 +24,6 @@ cell_from place cs n = if nat_le place n then slice_get cs (n - place) else None
 -- Holds if cells from an offset on are stored too, if the store starts at a base. A buffered cell stays unchanged.
 abbrev pub IsStored : ℕ → ℕ → List HeldCell → List (Option HeldCell) → List (Option HeldCell) → Type 0
 IsStored base place cs ss ts = (i : ℕ) → get_or ts i None ≡ or_else (get_or ss i None) (cell_from place cs (base + i))
-
--- Holds if these are the same cells. Missing cells may be written out.
-abbrev pub SameCells : List (Option HeldCell) → List (Option HeldCell) → Type 0
-SameCells ss ts = (i : ℕ) → get_or ts i None ≡ get_or ss i None
 
 -- ---- conflicting copies
 

@@ -30,6 +30,7 @@ pub mod Reassembly
 pub mod InnerReassembly
 pub mod Cells
 pub mod InnerCells
+pub mod InnerRuns
 pub mod InnerOutOfOrder
 pub mod Laws
 pub mod Entries

@@ -1,16 +1,14 @@
 //! Consecutive cells. The bytes at the front are contiguous.
 
-ghost use Rattle.std.specs.Prelude.{◌≡◌, ◌≤◌, ◌<◌, ◌∷◌, ◌⊎◌, List, OnOk, OnErr, IfSome, drop, get_or, slice_set, vec_len, None, Option, Some, ◌+◌, ◌++◌, max, [], length, true};
-ghost use Rattle.std.specs.VecDeque.{deque_len};
+ghost use Rattle.std.specs.Prelude.{◌≡◌, ◌≤◌, ◌∷◌, List, OnOk, OnErr, IfSome, drop, get_or, vec_len, None, Option, Some, ◌+◌, ◌-◌, ◌++◌, max, min, [], length, true};
 ghost use Rattle.capture_tcp.specs.Cells.{Kept, all_of};
 ghost use Rattle.capture_tcp.specs.InnerCells.{Joins};
-ghost use Rattle.capture_tcp.specs.InnerReassembly.{SameCells};
-ghost use Rattle.capture_tcp.specs.TcpStreams.{or_else};
+ghost use Rattle.capture_tcp.specs.InnerReassembly.{IsStored};
 ghost use Rattle.capture_tcp.specs.declared.reassembly.Cell.TheVariants.{Octet};
 
 use crate::reassembly::Cell;
+use crate::waiting_runs::WaitingRuns;
 use std::alloc::{AllocError, Global};
-use std::collections::VecDeque;
 use std::marker::Model;
 
 /// Consecutive cells: contiguous bytes at the front, which are appended, compared and cut out together, then cells of
@@ -20,13 +18,13 @@ pub(crate) struct Cells {
     octets: Vec<u8>,
     // This number of the bytes was dropped.
     gone: usize,
-    others: VecDeque<Option<Cell>>,
+    others: WaitingRuns,
 }
 
 impl Model for Cells {
     ghost Value = { Kept };
 
-    ghost view = { λ c. record { octets = drop c.gone c.octets.items; others = c.others.items } };
+    ghost view = { λ c. record { octets = drop c.gone c.octets.items; others = c.others } };
 
     ghost invariant = { λ c. c.gone ≤ vec_len c.octets };
 }
@@ -39,7 +37,7 @@ impl Cells {
         Cells {
             octets: Vec::new(alloc),
             gone: 0,
-            others: VecDeque::new(alloc),
+            others: WaitingRuns::new(alloc),
         }
     }
 
@@ -60,10 +58,10 @@ impl Cells {
     }
 
     /// Returns the number of cells, including the missing ones between them.
-    pub fn len(&self) -> usize
+    pub fn len(&self) -> u64
         ensures { result ≡ length (all_of self.now) }
     {
-        self.octets.len() - self.gone + self.others.len()
+        (self.octets.len() - self.gone) as u64 + self.others.len()
     }
 
     /// Returns the cell at an index. Returns `None` if it is missing.
@@ -74,39 +72,34 @@ impl Cells {
         if index < run.len() as u64 {
             return Some(Cell::Octet(run[index as usize]));
         }
-        other_at(&self.others, index - run.len() as u64)
+        self.others.get(index - run.len() as u64)
     }
 
-    /// Stores a cell at an index, if the cell there is missing.
-    #[tactic(auto, using(crate::proofs::ConnectedPackets::appends_none, crate::proofs::ConnectedPackets::stores_after))]
-    pub fn append_chunk(&mut self, index: usize, cell: Cell)
-        requires { index < length (all_of self.old) }
-        ensures { all_of self.new ≡ slice_set (all_of self.old) index (or_else (get_or (all_of self.old) index None) (Some cell)) }
-    {
-        if let Some(subsequent) = index.checked_sub(self.run().len()) {
-            write_other(&mut self.others, subsequent, cell);
-        }
+    /// Returns the allocator.
+    pub fn allocator(&self) -> Global {
+        *self.octets.allocator()
     }
 
-    /// Extends the sequence to the given number of cells. A failed allocation changes nothing.
-    pub fn widen(&mut self, count: usize) -> Result<(), AllocError>
-        ensures ok { OnOk result (SameCells (all_of self.old) (all_of self.new)) }
-        ensures room { OnOk result (count ≤ length (all_of self.new)) }
-        ensures few { OnOk result (length (all_of self.new) ≤ max (length (all_of self.old)) count) }
+    /// Stores cells from an index on. A stored cell stays unchanged. A failed allocation changes nothing.
+    #[tactic(auto, using(crate::proofs::ConnectedPackets::length_all))]
+    pub fn put(&mut self, index: u64, cells: &[Cell]) -> Result<(), AllocError>
+        ensures ok { OnOk result (IsStored 0 index cells.now (all_of self.old) (all_of self.new)) }
+        ensures few { OnOk result (length (all_of self.new) ≤ max (length (all_of self.old)) (index + length cells.now)) }
         ensures err { OnErr result (self.new ≡ self.old) }
     {
-        let requested = count.saturating_sub(self.run().len());
-        widen(&mut self.others, requested)
+        let run = self.run().len();
+        let rest = cells_after(cells, index, run as u64);
+        self.others.put(index.saturating_sub(run as u64), rest)
     }
 
     /// Drops the given number of cells from the front.
     #[tactic(auto, using(crate::proofs::ConnectedPackets::lets_go))]
-    pub fn let_go(&mut self, count: usize)
+    pub fn let_go(&mut self, count: u64)
         ensures { all_of self.new ≡ drop count (all_of self.old) }
     {
-        let subsequent = count.saturating_sub(self.run().len());
-        self.gone = settle(&mut self.octets, self.gone + (count - subsequent));
-        let_go(&mut self.others, subsequent);
+        let subsequent = count.saturating_sub(self.run().len() as u64);
+        self.gone = settle(&mut self.octets, self.gone + (count - subsequent) as usize);
+        self.others.drop_front(subsequent);
     }
 
     /// Moves the bytes that follow the front to the contiguous bytes there. The cells stay the same, also if an
@@ -127,40 +120,13 @@ impl Cells {
     }
 }
 
-// Returns the cell at an index of those after the bytes. Returns `None` if it is missing.
-#[tactic(auto, using(crate::proofs::StoredCells::is_there, crate::proofs::StoredCells::not_there))]
-fn other_at(others: &VecDeque<Option<Cell>>, index: u64) -> Option<Cell>
-    ensures { result ≡ get_or others.now.items index None }
+/// Returns the cells from an offset on that come at another offset or after it.
+pub(crate) fn cells_after(cells: &[Cell], place: u64, base: u64) -> &[Cell]
+    ensures { result.now ≡ drop (min (base - place) (length cells.now)) cells.now }
 {
-    if index >= others.len() as u64 {
-        return None;
-    }
-    others[index as usize]
-}
-
-// Stores a cell at an index of those after the bytes, if the cell there is missing.
-fn write_other(others: &mut VecDeque<Option<Cell>>, index: usize, cell: Cell)
-    requires { index < deque_len others.old }
-    ensures { others.new.items ≡ slice_set others.old.items index (or_else (get_or others.old.items index None) (Some cell)) }
-{
-    if others[index].is_none() {
-        others[index] = Some(cell);
-    }
-}
-
-// Extends the cells to the given number. A failed allocation changes nothing.
-#[tactic(auto, using(crate::proofs::StoredCells::one_more_room, crate::proofs::StoredCells::same_cells))]
-fn widen(cells: &mut VecDeque<Option<Cell>>, count: usize) -> Result<(), AllocError>
-    ensures ok { OnOk result (SameCells cells.old.items cells.new.items) }
-    ensures room { OnOk result (count ≤ deque_len cells.new) }
-    ensures few { OnOk result ((deque_len cells.new ≤ deque_len cells.old) ⊎ (deque_len cells.new ≡ count)) }
-    ensures err { OnErr result (cells.new.items ≡ cells.old.items) }
-{
-    cells.reserve(count.saturating_sub(cells.len()))?;
-    while cells.len() < count {
-        cells.push_back_reserved(None);
-    }
-    Ok(())
+    let before = base.saturating_sub(place).min(cells.len() as u64);
+    let (_, rest) = cells.split_at(before as usize);
+    rest
 }
 
 // Moves the bytes to the front, if no more are left than were dropped. Returns the number of dropped bytes that are
@@ -179,36 +145,25 @@ fn settle(octets: &mut Vec<u8>, gone: usize) -> usize
     0
 }
 
-// Drops the given number of cells from the front.
-#[tactic(auto, using(crate::proofs::StoredCells::one_consumed))]
-fn let_go(cells: &mut VecDeque<Option<Cell>>, count: usize)
-    ensures { cells.new.items ≡ drop count cells.old.items }
-{
-    let mut left: usize = count;
-    while left > 0 {
-        cells.pop_front();
-        left -= 1;
-    }
-}
-
 // Appends bytes from the front of the cells to others, up to a missing cell or one that is not a byte.
-#[tactic(auto, using(crate::proofs::ConnectedPackets::joins_none, crate::proofs::ConnectedPackets::joins_one))]
-fn join(octets: &mut Vec<u8>, cells: &mut VecDeque<Option<Cell>>) -> Result<(), AllocError>
-    ensures { Joins octets.old.items cells.old.items octets.new.items cells.new.items }
+#[tactic(auto, using(crate::proofs::ConnectedPackets::joins_none, crate::proofs::ConnectedPackets::joins_one, crate::proofs::ConnectedPackets::shorter))]
+fn join(octets: &mut Vec<u8>, cells: &mut WaitingRuns) -> Result<(), AllocError>
+    ensures { Joins octets.old.items cells.old octets.new.items cells.new }
 {
     while let Some(octet) = first_octet(cells) {
         octets.push(octet)?;
-        cells.pop_front();
+        cells.drop_front(1);
     }
     Ok(())
 }
 
 // Returns the byte at the front of the cells. Returns `None` if the first cell is not a byte.
-fn first_octet(cells: &VecDeque<Option<Cell>>) -> Option<u8>
-    ensures { IfSome result (λ octet. (more : List (Option Cell)) × (cells.now.items ≡ Some (Octet octet) ∷ more)) }
+#[tactic(auto, using(crate::proofs::ConnectedPackets::first_of))]
+fn first_octet(cells: &WaitingRuns) -> Option<u8>
+    ensures { IfSome result (λ octet. (more : List (Option Cell)) × (cells.now ≡ Some (Octet octet) ∷ more)) }
 {
-    match cells.front() {
-        Some(Some(Cell::Octet(octet))) => Some(*octet),
-        Some(Some(Cell::Syn | Cell::Fin)) | Some(None) | None => None,
+    match cells.get(0) {
+        Some(Cell::Octet(octet)) => Some(octet),
+        Some(Cell::Syn | Cell::Fin) | None => None,
     }
 }

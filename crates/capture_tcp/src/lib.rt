@@ -32,8 +32,10 @@ mod out_of_order;
 mod packet;
 mod reader_state;
 mod reassembly;
+mod runs;
 mod stream_offset;
 mod streams;
+mod waiting_runs;
 
 pub use connection::{Connection, ConnectionFault};
 pub use delivery::{DeliveryFault, DeliveryQueue};

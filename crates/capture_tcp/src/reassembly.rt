@@ -1,9 +1,9 @@
 //! The cells of one direction by offset.
 
-ghost use Rattle.std.specs.Prelude.{◌≡◌, ◌≤◌, ◌<◌, ◌+◌, ◌^◌, true, ◌-◌, max, take, false, [], IfSome, IfOk, None, OnOk, OnErr, drop, get_or, length, List, Err};
+ghost use Rattle.std.specs.Prelude.{◌≡◌, ◌≤◌, ◌<◌, ◌+◌, ◌++◌, ◌^◌, true, ◌-◌, max, take, false, [], IfSome, IfOk, None, OnOk, OnErr, drop, get_or, length, List, Err};
 ghost use Rattle.capture_tcp.specs.Cells.{all_of};
 ghost use Rattle.capture_tcp.specs.Reassembly.{in_piece, Store, CellIs, EndsFar, IsFront, IsPiece, IsStoreOf, PutsIn, ReturnsConflict};
-ghost use Rattle.capture_tcp.specs.InnerReassembly.{IsStored, differs, differs_at, flag_of, further, held_of, is_another, stored_all, stored_at, octet_in, octets_of};
+ghost use Rattle.capture_tcp.specs.InnerReassembly.{IsStored, differs, differs_at, flag_of, further, held_of, is_another, octet_in, octets_of};
 ghost use Rattle.capture_tcp.specs.Message.{cells_to, message_size, octets_after, cells_of};
 ghost use Rattle.capture_tcp.specs.DataOnly.{AreOctetsFrom};
 ghost use Rattle.capture_tcp.specs.InnerDataOnly.{HeadSays, IsLonger, flags_end};
@@ -12,7 +12,7 @@ ghost use Rattle.capture_tcp.specs.TcpStreams.{End, Placed};
 ghost use Rattle.capture_tcp.specs.declared.reassembly.ReassemblyFault.TheVariants.{Memory, Full};
 ghost use Rattle.capture_tcp.specs.WithinWindow.{StaysNear};
 
-use crate::cells::Cells;
+use crate::cells::{Cells, cells_after};
 use crate::keep_alive::Flags;
 use std::alloc::{AllocError, Global};
 use std::marker::Model;
@@ -126,14 +126,7 @@ impl ReassemblyBuffer {
         if requested > MOST {
             return Err(ReassemblyFault::Full);
         }
-        hold(
-            &mut self.cells,
-            self.place,
-            requested as usize,
-            place,
-            flags,
-            octets,
-        )?;
+        hold(&mut self.cells, self.place, place, flags, octets)?;
         self.octets_from = self.octets_from.max(flags_end(flags, end));
         Ok(())
     }
@@ -145,10 +138,8 @@ impl ReassemblyBuffer {
         ensures held { (ps : List Placed) (d : End) → IsStoreOf self.old ps d → IsStoreOf self.new ps d }
         ensures few { length self.new.cells ≡ length self.old.cells - (place - self.old.place) }
     {
-        let count = place
-            .saturating_sub(self.place)
-            .min(self.cells.len() as u64);
-        self.cells.let_go(count as usize);
+        let count = place.saturating_sub(self.place).min(self.cells.len());
+        self.cells.let_go(count);
         self.place = self.place.max(place);
     }
 
@@ -260,29 +251,27 @@ fn count_of(flags: Flags, octets: &[u8]) -> u64
     u64::from(flags.syn) + octets.len() as u64 + u64::from(flags.fin)
 }
 
-// Buffers what a packet carries, from an offset on, with capacity for the given number of cells. A failed allocation
-// changes nothing.
+// Buffers what a packet carries, from an offset on. A failed allocation changes nothing.
+#[tactic(auto, using(crate::proofs::StoredCells::held_length))]
 fn hold(
     cells: &mut Cells,
     base: u64,
-    room: usize,
     place: u64,
     flags: Flags,
     octets: &[u8],
 ) -> Result<(), AllocError>
-    requires room { place + length (held_of flags.syn octets.now flags.fin) ≤ base + room }
-    requires end { place + length (held_of flags.syn octets.now flags.fin) < 2 ^ 64 }
+    requires { place + length (held_of flags.syn octets.now flags.fin) < 2 ^ 64 }
     ensures ok { OnOk result (IsStored base place (held_of flags.syn octets.now flags.fin) (all_of cells.old) (all_of cells.new)) }
-    ensures few { OnOk result (length (all_of cells.new) ≤ max (length (all_of cells.old)) room) }
+    ensures few { OnOk result (length (all_of cells.new) ≤ max (length (all_of cells.old)) (place + length (held_of flags.syn octets.now flags.fin) - base)) }
     ensures err { OnErr result (all_of cells.new ≡ all_of cells.old) }
 {
     cells.join()?;
     if follows(cells, base, place, flags) {
         return append(cells, base, place, octets);
     }
-    cells.widen(room)?;
-    store_all(cells, base, place, flags, octets);
-    Ok(())
+    let carried = carried_cells(cells.allocator(), flags, octets)?;
+    let rest = cells_after(&carried, place, base);
+    cells.put(place.saturating_sub(base), rest)
 }
 
 // Returns true if the packet carries bytes alone, and all buffered cells are bytes without a gap up to the packet's
@@ -312,65 +301,40 @@ fn append(cells: &mut Cells, base: u64, place: u64, octets: &[u8]) -> Result<(),
     cells.append(new)
 }
 
-// Stores what a packet carries, from its offset on.
-#[tactic(auto, using(crate::proofs::StoredCells::in_parts, crate::proofs::StoredCells::held_length))]
-fn store_all(cells: &mut Cells, base: u64, place: u64, flags: Flags, octets: &[u8])
-    requires room { place + length (held_of flags.syn octets.now flags.fin) ≤ base + length (all_of cells.old) }
-    requires end { place + length (held_of flags.syn octets.now flags.fin) < 2 ^ 64 }
-    ensures items { all_of cells.new ≡ stored_all base place (held_of flags.syn octets.now flags.fin) (all_of cells.old) }
-    ensures len { length (all_of cells.new) ≡ length (all_of cells.old) }
+// Returns the cells that a packet carries.
+#[tactic(auto, using(crate::proofs::StoredCells::carried_is))]
+fn carried_cells(alloc: Global, flags: Flags, octets: &[u8]) -> Result<Vec<Cell>, AllocError>
+    ensures { IfOk result (λ cells. cells.items ≡ held_of flags.syn octets.now flags.fin) }
 {
-    let first = store_flag(cells, base, place, flags.syn, Cell::Syn);
-    let subsequent = append_octets(cells, base, first, octets);
-    store_flag(cells, base, subsequent, flags.fin, Cell::Fin);
+    let count = usize::from(flags.syn) + octets.len() + usize::from(flags.fin);
+    let mut cells = Vec::with_capacity(alloc, count)?;
+    append_flag(&mut cells, flags.syn, Cell::Syn)?;
+    append_octets(&mut cells, octets)?;
+    append_flag(&mut cells, flags.fin, Cell::Fin)?;
+    Ok(cells)
 }
 
-// Stores a cell, if its flag is set. Returns the offset after it.
-#[tactic(auto, using(crate::proofs::StoredCells::appends_none, crate::proofs::StoredCells::stores_one))]
-fn store_flag(cells: &mut Cells, base: u64, place: u64, is_set: bool, cell: Cell) -> u64
-    requires room { place + length (flag_of is_set cell) ≤ base + length (all_of cells.old) }
-    requires end { place + length (flag_of is_set cell) < 2 ^ 64 }
-    ensures items { all_of cells.new ≡ stored_all base place (flag_of is_set cell) (all_of cells.old) }
-    ensures len { length (all_of cells.new) ≡ length (all_of cells.old) }
-    ensures subsequent { result ≡ place + length (flag_of is_set cell) }
+// Appends a cell, if its flag is set.
+fn append_flag(cells: &mut Vec<Cell>, is_set: bool, cell: Cell) -> Result<(), AllocError>
+    ensures { OnOk result (cells.new.items ≡ cells.old.items ++ flag_of is_set cell) }
 {
     if is_set {
-        store_at(cells, base, place, cell);
-        return place + 1;
+        cells.push(cell)?;
     }
-    place
+    Ok(())
 }
 
-// Stores bytes from an offset on. Returns the offset after them.
-#[tactic(auto, using(crate::proofs::StoredCells::appends_next, crate::proofs::StoredCells::appends_all))]
-fn append_octets(cells: &mut Cells, base: u64, place: u64, octets: &[u8]) -> u64
-    requires room { place + length octets.now ≤ base + length (all_of cells.old) }
-    requires end { place + length octets.now < 2 ^ 64 }
-    ensures items { all_of cells.new ≡ stored_all base place (octets_of octets.now) (all_of cells.old) }
-    ensures len { length (all_of cells.new) ≡ length (all_of cells.old) }
-    ensures subsequent { result ≡ place + length octets.now }
+// Appends a cell for each byte.
+#[tactic(auto, using(crate::proofs::StoredCells::octets_next, crate::proofs::StoredCells::octets_end))]
+fn append_octets(cells: &mut Vec<Cell>, octets: &[u8]) -> Result<(), AllocError>
+    ensures { OnOk result (cells.new.items ≡ cells.old.items ++ octets_of octets.now) }
 {
-    let mut place = place;
     let mut rest = octets;
     while let Some((octet, more)) = rest.split_first() {
-        store_at(cells, base, place, Cell::Octet(*octet));
-        place += 1;
+        cells.push(Cell::Octet(*octet))?;
         rest = more;
     }
-    place
-}
-
-// Stores a cell at its offset, if none is buffered there and the offset is not before the first.
-#[tactic(auto, using(crate::proofs::StoredCells::appends_bytes, crate::proofs::StoredCells::stays, crate::proofs::StoredCells::passes))]
-fn store_at(cells: &mut Cells, base: u64, place: u64, cell: Cell)
-    requires { place < base + length (all_of cells.old) }
-    ensures items { all_of cells.new ≡ stored_at base place cell (all_of cells.old) }
-    ensures len { length (all_of cells.new) ≡ length (all_of cells.old) }
-{
-    if place < base {
-        return;
-    }
-    cells.append_chunk((place - base) as usize, cell);
+    Ok(())
 }
 
 // Returns true if a packet carries a conflicting cell.
@@ -446,7 +410,7 @@ fn others_differ(cells: &Cells, base: u64, acknowledged: u64, place: u64, octets
     requires { place + length octets.now < 2 ^ 64 }
     ensures { result ≡ differs base acknowledged place (octets_of octets.now) (all_of cells.now) }
 {
-    if place.saturating_sub(base) >= cells.len() as u64 {
+    if place.saturating_sub(base) >= cells.len() {
         return false;
     }
     some_differs(cells, base, acknowledged, place, octets)
@@ -601,7 +565,7 @@ fn size_after(cells: &Cells, first: u64, index: u64, count: u64) -> Option<u64>
 fn cell_after(cells: &Cells, first: u64, index: u64) -> Option<Cell>
     ensures { result ≡ get_or (drop first (all_of cells.now)) index None }
 {
-    if index >= (cells.len() as u64).saturating_sub(first) {
+    if index >= cells.len().saturating_sub(first) {
         return None;
     }
     cells.get(first + index)

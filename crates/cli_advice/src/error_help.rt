@@ -378,6 +378,9 @@ fn device_advice(word: &str) -> &'static str {
         "Link" => {
             "the connection failed: the peer reset it, or accepted no data for T8. The log shows how far it got"
         }
+        "PortFile" => {
+            "cannot write the port to the file of --port-file: check its name and its permissions"
+        }
         "Turns" => "the turn limit was reached while the connection was up: raise --turns",
         _ => NO_ADVICE,
     }

@@ -31,6 +31,15 @@ use std::alloc::Global;
 // session came up that was running before.
 const MOST_STEPS: u64 = u64::MAX - 3;
 
+// A packet of a file.
+#[derive(Clone, Copy)]
+struct FilePacket<'a> {
+    // Its number, from 1.
+    number: u64,
+    header: Record,
+    octets: &'a [u8],
+}
+
 /// Reads a capture (pcap or pcapng) once, packet by packet, and follows each TCP connection at a port. As soon as a
 /// connection is over it writes two lines, the verdicts of the audit on the logs of both of its ends, of which the active
 /// one is the first; or, where the options say so, it writes the log of one end, line by line. It says whether each log
@@ -121,9 +130,12 @@ fn read_all<R: Source, W: Sink>(
         match step {
             Step::Packet(number, record) => {
                 let octets = octets_of(&record, packets.octets());
-                let missing = take(
-                    alloc, sink, table, report, unjudged, number, &record, octets,
-                )?;
+                let packet = FilePacket {
+                    number,
+                    header: record,
+                    octets,
+                };
+                let missing = take(alloc, sink, table, report, unjudged, packet)?;
                 if missing.is_some() {
                     return Ok(missing);
                 }
@@ -143,21 +155,20 @@ fn take<W: Sink>(
     table: &mut Table,
     report: &mut Report,
     unjudged: &mut Unjudged,
-    packet: u64,
-    record: &Record,
-    octets: &[u8],
+    packet: FilePacket<'_>,
 ) -> Result<Option<Shortfall>, CaptureError>
     ensures error { IfErr result IsNoRead }
     ensures writes { (W.state sink.new).failures ≡ writes_after result (W.state sink.old).failures }
     ensures some { GrowsBySome (W.state sink.old).written (W.state sink.new).written }
     ensures lines { OnOk result (Writes report.old (W.state sink.old).written report.new (W.state sink.new).written) }
-    ensures deals { IfOk result (λ missing. PutsAsDealt packet «record».now octets.now missing table.old table.new
-        report.old report.new (W.state sink.old).written (W.state sink.new).written) }
+    ensures deals { IfOk result (λ missing. PutsAsDealt packet.entry.number packet.entry.header
+        packet.entry.octets.now missing table.old table.new report.old report.new
+        (W.state sink.old).written (W.state sink.new).written) }
     ensures unrefused { IfErr result (FailsUnrefused report.old) }
-    ensures refuses { IfErr result (λ fault. PutsAsRefused packet «record».now octets.now table.old report.old
-        (W.state sink.old).written (W.state sink.new).written fault) }
+    ensures refuses { IfErr result (λ fault. PutsAsRefused packet.entry.number packet.entry.header
+        packet.entry.octets.now table.old report.old (W.state sink.old).written (W.state sink.new).written fault) }
 {
-    let taken = take_packet(alloc, table, report, unjudged, packet, record, octets);
+    let taken = take_packet(alloc, table, report, unjudged, packet);
     report.put_out(sink)?;
     match taken {
         Ok(missing) => Ok(missing),
@@ -171,25 +182,24 @@ fn take_packet(
     table: &mut Table,
     report: &mut Report,
     unjudged: &mut Unjudged,
-    packet: u64,
-    record: &Record,
-    octets: &[u8],
+    packet: FilePacket<'_>,
 ) -> Result<Option<Shortfall>, Stop>
     ensures emitted { OnOk result (TellsBehind report.old report.new) }
-    ensures deals { IfOk result (λ missing. ShowsAsDealt packet «record».now octets.now missing table.old table.new
-        report.old report.new) }
+    ensures deals { IfOk result (λ missing. ShowsAsDealt packet.entry.number packet.entry.header
+        packet.entry.octets.now missing table.old table.new report.old report.new) }
     ensures unrefused { IfErr result (StopsUnrefused report.old) }
-    ensures refuses { IfErr result (λ stop. ShowsAsRefused packet «record».now octets.now table.old stop
-        report.old report.new) }
+    ensures refuses { IfErr result (λ stop. ShowsAsRefused packet.entry.number packet.entry.header
+        packet.entry.octets.now table.old stop report.old report.new) }
 {
-    match segment_of(record.link, octets) {
+    match segment_of(packet.header.link, packet.octets) {
         Shown::Segment(segment) => {
             let capture = Capture {
-                packet,
-                time: record.time,
-                octets: body_of(&segment, octets),
+                segment,
+                packet: packet.number,
+                time: packet.header.time,
+                octets: body_of(&segment, packet.octets),
             };
-            table.take(alloc, report, unjudged, &segment, capture)
+            table.take(alloc, report, unjudged, capture)
         }
         Shown::Other => Ok(None),
         Shown::LeftOut(reason) => {

@@ -12,7 +12,7 @@ ghost use Rattle.cli_capture.specs.InnerStopError.{IsRefused};
 ghost use Rattle.cli_capture.specs.InnerReport.{StopsUnrefused, Emits};
 
 use crate::report::Report;
-use crate::tracked_connection::{ConnectionState, Flow};
+use crate::tracked_connection::{CapturedSegment, ConnectionState, Flow};
 use capture_errors::Shortfall;
 use capture_log::{Pair, Stop, pairs_of};
 use capture_pcap as packets;
@@ -26,9 +26,10 @@ use std::net::IpAddr;
 // After how many later ones a connection is forgotten of which nothing is left to be told.
 const REMEMBERED: u64 = 4096;
 
-/// What is known of a packet besides its segment.
+/// A packet of a capture with a segment.
 #[derive(Clone, Copy)]
 pub struct Capture<'a> {
+    pub segment: packets::Segment,
     /// Its number, from 1.
     pub packet: u64,
     /// When it was captured, in milliseconds since 1970, if the file says so.
@@ -86,24 +87,21 @@ impl Table {
         alloc: Global,
         report: &mut Report,
         unjudged: &mut Unjudged,
-        segment: &packets::Segment,
         capture: Capture<'_>,
     ) -> Result<Option<Shortfall>, Stop>
         ensures emitted { OnOk result (Emits report.old report.new) }
-        ensures takes { IfOk result (λ missing. TakesPacket segment.now capture.entry missing self.old self.new
-            report.old report.new) }
-        ensures deals { IfOk result (λ missing. TakesAsDealt segment.now capture.entry missing self.old self.new
-            report.old report.new) }
+        ensures takes { IfOk result (λ missing. TakesPacket capture.entry.segment capture.entry missing
+            self.old self.new report.old report.new) }
+        ensures deals { IfOk result (λ missing. TakesAsDealt capture.entry.segment capture.entry missing
+            self.old self.new report.old report.new) }
         ensures unrefused { IfErr result (StopsUnrefused report.old) }
-        ensures refuses { IfErr result (λ stop. TakesAsRefused segment.now capture.entry self.old stop
-            report.old report.new) }
+        ensures refuses { IfErr result (λ stop. TakesAsRefused capture.entry.segment capture.entry
+            self.old stop report.old report.new) }
     {
-        match self.pair_of(segment) {
-            Some((pair, from)) => {
-                self.take_of(alloc, report, unjudged, pair, from, segment, capture)
-            }
+        match self.pair_of(&capture.segment) {
+            Some((pair, from)) => self.take_of(alloc, report, unjudged, pair, from, capture),
             None => {
-                unjudged.pass(segment, capture.octets)?;
+                unjudged.pass(&capture.segment, capture.octets)?;
                 Ok(None)
             }
         }
@@ -147,16 +145,16 @@ impl Table {
         unjudged: &mut Unjudged,
         pair: Pair,
         from: Side,
-        segment: &packets::Segment,
         capture: Capture<'_>,
     ) -> Result<Option<Shortfall>, Stop>
         ensures emitted { OnOk result (Emits report.old report.new) }
-        ensures takes { IfOk result (λ missing. TakesOf pair from segment.now capture.entry missing self.old self.new
-            report.old report.new) }
+        ensures takes { IfOk result (λ missing. TakesOf pair from capture.entry.segment capture.entry missing
+            self.old self.new report.old report.new) }
         ensures unrefused { IfErr result (StopsUnrefused report.old) }
-        ensures refuses { IfErr result (λ stop. TakesOfRefused pair from segment.now capture.entry self.old stop
-            report.old report.new) }
+        ensures refuses { IfErr result (λ stop. TakesOfRefused pair from capture.entry.segment capture.entry
+            self.old stop report.old report.new) }
     {
+        let segment = &capture.segment;
         let syn = self.new_syn(&pair, from, segment);
         let begins = syn.is_some() || self.joins(&pair, segment);
         if !begins && !self.is_live(&pair) {
@@ -172,7 +170,11 @@ impl Table {
         if begins {
             self.begin(alloc, report, unjudged, pair, syn)?;
         }
-        self.follow(alloc, report, unjudged, &pair, taken, capture.octets)?;
+        let packet = CapturedSegment {
+            segment: taken,
+            octets: capture.octets,
+        };
+        self.follow(alloc, report, unjudged, &pair, packet)?;
         Ok(None)
     }
 
@@ -333,21 +335,22 @@ impl Table {
         report: &mut Report,
         unjudged: &mut Unjudged,
         pair: &Pair,
-        segment: Segment,
-        octets: &[u8],
+        packet: CapturedSegment<'_>,
     ) -> Result<(), Stop>
         ensures emitted { OnOk result (Emits report.old report.new) }
-        ensures follows { OnOk result (FollowsFlow pair.now (record { segment = segment; octets = octets.now }) self.old self.new
+        ensures follows { OnOk result (FollowsFlow pair.now
+            (record { segment = packet.entry.segment; octets = packet.entry.octets.now }) self.old self.new
             report.old report.new) }
         ensures unrefused { IfErr result (StopsUnrefused report.old) }
         ensures refuses { IfErr result (λ stop. FollowsFlowRefused pair.now
-            (record { segment = segment; octets = octets.now }) self.old stop report.old report.new) }
+            (record { segment = packet.entry.segment; octets = packet.entry.octets.now }) self.old stop
+            report.old report.new) }
     {
         let Some(flow) = self.flows.get_mut(pair) else {
             return Ok(());
         };
         let stage = mem::replace(&mut flow.stage, ConnectionState::Over);
-        flow.stage = stage.take(alloc, report, unjudged, pair, flow.syn, segment, octets)?;
+        flow.stage = stage.take(alloc, report, unjudged, pair, flow.syn, packet)?;
         Ok(())
     }
 }

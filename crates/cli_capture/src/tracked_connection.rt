@@ -58,6 +58,13 @@ pub enum ConnectionState {
     Over,
 }
 
+/// A segment with its octets.
+#[derive(Clone, Copy)]
+pub struct CapturedSegment<'a> {
+    pub segment: Segment,
+    pub octets: &'a [u8],
+}
+
 /// A packet that waits.
 #[derive(Drop)]
 pub struct Waiting {
@@ -157,22 +164,22 @@ impl ConnectionState {
         unjudged: &mut Unjudged,
         pair: &Pair,
         syn: Option<u32>,
-        segment: Segment,
-        octets: &[u8],
+        packet: CapturedSegment<'_>,
     ) -> Result<ConnectionState, Stop>
         ensures emitted { OnOk result (Emits report.old report.new) }
-        ensures takes { IfOk result (λ stage.
-            TakesStage pair.now syn (seen_of segment octets.now) self stage report.old report.new) }
-        ensures logged { IfOk result (λ stage.
-            TakesOnPage pair.now syn (seen_of segment octets.now) self stage report.old report.new) }
+        ensures takes { IfOk result (λ stage. TakesStage pair.now syn
+            (seen_of packet.entry.segment packet.entry.octets.now) self stage report.old report.new) }
+        ensures logged { IfOk result (λ stage. TakesOnPage pair.now syn
+            (seen_of packet.entry.segment packet.entry.octets.now) self stage report.old report.new) }
         ensures joined { IfOk result (λ stage.
-            TakesJoined pair.now segment octets.now self stage report.old report.new) }
+            TakesJoined pair.now packet.entry.segment packet.entry.octets.now self stage report.old report.new) }
         ensures unrefused { IfErr result (StopsUnrefused report.old) }
-        ensures refuses { IfErr result (λ stop.
-            TakesRefused pair.now syn (seen_of segment octets.now) self stop report.old report.new) }
+        ensures refuses { IfErr result (λ stop. TakesRefused pair.now syn
+            (seen_of packet.entry.segment packet.entry.octets.now) self stop report.old report.new) }
         ensures refuses_joined { IfErr result (λ stop.
-            TakesJoinedRefused pair.now segment octets.now self stop report.old report.new) }
+            TakesJoinedRefused pair.now packet.entry.segment packet.entry.octets.now self stop report.old report.new) }
     {
+        let CapturedSegment { segment, octets } = packet;
         match self {
             ConnectionState::Over => Ok(ConnectionState::Over),
             ConnectionState::Open(open) => {

@@ -10,10 +10,11 @@ use Rattle.hsms_compare_logs.specs.declared.pair_verdict.PairVerdict.{PairVerdic
 use Rattle.hsms_compare_logs.specs.declared.pair_verdict.PairVerdict.TheVariants.{Agree, Disagree, Undecided}
 use Rattle.hsms_compare_logs.specs.declared.read_log.ReadLog.{ReadLog}
 use Rattle.hsms_compare_logs.specs.Comparison.{AreCompared, AreNotCompared}
-use Rattle.hsms_compare_logs.specs.PairVerdicts.{are_paired, told, verdict_of}
+use Rattle.hsms_compare_logs.specs.PairVerdicts.{are_paired, failed_count, told, verdict_of}
 use Rattle.cli_compare.specs.declared.compare_error.CompareError.{CompareError}
 use Rattle.cli_compare.specs.declared.compare_error.CompareError.TheVariants as error
 use Rattle.cli_compare.specs.FactLines.{fact_lines, line_words, order_line}
+use Rattle.cli_compare.specs.FailureLines.{failure_lines}
 
 -- ---- the pair
 
@@ -38,9 +39,14 @@ told_lines c =
     fact_lines (codes "host") (codes "equipment") c.facts.to_equipment.items
     ++ fact_lines (codes "equipment") (codes "host") c.facts.to_host.items ++ order_line c.contradiction
 
+-- The lines of its failed requests: the host's, then those of equipment.
+abbrev pub request_lines : LogComparison → List ℕ
+request_lines c =
+    failure_lines (codes "host") c.failures.of_host.items ++ failure_lines (codes "equipment") c.failures.of_equipment.items
+
 -- The lines of a pair.
 abbrev pub pair_lines : LogComparison → List ℕ
-pair_lines c = if are_paired c then connection_line c ++ told_lines c else []
+pair_lines c = if are_paired c then connection_line c ++ told_lines c ++ request_lines c else []
 
 -- ---- the verdict
 
@@ -69,7 +75,8 @@ unfoldable pub verdict_words : PairVerdict → Bool → List ℕ
 verdict_words verdict paired = verdict_word verdict ++ codes " connections=" ++ decimal (pair_count paired)
 
 abbrev pub verdict_line : LogComparison → List ℕ
-verdict_line c = verdict_words (verdict_of c) (are_paired c) ++ counts_words c ++ 10 ∷ []
+verdict_line c =
+    verdict_words (verdict_of c) (are_paired c) ++ counts_words c ++ count_words (codes "failed") (failed_count c) ++ 10 ∷ []
 
 -- ---- all
 

@@ -1,3 +1,4 @@
 pub mod CompareErrors
 pub mod FactLines
+pub mod FailureLines
 pub mod Comparison

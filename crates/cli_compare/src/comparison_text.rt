@@ -2,9 +2,10 @@
 
 ghost use Rattle.std.specs.Prelude.{◌≡◌, ◌++◌, ◌∷◌, [], OnOk, IfOk, codes, string_bytes};
 ghost use Rattle.cli_output.specs.Verdict.{verdict_line_of};
-ghost use Rattle.cli_compare.specs.Comparison.{comparison_text as text_of, connection_line, connection_words, count_words, counts_words, number_of as number_or_zero, pair_count as pairs, pair_lines, told_lines, verdict_words, verdict_line as verdict_line_by, verdict_word as word_of};
+ghost use Rattle.cli_compare.specs.Comparison.{comparison_text as text_of, connection_line, connection_words, count_words, counts_words, number_of as number_or_zero, pair_count as pairs, pair_lines, request_lines, told_lines, verdict_words, verdict_line as verdict_line_by, verdict_word as word_of};
 
 use crate::fact_lines::{push_facts, push_order};
+use crate::failure_lines::push_failures;
 use cli_output::verdict_line;
 use hsms_compare_logs::{FactKind, LogComparison, PairVerdict, ReadLog};
 use hsms_log::Verdict;
@@ -15,7 +16,7 @@ pub fn comparison_text(alloc: Global, comparison: &LogComparison) -> Result<Stri
     ensures { IfOk result (λ text. string_bytes text ≡ text_of comparison.now) }
 {
     let mut text = String::new(alloc);
-    push_pair(&mut text, comparison)?;
+    push_pair(alloc, &mut text, comparison)?;
     push_audit(alloc, &mut text, "host: ", comparison.host.verdict)?;
     push_audit(
         alloc,
@@ -28,14 +29,15 @@ pub fn comparison_text(alloc: Global, comparison: &LogComparison) -> Result<Stri
 }
 
 /// Appends the lines of the pair, if the connections are compared.
-fn push_pair(text: &mut String, comparison: &LogComparison) -> Result<(), AllocError>
+fn push_pair(alloc: Global, text: &mut String, comparison: &LogComparison) -> Result<(), AllocError>
     ensures { OnOk result (string_bytes text.new ≡ string_bytes text.old ++ pair_lines comparison.now) }
 {
     if !comparison.is_pair() {
         return Ok(());
     }
     push_connections(text, comparison)?;
-    push_told(text, comparison)
+    push_told(text, comparison)?;
+    push_requests(alloc, text, comparison)
 }
 
 /// Appends the line of both connections.
@@ -63,6 +65,23 @@ fn push_told(text: &mut String, comparison: &LogComparison) -> Result<(), AllocE
         comparison.facts.to_host.as_slice(),
     )?;
     push_order(text, &comparison.contradiction)
+}
+
+/// Appends the lines of the failed requests of both ends.
+fn push_requests(
+    alloc: Global,
+    text: &mut String,
+    comparison: &LogComparison,
+) -> Result<(), AllocError>
+    ensures { OnOk result (string_bytes text.new ≡ string_bytes text.old ++ request_lines comparison.now) }
+{
+    push_failures(alloc, text, "host", comparison.failures.of_host.as_slice())?;
+    push_failures(
+        alloc,
+        text,
+        "equipment",
+        comparison.failures.of_equipment.as_slice(),
+    )
 }
 
 /// Appends a log's first connection, between two texts.
@@ -116,6 +135,7 @@ fn push_verdict(text: &mut String, comparison: &LogComparison) -> Result<(), All
 {
     push_words(text, comparison.verdict(), comparison.is_pair())?;
     push_counts(text, comparison)?;
+    push_count(text, "failed", comparison.count_of_failed())?;
     text.push('\n')
 }
 

@@ -11,6 +11,7 @@ mod compare_error;
 mod comparing;
 mod comparison_text;
 mod fact_lines;
+mod failure_lines;
 
 pub use compare_error::{CompareError, fault_of};
 pub use comparing::compare_to;

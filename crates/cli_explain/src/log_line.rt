@@ -28,10 +28,27 @@ pub fn emit_line(
     match stage {
         Stage::Checked(known) => later_line(alloc, known, octets, report, line),
         Stage::Unjudged(before) => {
-            *stage = unjudged_line(alloc, report, *before, line)?;
-            Ok(())
+            let so_far = *before;
+            step_unjudged(alloc, stage, report, so_far, line)
         }
     }
+}
+
+// Writes the first line, or a line after an unreadable first line, and steps to the state after it. It is a function of its
+// own: the new state takes 2 kB of stack, which `emit_line` would clear for each line.
+fn step_unjudged(
+    alloc: Global,
+    stage: &mut Stage,
+    report: &mut Report,
+    so_far: u64,
+    line: &[u8],
+) -> Result<(), AllocError>
+    ensures shown_line { OnOk result ((before : List (List ℕ)) (real : List ℕ) → IsShown settings_limit real line.now
+        → UnjudgedAfter so_far report.old.tally before → ProcessedAfter stage.new report.new.tally (before ++ real ∷ [])) }
+    ensures shown { OnOk result (KeepsShown report.old report.new) }
+{
+    *stage = unjudged_line(alloc, report, so_far, line)?;
+    Ok(())
 }
 
 // Writes the first line, or a line after an unreadable first line.

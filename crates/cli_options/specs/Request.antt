@@ -185,4 +185,4 @@ IsWithinLimits (request.Report report) = Unit {0}
 IsWithinLimits (request.Explain excerpt) = IsExcerptWithinLimits excerpt
 IsWithinLimits request.Compare = Unit {0}
 IsWithinLimits (request.Capture capturing) = IsCapturingWithinLimits capturing
-IsWithinLimits (request.Serve service) = (1 ≤ service.port) × (service.port ≤ 65535)
+IsWithinLimits (request.Serve service) = service.port ≤ 65535

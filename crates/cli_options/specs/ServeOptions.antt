@@ -1,5 +1,5 @@
 -- The options of `hsms serve`, and what they request.
-use Rattle.std.specs.Prelude.{◌≡◌, ◌++◌, ◌||◌, ℕ, Bool, true, List, [], ◌∷◌, codes, Some, None, is_some, unwrap_or}
+use Rattle.std.specs.Prelude.{◌≡◌, ◌==◌, ◌++◌, ◌&&◌, ◌||◌, not, ℕ, Bool, true, List, [], ◌∷◌, codes, Some, None, is_some, option_map, unwrap_or}
 use Rattle.clap.specs.Words.{Row, Rule, Text, first_of}
 use Rattle.hsms_machine.specs.declared.settings.Role.{Role}
 use Rattle.hsms_machine.specs.declared.settings.Role.TheVariants.{Host, Equipment}
@@ -32,9 +32,9 @@ t8_number = time_number (codes "t8") 5000
 abbrev pub linktest_number : Number
 linktest_number = record { name = codes "linktest"; least = 0; greatest = 3600000; left_out = Some 0 }
 
--- A TCP port, which is required.
+-- A TCP port, which is required; 0 for any free one.
 abbrev pub port_number : Number
-port_number = record { name = codes "port"; least = 1; greatest = 65535; left_out = None }
+port_number = record { name = codes "port"; least = 0; greatest = 65535; left_out = None }
 
 -- The system bytes of the first own message.
 abbrev pub first_system_number : Number
@@ -54,7 +54,7 @@ connections_number = record { name = codes "connections"; least = 1; greatest = 
 abbrev pub connection_rules : List Rule
 connection_rules =
     needed_option (codes "role") ∷ needed_option (codes "link") ∷ needed_option (codes "address") ∷ option_of port_number
-    ∷ option_of device_number ∷ []
+    ∷ text_option (codes "port-file") ∷ option_of device_number ∷ []
 
 abbrev pub time_rules : List Rule
 time_rules = option_of t3_number ∷ option_of t6_number ∷ option_of t7_number ∷ option_of t8_number ∷ []
@@ -65,7 +65,8 @@ limit_rules = option_of linktest_number ∷ option_of max_number ∷ option_of d
 abbrev pub handler_rules : List Rule
 handler_rules =
     option_of first_system_number ∷ option_of turns_number ∷ text_option (codes "mdln") ∷ text_option (codes "softrev")
-    ∷ flag_option (codes "send") ∷ flag_option (codes "answer") ∷ flag_option (codes "all-sent") ∷ []
+    ∷ flag_option (codes "send") ∷ flag_option (codes "answer") ∷ flag_option (codes "all-sent")
+    ∷ flag_option (codes "all-answered") ∷ []
 
 abbrev pub again_rules : List Rule
 again_rules =
@@ -107,6 +108,18 @@ HasSettings rows s =
     × (first_of (codes "role") rows ≡ Some (role_word s.role)) × (first_of (codes "link") rows ≡ Some (side_word s.link))
     × HasNumbers rows s
 
+-- True if an end with this side can have this port, and a file for its port. Only a passive end has a file, or any free
+-- port.
+abbrev pub allows_port : Side → ℕ → Bool → Bool
+allows_port Passive port has_file = true
+allows_port Active port has_file = not (port == 0) && not has_file
+
+-- Holds if the matches have these settings and this port, and an end with the settings can have the port.
+abbrev pub HasEndpoint : List Row → Parameters → ℕ → Type 0
+HasEndpoint rows s port =
+    HasSettings rows s × (number_in port_number rows ≡ Some port)
+    × (allows_port s.link port (is_some (first_of (codes "port-file") rows)) ≡ true)
+
 -- True if the matches say something about further connections: that they have no script, how many there are, or after
 -- which time.
 abbrev pub limits_repeat : List Row → Bool
@@ -124,10 +137,11 @@ HasRepeat rows repeat =
 -- Holds if the matches request this service.
 abbrev pub AsksToServe : List Row → Service → Type 0
 AsksToServe rows service =
-    HasSettings rows service.settings × (first_of (codes "address") rows ≡ Some service.address.now)
-    × (number_in port_number rows ≡ Some service.port) × (number_in first_system_number rows ≡ Some service.first_system)
+    HasEndpoint rows service.settings service.port × (first_of (codes "address") rows ≡ Some service.address.now)
+    × (option_map (λ text. text.now) service.port_file ≡ first_of (codes "port-file") rows)
+    × (number_in first_system_number rows ≡ Some service.first_system)
     × (number_in turns_number rows ≡ Some service.turns) × (number_in linktest_number rows ≡ Some service.linktest)
     × HasRepeat rows service.repeat
     × (service.mdln.now ≡ text_in (codes "mdln") rows) × (service.softrev.now ≡ text_in (codes "softrev") rows)
     × IsFlag (codes "send") rows service.send × IsFlag (codes "answer") rows service.answer
-    × IsFlag (codes "all-sent") rows service.all_sent
+    × IsFlag (codes "all-sent") rows service.all_sent × IsFlag (codes "all-answered") rows service.all_answered

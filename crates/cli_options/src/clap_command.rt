@@ -107,9 +107,10 @@ const ENCODE_HELP: &str = help!(
 const SERVE_HELP: &str = help!(
     "The endpoint answers Select, Linktest, S1F1, S1F13 and S2F25 by itself; it rejects or aborts other messages.\n\n\
     Example: hsms serve --role equipment --link passive --address 127.0.0.1 --port 5000 > equipment.log\n\n\
-    Exit status: 0 the connection was served to its end; 1 not all messages were sent (--all-sent); 2 invalid command line\n\
-    or script (Input, Syntax, Number, Count, Deep); 3 no connection or a broken one (Link), log write error (Log), turn\n\
-    limit (Turns), read error (Read) or out of memory (Memory). -v explains errors."
+    Exit status: 0 the connection was served to its end; 1 not all messages were sent (--all-sent) or answered\n\
+    (--all-answered); 2 invalid command line or script (Input, Syntax, Number, Count, Deep); 3 no connection or a broken one\n\
+    (Link), log write error (Log), port file write error (PortFile), turn limit (Turns), read error (Read) or out of memory\n\
+    (Memory). -v explains errors."
 );
 
 const VERSION: &str = "0.2 (session logs of versions 1 and 2)";

@@ -95,7 +95,7 @@ pub const TURNS: Numbered = Numbered("turns", 0, u32::MAX, Some(u32::MAX));
 
 pub const CONNECTIONS: Numbered = Numbered("connections", 1, u32::MAX, Some(u32::MAX));
 
-pub const PORT: Numbered = Numbered("port", 1, u16::MAX as u32, None);
+pub const PORT: Numbered = Numbered("port", 0, u16::MAX as u32, None);
 
 pub const CAPTURED_PORT: Numbered = Numbered("port", 1, u16::MAX as u32, Some(5_000));
 
@@ -203,11 +203,12 @@ pub fn encode_options() -> &'static [Described]
     &ENCODE_OPTIONS
 }
 
-static SERVE_OPTIONS: [Described; 23] = options![
+static SERVE_OPTIONS: [Described; 25] = options![
     Needed("role", "ROLE") => "Role of this end: host or equipment",
     Needed("link", "LINK") => "Connection mode: active connects, passive listens",
     Needed("address", "A") => "Where to connect to or listen: IP address or host name",
-    Number(PORT, "P") => "TCP port: 1 to 65535",
+    Number(PORT, "P") => "TCP port: 1 to 65535; 0 with --link passive: any free port",
+    Word("port-file", "FILE") => "With --link passive: write the port to this file",
     Number(DEVICE, "N") => DEVICE_HELP,
     Number(T3, "N") => T3_HELP,
     Number(T6, "N") => T6_HELP,
@@ -223,6 +224,7 @@ static SERVE_OPTIONS: [Described; 23] = options![
     Flag("send") => "Send the messages on standard input, then Separate.req",
     Flag("answer") => "Use those with even functions as replies, send the others",
     Flag("all-sent") => "Exit with status 1 if a message was not sent",
+    Flag("all-answered") => "Exit with status 1 if a reply was missing, late, or function 0",
     Flag("reconnect") => "Serve connection after connection, in one log of version 2",
     Flag("once") => "With --reconnect: send the script on the first connection only",
     Number(CONNECTIONS, "N") => "With --reconnect: stop after this many connections: 1 to 4294967295 [default: 4294967295]",

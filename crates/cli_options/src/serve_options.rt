@@ -1,11 +1,11 @@
 //! The options of `hsms serve`: which connection is served, and how.
 
-ghost use Rattle.std.specs.Prelude.{◌≡◌, ◌≤◌, IfSome, Some, None, codes};
+ghost use Rattle.std.specs.Prelude.{◌≡◌, ◌≤◌, ℕ, IfSome, Some, None, codes};
 ghost use Rattle.clap.specs.Words.{first_of, found_of, rows_of};
 ghost use Rattle.hsms_machine.specs.Settings.{Parameters};
 ghost use Rattle.hsms_machine.specs.declared.settings.Role.{Role};
 ghost use Rattle.hsms_machine.specs.declared.settings.Side.{Side};
-ghost use Rattle.cli_options.specs.ServeOptions.{AsksToServe, HasNumbers, HasRepeat, HasSettings, limits_repeat as has_limits, role_word, side_word};
+ghost use Rattle.cli_options.specs.ServeOptions.{AsksToServe, HasEndpoint, HasNumbers, HasRepeat, HasSettings, allows_port, limits_repeat as has_limits, role_word, side_word};
 ghost use Rattle.cli_options.specs.InnerServeOptions.{HasOwnNumbers};
 ghost use Rattle.cli_options.specs.declared.serve_options.Repeat.{Repeat};
 ghost use Rattle.cli_options.specs.declared.serve_options.Service.{Service};
@@ -24,8 +24,10 @@ pub struct Service<'a> {
     pub settings: Settings,
     /// Where it connects or listens: an IP address or the name of a host.
     pub address: &'a str,
-    /// The TCP port there, from 1.
+    /// The TCP port there; 0 for any free one, at which a passive end listens.
     pub port: u16,
+    /// The name of the file to which a passive end writes its port.
+    pub port_file: Option<&'a str>,
     /// The system bytes of its first own message.
     pub first_system: u32,
     /// The maximum number of turns.
@@ -42,6 +44,8 @@ pub struct Service<'a> {
     pub answer: bool,
     /// True if status 1 follows when a step of the script was refused, or was left when the connection ended.
     pub all_sent: bool,
+    /// True if status 1 follows when an own primary with W got no reply, or function 0.
+    pub all_answered: bool,
     /// Whether connections are served one after another, and which.
     pub repeat: Repeat,
 }
@@ -62,15 +66,17 @@ pub struct Repeat {
 /// Returns what the options of `hsms serve` request. Returns `None` if a value is invalid.
 pub fn service_of<'a>(options: &ArgMatches<'a>) -> Option<Service<'a>>
     ensures asks { IfSome result (AsksToServe (rows_of (found_of options.now))) }
-    ensures port { IfSome result (λ service. (1 ≤ service.port) × (service.port ≤ 65535)) }
+    ensures port { IfSome result (λ service. service.port ≤ 65535) }
     ensures none { result ≡ None → (service : Service) → AsksToServe (rows_of (found_of options.now)) service → ⊥ }
 {
-    let (port, first_system, turns, linktest) = numbers_of(options)?;
+    let (settings, port) = endpoint_of(options)?;
+    let (first_system, turns, linktest) = numbers_of(options)?;
     Some(Service {
-        settings: settings_of(options)?,
         address: text_of(options, "address")?,
         repeat: repeat_of(options)?,
+        settings,
         port,
+        port_file: text_of(options, "port-file"),
         first_system,
         turns,
         linktest,
@@ -79,25 +85,48 @@ pub fn service_of<'a>(options: &ArgMatches<'a>) -> Option<Service<'a>>
         send: flag_of(options, "send"),
         answer: flag_of(options, "answer"),
         all_sent: flag_of(options, "all-sent"),
+        all_answered: flag_of(options, "all-answered"),
     })
 }
 
-// Returns a service's port, first system bytes, number of turns, and link test time.
-fn numbers_of(options: &ArgMatches<'_>) -> Option<(u16, u32, u32, u32)>
-    ensures asks { IfSome result (λ n. HasOwnNumbers (rows_of (found_of options.now)) n.0 n.1 n.2 n.3) }
-    ensures port { IfSome result (λ n. (1 ≤ n.0) × (n.0 ≤ 65535)) }
+// Returns the settings and the port of a service, if an end with these settings can have the port, and a file for it.
+fn endpoint_of(options: &ArgMatches<'_>) -> Option<(Settings, u16)>
+    ensures asks { IfSome result (λ end. HasEndpoint (rows_of (found_of options.now)) end.0 end.1) }
+    ensures port { IfSome result (λ end. end.1 ≤ 65535) }
+    ensures none { result ≡ None → (settings : Parameters) (port : ℕ)
+        → HasEndpoint (rows_of (found_of options.now)) settings port → ⊥ }
+{
+    let settings = settings_of(options)?;
+    let port = short_of(options, PORT)?;
+    let has_file = text_of(options, "port-file").is_some();
+    if allows_port(settings.link(), port, has_file) {
+        return Some((settings, port));
+    }
+    None
+}
+
+// Returns whether an end with this side can have this port, and a file for it.
+fn allows_port(link: Side, port: u16, has_file: bool) -> bool
+    ensures { result ≡ allows_port link port has_file }
+{
+    match link {
+        Side::Passive => true,
+        Side::Active => port != 0 && !has_file,
+    }
+}
+
+// Returns a service's first system bytes, number of turns, and link test time.
+fn numbers_of(options: &ArgMatches<'_>) -> Option<(u32, u32, u32)>
+    ensures asks { IfSome result (λ n. HasOwnNumbers (rows_of (found_of options.now)) n.0 n.1 n.2) }
     ensures none { result ≡ None → (s : Service)
-        → HasOwnNumbers (rows_of (found_of options.now)) s.port s.first_system s.turns s.linktest → ⊥ }
+        → HasOwnNumbers (rows_of (found_of options.now)) s.first_system s.turns s.linktest → ⊥ }
 {
     match (
-        short_of(options, PORT),
         number_of(options, FIRST_SYSTEM),
         number_of(options, TURNS),
         number_of(options, LINKTEST),
     ) {
-        (Some(port), Some(first_system), Some(turns), Some(linktest)) => {
-            Some((port, first_system, turns, linktest))
-        }
+        (Some(first_system), Some(turns), Some(linktest)) => Some((first_system, turns, linktest)),
         _ => None,
     }
 }

@@ -10,6 +10,7 @@ use Rattle.cli_filters.specs.declared.encode_error.EncodeError.{EncodeError}
 use Rattle.cli_filters.specs.declared.encode_error.EncodeError.TheVariants.{Input, Text, Read}
 use Rattle.cli_filters.specs.Encode.{ParsesMessages, TakesAtMost, input_limit}
 use Rattle.cli_serve.specs.declared.script.Script.{Script}
+use Rattle.cli_serve.specs.Comments.{without_comments}
 
 -- True if a message is a reply: the handler replies, and the function is even (SEMI E5, function).
 abbrev pub is_reply : Bool → Message → Bool
@@ -24,10 +25,10 @@ abbrev pub steps_of : Bool → Bool → List Message → List Step
 steps_of send answer messages =
     map (λ m. Send m) (filter (λ m. not (is_reply answer m)) messages) ++ (if send then Separate ∷ [] else [])
 
--- Holds if the input is the notation of messages, and the script has their replies and steps.
+-- Holds if the input without its comments is the notation of messages, and the script has their replies and steps.
 abbrev pub IsScript : ℕ → Bool → Bool → Script → List ℕ → Type 0
 IsScript depth send answer script input =
-    (messages : List Message) × ParsesMessages depth input (contents messages)
+    (messages : List Message) × ParsesMessages depth (without_comments input) (contents messages)
     × (script.replies.items ≡ replies_of answer messages) × (script.steps.items ≡ steps_of send answer messages)
 
 -- Why no script was read, with what is left of the input: it is too long; it is not messages, or an allocation failed;
@@ -35,6 +36,6 @@ IsScript depth send answer script input =
 abbrev pub IsNoScript : ℕ → List ℕ → EncodeError → Option (List ℕ) → Type 0
 IsNoScript depth input Input left = input_limit < length input
 IsNoScript depth input (Text fault) left =
-    (fault ≡ text.Memory) ⊎ ((length input ≤ input_limit) × NotesFault input depth fault)
+    (fault ≡ text.Memory) ⊎ ((length input ≤ input_limit) × NotesFault (without_comments input) depth fault)
 IsNoScript depth input Read left = TakesAtMost input_limit input left
 IsNoScript depth input error left = ⊥

@@ -1,4 +1,4 @@
-//! Attempts to connect that fail.
+//! Attempts to connect that fail, and connections that end.
 
 use std::io;
 use std::io::ErrorKind;
@@ -26,8 +26,42 @@ impl From<io::Error> for ConnectError {
     }
 }
 
-/// A receiver of each attempt to connect that fails and is repeated.
+/// Why a connection ended, as far as its socket shows it.
+#[derive(Clone, Copy, Debug, PartialEq, Eq)]
+pub enum Ending {
+    /// The peer closed it.
+    Closed,
+    /// The peer reset it.
+    Reset,
+    /// The peer accepted no bytes for T8.
+    NotAccepted,
+    /// Any other error.
+    Failed(ErrorKind),
+}
+
+impl Ending {
+    /// Returns why a connection ends after a failed read.
+    pub fn of_read(kind: ErrorKind) -> Ending {
+        match kind {
+            ErrorKind::ConnectionReset | ErrorKind::BrokenPipe => Ending::Reset,
+            kind => Ending::Failed(kind),
+        }
+    }
+
+    /// Returns why a connection ends after a failed write. A write waits for at most T8.
+    pub fn of_write(kind: ErrorKind) -> Ending {
+        match kind {
+            ErrorKind::WouldBlock | ErrorKind::TimedOut => Ending::NotAccepted,
+            kind => Ending::of_read(kind),
+        }
+    }
+}
+
+/// A receiver of each attempt to connect that fails and is repeated, and of why connections ended.
 pub trait Attempts {
     /// Records a failed attempt. An active end makes the next one after T5.
     fn failed(&mut self, error: ConnectError);
+
+    /// Records why a connection ended. It is closed.
+    fn ended(&mut self, why: Ending);
 }

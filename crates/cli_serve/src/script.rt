@@ -7,6 +7,7 @@ ghost use Rattle.hsms_frame.specs.Io.{IfRecorded};
 ghost use Rattle.cli_serve.specs.Script.{IsNoScript, IsScript, is_reply};
 ghost use Rattle.cli_filters.specs.EncodeErrors.{reads_after, writes_after};
 
+use crate::comments::without_comments;
 use cli_filters::{EncodeError, INPUT_LIMIT, read_whole};
 use cli_options::Service;
 use hsms_ends::Step;
@@ -23,9 +24,9 @@ pub struct Script {
     pub replies: Vec<Message>,
 }
 
-/// Reads the complete input as messages in notation, for a service. With `--answer`, those with an even function are
-/// replies (SEMI E5, function). The others are steps, each of which is sent. With `--send`, the session is separated
-/// after them (SEMI E37, section 7).
+/// Reads the complete input as messages in notation with comments, for a service. With `--answer`, those with an even
+/// function are replies (SEMI E5, function). The others are steps, each of which is sent. With `--send`, the session is
+/// separated after them (SEMI E37, section 7).
 ///
 /// # Errors
 ///
@@ -46,7 +47,8 @@ pub fn read_script<R: Source>(
     ensures reads { (R.state source.new).failures ≡ reads_after result (R.state source.old).failures }
 {
     let input = read_whole(alloc, source, INPUT_LIMIT)?;
-    let messages = read_all(alloc, &input, service.settings.depth())?;
+    let text = without_comments(input);
+    let messages = read_all(alloc, &text, service.settings.depth())?;
     let (replies, sent) = parted(alloc, messages, service.answer)?;
     let steps = steps_of(alloc, sent, service.send)?;
     Ok(Script { steps, replies })

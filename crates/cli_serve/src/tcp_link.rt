@@ -3,7 +3,7 @@
 ghost use Rattle.std.specs.Prelude.{◌≡◌};
 ghost use Rattle.cli_serve.specs.CallCounts.{recorded_of};
 
-use crate::attempt::{Attempts, ConnectError};
+use crate::attempt::{Attempts, ConnectError, Ending};
 use crate::call_counts::Counters;
 use crate::tcp_stream::{Wire, is_quiet};
 use cli_options::Service;
@@ -31,6 +31,8 @@ pub struct SocketLink<'a, 's, R: Clock + Net, A: Attempts + Drop> {
     is_new: bool,
     // Why there is no further connection.
     fault: Option<ConnectError>,
+    // Why the connection ended, if its socket shows it.
+    ending: Option<Ending>,
 }
 
 impl<'a, 's, R: Clock + Net, A: Attempts + Drop> SocketLink<'a, 's, R, A> {
@@ -52,6 +54,10 @@ impl<'a, 's, R: Clock + Net, A: Attempts + Drop> SocketLink<'a, 's, R, A> {
         } else {
             self.wire.close();
         }
+        if let Some(why) = self.ending {
+            self.attempts.ended(why);
+        }
+        self.ending = None;
     }
 }
 
@@ -65,18 +71,35 @@ impl<'a, 's, R: Clock + Net, A: Attempts + Drop> Link for SocketLink<'a, 's, R, 
     // A read of nothing is the end of what the peer sends.
     fn wait(&mut self, until: Option<u64>, into: &mut [u8]) -> Result<Got, LinkFault> {
         match self.wire.read_until(until, into) {
-            Ok(0) => self.counters.reception(Got::Closed, into),
+            Ok(0) => {
+                self.ending = Some(Ending::Closed);
+                self.counters.reception(Got::Closed, into)
+            }
             Ok(count) => self.counters.reception(Got::Octets(count), into),
             Err(error) if is_quiet(error.kind()) => self.counters.reception(Got::Quiet, into),
-            Err(_) => Err(self.counters.failed()),
+            Err(error) => {
+                self.ending = Some(Ending::of_read(error.kind()));
+                Err(self.counters.failed())
+            }
         }
     }
 
     fn send(&mut self, octets: &[u8]) -> Result<usize, LinkFault> {
         match self.wire.write(octets) {
             Ok(count) if count > 0 || octets.is_empty() => Ok(count),
-            _ => Err(self.counters.failed()),
+            answer => {
+                self.ending = Some(ending_of_write(answer));
+                Err(self.counters.failed())
+            }
         }
+    }
+}
+
+// Returns why a connection ends after a write that wrote nothing.
+fn ending_of_write(answer: io::Result<usize>) -> Ending {
+    match answer {
+        Ok(_) => Ending::Failed(ErrorKind::WriteZero),
+        Err(error) => Ending::of_write(error.kind()),
     }
 }
 
@@ -101,28 +124,15 @@ impl<'a, 's, R: Clock + Net, A: Attempts + Drop> Again for SocketLink<'a, 's, R,
     }
 }
 
-/// Returns the connection of a service, or the first one of a service that continues after it. An active end makes it,
-/// and a passive end accepts it.
+/// Returns the listener of a passive end.
 ///
 /// # Errors
 ///
-/// Returns the system's error if there is no connection. A service that continues tries again: an active end unless an
-/// allocation failed, and a passive one if the peer gave up the connection or a signal came. `attempts` receives each
-/// failed attempt.
-pub fn connected<'a, 's, R: Clock + Net, A: Attempts + Drop>(
-    rt: &'a R,
-    service: &'a Service<'s>,
-    attempts: A,
-) -> Result<SocketLink<'a, 's, R, A>, ConnectError> {
-    let listener = listener_of(rt, service)?;
-    first_link(rt, service, listener, attempts)
-}
-
-// Returns the listener of a passive end.
-pub(crate) fn listener_of<R: Net>(
+/// Returns the system's error if it cannot listen there.
+pub fn listener_of<R: Net>(
     rt: &R,
     service: &Service<'_>,
-) -> io::Result<Option<R::Listener>> {
+) -> Result<Option<R::Listener>, ConnectError> {
     match service.settings.link() {
         Side::Active => Ok(None),
         Side::Passive => {
@@ -132,8 +142,15 @@ pub(crate) fn listener_of<R: Net>(
     }
 }
 
-// Returns the first connection of a service. If the service ends after it, it no longer listens then.
-pub(crate) fn first_link<'a, 's, R: Clock + Net, A: Attempts + Drop>(
+/// Returns the connection of a service, or the first one of a service that continues after it. An active end makes it,
+/// and a passive end accepts it by its listener. If the service ends after it, it no longer listens then.
+///
+/// # Errors
+///
+/// Returns the system's error if there is no connection. A service that continues tries again: an active end unless an
+/// allocation failed, and a passive one if the peer gave up the connection or a signal came. `attempts` receives each
+/// failed attempt.
+pub fn connected<'a, 's, R: Clock + Net, A: Attempts + Drop>(
     rt: &'a R,
     service: &'a Service<'s>,
     mut listener: Option<R::Listener>,
@@ -156,6 +173,7 @@ pub(crate) fn first_link<'a, 's, R: Clock + Net, A: Attempts + Drop>(
         failures: 0,
         is_new: true,
         fault: None,
+        ending: None,
     })
 }
 

@@ -1,9 +1,11 @@
 //! An endpoint over a loopback connection. The peer is in the same process, and sends everything before the endpoint runs.
 
-use crate::attempt::{Attempts, ConnectError};
+use crate::answer_counts::AnswerCounts;
+use crate::attempt::{Attempts, ConnectError, Ending};
+use crate::comments::without_comments;
 use crate::handler_choice::desk_of;
 use crate::serving::serve_to;
-use crate::tcp_link::{SocketLink, connected, first_link, listener_of};
+use crate::tcp_link::{SocketLink, connected, listener_of};
 use cli_filters::audit_to;
 use cli_options::{CommandLine, Request, Service, ToolFault, parse};
 use hsms_ends::{ServeFault, Step};
@@ -41,6 +43,8 @@ struct Once;
 
 impl Attempts for Once {
     fn failed(&mut self, _: ConnectError) {}
+
+    fn ended(&mut self, _: Ending) {}
 }
 
 fn assert_so(rt: &impl Abort, is_so: bool, name: &str) {
@@ -136,14 +140,14 @@ fn check_passive<R: Abort + Clock + Net>(
 ) -> Result<(), AllocError> {
     let listener = match listener_of(rt, service) {
         Ok(listener) => listener,
-        Err(error) => return failed(rt, is_memory_of(&error), "the endpoint listens"),
+        Err(error) => return failed(rt, is_memory(error), "the endpoint listens"),
     };
     let mut peer = match TcpStream::connect(rt, (service.address, service.port)) {
         Ok(peer) => peer,
         Err(error) => return failed(rt, is_memory_of(&error), "the peer connects"),
     };
     assert_so(rt, peer.write_all(REQUESTS).is_ok(), "the peer sends");
-    let link = match first_link(rt, service, listener, Once) {
+    let link = match connected(rt, service, listener, Once) {
         Ok(link) => link,
         Err(error) => return failed(rt, is_memory(error), "the endpoint accepts"),
     };
@@ -159,7 +163,7 @@ fn check_active<R: Abort + Clock + Net>(
     service: &Service<'_>,
     listener: R::Listener,
 ) -> Result<(), AllocError> {
-    let link = match connected(rt, service, Once) {
+    let link = match connected(rt, service, None, Once) {
         Ok(link) => link,
         Err(error) => return failed(rt, is_memory(error), "the endpoint connects"),
     };
@@ -171,6 +175,48 @@ fn check_active<R: Abort + Clock + Net>(
     let verdict = "pass entries=5 sent=2 taken=1 discarded=0 expired=0 waiting=0\n";
     serve_and_audit(rt, alloc, link, service, &[Step::Separate], verdict)?;
     check_received(rt, &mut peer, SELECTS_AND_LEAVES);
+    Ok(())
+}
+
+// Lines of a log: S1F1 W, S1F2, S1F3 W, S1F0, and a primary without W.
+const LINES: [&[u8]; 6] = [
+    b"0 > 00008101000000000002",
+    b"0 < 00000102000000000002",
+    b"1 > 00008103000000000003",
+    b"1 < 00000100000000000003",
+    b"2 > 00000105000000000004",
+    b"3 down",
+];
+
+#[test]
+fn aborted_primaries_are_not_answered(rt: HostRuntime) -> Result<(), AllocError> {
+    let mut counts = AnswerCounts::default();
+    let mut octets = Vec::new(rt.alloc());
+    for line in &LINES[..2] {
+        counts.count_line(line, &mut octets)?;
+    }
+    assert_so(&rt, counts.is_complete(), "the primary is answered");
+    for line in &LINES[2..] {
+        counts.count_line(line, &mut octets)?;
+    }
+    assert_so(
+        &rt,
+        counts.asked == 2 && counts.answered == 1,
+        "function 0 answers nothing",
+    );
+    Ok(())
+}
+
+#[test]
+fn comments_are_read_as_spaces(rt: HostRuntime) -> Result<(), AllocError> {
+    let script = b"# \"\nS1F1 W <A \"#\"># S1F3 .\n.";
+    let read = without_comments(Vec::from_slice(rt.alloc(), script)?);
+    let wanted = b"   \nS1F1 W <A \"#\">        \n.";
+    assert_so(
+        &rt,
+        read.as_slice() == wanted.as_slice(),
+        "comments are spaces",
+    );
     Ok(())
 }
 

@@ -3,3 +3,4 @@ pub mod LineEntries
 pub mod Openings
 pub mod LogSteps
 pub mod Refusals
+pub mod KeptEntries

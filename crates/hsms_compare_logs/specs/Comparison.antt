@@ -9,13 +9,26 @@ use Rattle.hsms_compare_logs.specs.declared.comparing.LogComparison.{LogComparis
 use Rattle.hsms_compare_logs.specs.declared.comparing_logs.CompareFault.{CompareFault}
 use Rattle.hsms_compare_logs.specs.declared.comparing_logs.CompareFault.TheVariants.{Log, FirstLineOfFirst, FirstLineOfSecond, SameRole, SameLink, Device}
 use Rattle.hsms_compare_logs.specs.LogEntries.{HasEntries, HasSettings, connection_of, is_open_connection}
+use Rattle.hsms_compare_causes.specs.declared.connection_log.ConnectionLog.{ConnectionLog}
+use Rattle.hsms_compare_logs.specs.PairFailures.{AreFailuresIf, are_decided}
 use Rattle.hsms_compare_logs.specs.ReadLogs.{IsOfText}
+use Rattle.hsms_compare_logs.specs.Records.{IsLogOf}
 
 -- Holds if logs with these settings can be of both ends of one connection.
 pub record CanCompare (s t : Parameters) : Type 0 where
   pub roles : s.role ≢ t.role
   pub links : s.link ≢ t.link
   pub devices : s.device ≡ t.device
+
+-- Holds if these are the failed requests of the first connections of two logs with these entries and settings, or none if
+-- the logs do not decide what became of requests.
+pub record AreFailuresOf (h : List Line) (s : Parameters) (e : List Line) (t : Parameters) (comparison : LogComparison) : Type 0 where
+  pub host : ConnectionLog
+  pub equipment : ConnectionLog
+  pub host_so : IsLogOf (connection_of h) (is_open_connection h) host
+  pub equipment_so : IsLogOf (connection_of e) (is_open_connection e) equipment
+  pub failures_so : AreFailuresIf (are_decided comparison.contradiction comparison.is_in_order comparison.host.frames comparison.equipment.frames)
+      host equipment s t comparison.failures
 
 -- Holds if the texts begin with these settings, and these are the first contradiction of their first connections, or
 -- none, the facts of both directions, and what is read of both.
@@ -27,6 +40,7 @@ pub record HaveComparison (host : List ℕ) (s : Parameters) (equipment : List �
       → FirstByLines (is_open_connection h) (is_open_connection e) (connection_of h) (connection_of e) comparison.contradiction
   pub to_equipment : AreFactsTo comparison.host.frames comparison.equipment.frames comparison.facts.to_equipment.items
   pub to_host : AreFactsTo comparison.equipment.frames comparison.host.frames comparison.facts.to_host.items
+  pub failures : (h e : List Line) → HasEntries host s h → HasEntries equipment t e → AreFailuresOf h s e t comparison
   pub of_host : IsOfText host comparison.host
   pub of_equipment : IsOfText equipment comparison.equipment
 

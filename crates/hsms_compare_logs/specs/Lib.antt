@@ -4,8 +4,11 @@ pub mod Reader
 pub mod InnerReader
 pub mod Entries
 pub mod InnerEntries
+pub mod Records
 pub mod Connection
 pub mod InnerConnection
 pub mod ReadLogs
+pub mod DataFrames
+pub mod PairFailures
 pub mod Comparison
 pub mod PairVerdicts

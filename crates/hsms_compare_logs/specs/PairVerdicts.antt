@@ -1,5 +1,5 @@
 -- The verdict on a pair of logs.
-use Rattle.std.specs.Prelude.{◌≡◌, ◌+◌, ◌==◌, ◌&&◌, ◌||◌, not, if◌then◌else◌, ℕ, Bool, true, false, List, Option, Some, None, nat_lt, count_by}
+use Rattle.std.specs.Prelude.{◌≡◌, ◌+◌, ◌==◌, ◌&&◌, ◌||◌, not, if◌then◌else◌, ℕ, Bool, true, false, List, Option, Some, None, nat_lt, count_by, length}
 use Rattle.hsms_compare.specs.declared.line_contradiction.LineContradiction.{LineContradiction}
 use Rattle.hsms_compare.specs.declared.line_contradiction.LineContradiction.TheVariants as by_lines
 use Rattle.hsms_compare_repair.specs.declared.fact.Fact.{Fact}
@@ -40,6 +40,10 @@ told c kind =
     if are_paired c
     then count_by (is_of kind) c.facts.to_equipment.items + count_by (is_of kind) c.facts.to_host.items + order_count kind c.contradiction
     else 0
+
+-- The number of failed requests of both endpoints.
+abbrev pub failed_count : LogComparison → ℕ
+failed_count c = if are_paired c then length c.failures.of_host.items + length c.failures.of_equipment.items else 0
 
 -- ---- the verdict
 

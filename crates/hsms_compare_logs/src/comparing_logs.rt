@@ -89,12 +89,23 @@ impl LogComparison {
         }
         let role = first.settings.role();
         let is_in_order = are_in_order(&first.settings, &second.settings);
+        let settings = first.settings;
+        let other = second.settings;
         match role {
-            Role::Host => Ok(LogComparison::of(alloc, first.entries, second.entries, is_in_order)?),
+            Role::Host => Ok(LogComparison::of(
+                alloc,
+                first.entries,
+                second.entries,
+                &settings,
+                &other,
+                is_in_order,
+            )?),
             Role::Equipment => Ok(LogComparison::of(
                 alloc,
                 second.entries,
                 first.entries,
+                &other,
+                &settings,
                 is_in_order,
             )?),
         }

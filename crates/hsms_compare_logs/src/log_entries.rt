@@ -1,9 +1,11 @@
 //! The log of one connection, for a comparison.
 
 use crate::entry_reader::EntryReader;
+use crate::log_record::LogRecord;
 use crate::read_entry::Content;
-use crate::read_log::ReadLog;
+use crate::read_log::{FinishedLog, ReadLog};
 use hsms_compare::{Entries, NumberedEntry, ReadFault};
+use hsms_compare_causes::ConnectionLog;
 use hsms_compare_repair::LogFrames;
 use hsms_frame::Source;
 use std::alloc::Global;
@@ -14,8 +16,8 @@ pub struct LogEntries<R> {
     pub reader: EntryReader<R>,
     /// The number of the line of the first `up`, or `None` if there is none.
     pub up: Option<u64>,
-    /// The frames of the entries that were returned.
-    pub frames: LogFrames,
+    /// What is kept of the entries that were returned.
+    pub kept: LogRecord,
     /// The next entry, or `None` at the end of the connection.
     pub next: Option<NumberedEntry>,
     /// True if the last entry that was returned is `down`.
@@ -29,12 +31,12 @@ impl<R: Source + Drop> LogEntries<R> {
     ghost use Rattle.hsms_machine.specs.Entry.{is_down as ends};
     ghost use Rattle.hsms_compare.specs.Conversation.{Line};
     ghost use Rattle.hsms_compare.specs.Readings.{line_of, pending};
-    ghost use Rattle.hsms_compare_repair.specs.Logs.{HasFramesOf};
+    ghost use Rattle.hsms_compare_logs.specs.Records.{HasRecordOf};
     ghost use Rattle.hsms_compare_logs.specs.Audited.{ReadsText};
     ghost use Rattle.hsms_compare_logs.specs.LogEntries.{has_up, may_continue, until_up};
     ghost use Rattle.hsms_compare_logs.specs.Entries.{AreLeft, most_left};
     ghost use Rattle.hsms_compare_logs.specs.Connection.{LogLeft, ReadsConnection};
-    ghost use Rattle.hsms_compare_logs.specs.ReadLogs.{IsOfText};
+    ghost use Rattle.hsms_compare_logs.specs.ReadLogs.{IsFinished};
 
     /// Reads the entry after the next one.
     pub fn advance(&mut self, alloc: Global) -> Result<(), ReadFault>
@@ -49,7 +51,7 @@ impl<R: Source + Drop> LogEntries<R> {
         ensures fewer { OnOk result (length (pending self.new.next)
             + most_left self.new.reader.input.block.items self.new.reader.input.audit self.new.reader.is_ended
             ≤ most_left self.old.reader.input.block.items self.old.reader.input.audit self.old.reader.is_ended) }
-        ensures frames { self.new.frames ≡ self.old.frames }
+        ensures kept { self.new.kept ≡ self.old.kept }
         ensures up { self.new.up ≡ self.old.up }
     {
         self.next = None;
@@ -79,11 +81,11 @@ impl<R: Source + Drop> LogEntries<R> {
         ensures fewer { OnOk result (length (pending self.new.next)
             + most_left self.new.reader.input.block.items self.new.reader.input.audit self.new.reader.is_ended
             ≤ most_left self.old.reader.input.block.items self.old.reader.input.audit self.old.reader.is_ended) }
-        ensures frames { OnOk result ((lines : List Line) → HasFramesOf lines self.old.frames
-            → HasFramesOf (lines ++ line_of entry.now ∷ []) self.new.frames) }
+        ensures kept { OnOk result ((lines : List Line) → HasRecordOf lines self.old.kept
+            → HasRecordOf (lines ++ line_of entry.now ∷ []) self.new.kept) }
         ensures up { OnOk result (self.new.up ≡ self.old.up) }
     {
-        self.frames.add(alloc, entry.position, &entry.entry.event)?;
+        self.kept.add(alloc, entry)?;
         self.is_down = Content::is_down(&entry.entry.event);
         self.advance(alloc)
     }
@@ -101,9 +103,9 @@ impl<R: Source + Drop> LogEntries<R> {
             → ReadsText text self.new.reader.input.audit (R.state self.new.reader.input.source).left) }
         ensures entries { OnOk result ((text : List ℕ)
             → ReadsConnection text self.old.reader.input.block.items (R.state self.old.reader.input.source).left self.old.reader.max
-            self.old.reader.lines self.old.reader.is_ended self.old.next self.old.is_down self.old.is_followed self.old.up self.old.frames
+            self.old.reader.lines self.old.reader.is_ended self.old.next self.old.is_down self.old.is_followed self.old.up self.old.kept
             → ReadsConnection text self.new.reader.input.block.items (R.state self.new.reader.input.source).left self.new.reader.max
-            self.new.reader.lines self.new.reader.is_ended self.new.next self.new.is_down self.new.is_followed self.new.up self.new.frames) }
+            self.new.reader.lines self.new.reader.is_ended self.new.next self.new.is_down self.new.is_followed self.new.up self.new.kept) }
         ensures end { OnOk result (self.new.next ≡ None) }
     {
         while let Some(next) = self.next.take() {
@@ -117,11 +119,11 @@ impl<R: Source + Drop> LogEntries<R> {
     /// # Errors
     ///
     /// Returns `Read` if a read fails, `Endless` after 2^62 bytes, or `Memory` if an allocation fails.
-    pub fn finish(self, alloc: Global) -> Result<ReadLog, ReadFault>
+    pub fn finish(self, alloc: Global) -> Result<FinishedLog, ReadFault>
         ensures { IfOk result (λ log. (text : List ℕ)
             → ReadsText text self.reader.input.audit (R.state self.reader.input.source).left
             → ReadsConnection text self.reader.input.block.items (R.state self.reader.input.source).left self.reader.max
-            self.reader.lines self.reader.is_ended self.next self.is_down self.is_followed self.up self.frames → IsOfText text log) }
+            self.reader.lines self.reader.is_ended self.next self.is_down self.is_followed self.up self.kept → IsFinished text log) }
     {
         let mut log = self;
         log.drain(alloc)?;
@@ -129,27 +131,41 @@ impl<R: Source + Drop> LogEntries<R> {
         let LogEntries {
             reader,
             up,
-            frames,
+            kept,
             next,
             is_down: _,
             is_followed,
         } = log;
         drop(next);
         let verdict = reader.finish(alloc)?;
+        let LogRecord { frames, entries } = kept;
         let LogFrames {
             sent,
             received,
             is_open: _,
         } = frames;
-        Ok(ReadLog {
-            up,
-            frames: LogFrames {
-                sent,
-                received,
+        let ConnectionLog {
+            entries,
+            lines,
+            is_open: _,
+        } = entries;
+        let frames = LogFrames {
+            sent,
+            received,
+            is_open,
+        };
+        Ok(FinishedLog {
+            log: ReadLog {
+                up,
+                frames,
+                is_followed,
+                verdict,
+            },
+            entries: ConnectionLog {
+                entries,
+                lines,
                 is_open,
             },
-            is_followed,
-            verdict,
         })
     }
 }
@@ -167,7 +183,7 @@ impl<R: Source + Drop> Entries for LogEntries<R> {
 
     ghost reads = { λ log text. ReadsText text log.reader.input.audit (R.state log.reader.input.source).left
         × ReadsConnection text log.reader.input.block.items (R.state log.reader.input.source).left log.reader.max
-        log.reader.lines log.reader.is_ended log.next log.is_down log.is_followed log.up log.frames };
+        log.reader.lines log.reader.is_ended log.next log.is_down log.is_followed log.up log.kept };
 
     ghost most = { λ log. length (pending log.next)
         + most_left log.reader.input.block.items log.reader.input.audit log.reader.is_ended };

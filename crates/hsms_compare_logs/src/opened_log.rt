@@ -4,8 +4,8 @@ use crate::bounded_audit::BoundedAudit;
 use crate::entry_reader::EntryReader;
 use crate::input::{Input, InputLine};
 use crate::log_entries::LogEntries;
+use crate::log_record::LogRecord;
 use hsms_compare::ReadFault;
-use hsms_compare_repair::LogFrames;
 use hsms_frame::Source;
 use hsms_log::{read_settings, without_carriage_return};
 use hsms_machine::Settings;
@@ -48,7 +48,7 @@ impl<R: Source + Drop> OpenedLog<R> {
         ensures connection { IfOk result (λ log. IfSome log (λ log. (text : List ℕ) → (R.state source).left ≡ Some text
             → ReadsConnection text log.entries.reader.input.block.items (R.state log.entries.reader.input.source).left
             log.entries.reader.max log.entries.reader.lines log.entries.reader.is_ended log.entries.next log.entries.is_down
-            log.entries.is_followed log.entries.up log.entries.frames)) }
+            log.entries.is_followed log.entries.up log.entries.kept)) }
         ensures none { IfOk result (λ log. log ≡ None → (text : List ℕ) (s : Parameters)
             → (R.state source).left ≡ Some text → HasSettings text s → ⊥) }
     {
@@ -85,7 +85,7 @@ impl<R: Source + Drop> OpenedLog<R> {
             → (R.state input.source).left ≡ Some octets → IsFirstLine text line.now (input.block.items ++ octets) is_ended
             → ReadsConnection text log.entries.reader.input.block.items (R.state log.entries.reader.input.source).left
             log.entries.reader.max log.entries.reader.lines log.entries.reader.is_ended log.entries.next log.entries.is_down
-            log.entries.is_followed log.entries.up log.entries.frames)) }
+            log.entries.is_followed log.entries.up log.entries.kept)) }
         ensures none { IfOk result (λ log. log ≡ None → (text left : List ℕ) (s : Parameters)
             → IsFirstLine text line.now left is_ended → HasSettings text s → ⊥) }
     {
@@ -102,7 +102,7 @@ impl<R: Source + Drop> OpenedLog<R> {
         let mut entries = LogEntries {
             reader,
             up,
-            frames: LogFrames::new(alloc, false),
+            kept: LogRecord::new(alloc),
             next: None,
             is_down: false,
             is_followed: false,

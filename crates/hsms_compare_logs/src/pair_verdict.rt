@@ -79,7 +79,7 @@ impl FactKind {
 
 impl LogComparison {
     ghost use Rattle.std.specs.Prelude.{◌≡◌};
-    ghost use Rattle.hsms_compare_logs.specs.PairVerdicts.{are_paired, contradicts as has_contradiction, is_all, told, verdict_of};
+    ghost use Rattle.hsms_compare_logs.specs.PairVerdicts.{are_paired, contradicts as has_contradiction, failed_count, is_all, told, verdict_of};
 
     /// Returns whether the first connections of both logs are compared. If a log is of version 2, they are if they do not
     /// contradict each other: otherwise they may be of two connections.
@@ -103,6 +103,16 @@ impl LogComparison {
         let to_host = kind.count_among(self.facts.to_host.as_slice()) as u64;
         let orders = kind.order_count(&self.contradiction) as u64;
         to_equipment + to_host + orders
+    }
+
+    /// Returns how many requests of both endpoints failed: none if the connections are not compared.
+    pub fn count_of_failed(&self) -> u64
+        ensures { result ≡ failed_count self.now }
+    {
+        if !self.is_pair() {
+            return 0;
+        }
+        self.failures.of_host.len() as u64 + self.failures.of_equipment.len() as u64
     }
 
     /// Returns the verdict on the pair.

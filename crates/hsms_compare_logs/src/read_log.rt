@@ -1,5 +1,6 @@
 //! A log that was read to its end.
 
+use hsms_compare_causes::ConnectionLog;
 use hsms_compare_repair::LogFrames;
 use hsms_log::Verdict;
 
@@ -13,4 +14,11 @@ pub struct ReadLog {
     /// True if other connections follow it.
     pub is_followed: bool,
     pub verdict: Verdict,
+}
+
+/// A log that was read to its end, and the entries of its first connection without the texts of their messages.
+#[derive(Drop)]
+pub struct FinishedLog {
+    pub log: ReadLog,
+    pub entries: ConnectionLog,
 }

@@ -261,6 +261,10 @@ class Direction:
     def is_skipped(self, place: int) -> bool:
         return any(self.sent[it] == place for it in self.skipped)
 
+    def is_unsent(self, place: int) -> bool:
+        """Returns whether the sender's log never has what was received at a place."""
+        return any(name in ("unsent", "again") and self.received[it] == place for name, _, it in self.facts)
+
     def all_facts(self) -> List[tuple]:
         """Returns each fact with the sender's line and the receiver's, in order."""
         found = self.facts + [("skipped", sent, received) for sent, received in self.skipped.items()]
@@ -355,20 +359,19 @@ class Request:
         return is_reject or session.answers(self.frame, frame)
 
     def find_places(self):
-        """Finds where the peer's log has the request, and what closes it, and where the own log has that."""
+        """Finds where the peer's log has the request, and what closes it, and where the own log has that. If the peer's log
+        has no answer: where the own log first has one."""
         self.arrived = self.going.own_of(self.at)
         self.answer = self.reply = None
         if self.arrived is not None:
             behind = [it for it, place in enumerate(self.peer.places) if it > self.arrived and place.entry.event == SENT]
             self.answer = next((it for it in behind if self.closes(self.peer.frame(it))), None)
-            if self.answer is not None:
-                self.reply = self.coming.own_of(self.answer)
-        self.is_own_reply = self.reply is not None
-        if self.reply is None:
+        if self.answer is not None:
+            self.reply = self.coming.own_of(self.answer)
+        else:
             received = [it for it in self.own.received if it > self.at]
             self.reply = next((it for it in received if session.answers(self.frame, self.own.frame(it))), None)
-            if self.arrived is None and self.reply is not None:
-                self.answer = self.coming.sent_of(self.reply)
+        self.is_own_reply = self.answer is not None and self.reply is not None
 
     def find_times(self):
         self.took = self.after = self.between = None
@@ -394,16 +397,18 @@ class Request:
 
     def without_request(self) -> str:
         """Returns the cause where the peer's log lacks the request."""
-        if self.reply is not None or self.going.is_skipped(self.at):
+        if self.going.is_skipped(self.at):
             return "request-skipped"
         if self.going.is_unfound or self.peer.is_open:
             return "unknown"
-        return "request-missing"
+        return "request-missing" if self.reply is None else "request-skipped"
 
     def without_answer(self) -> str:
         """Returns the cause where the peer's log lacks an answer."""
+        if self.coming.is_unfound:
+            return "unknown"
         if self.reply is not None:
-            return "reply-unsent"
+            return "reply-unsent" if self.coming.is_unsent(self.reply) else "unknown"
         at, is_said = self.peer_end()
         if self.peer.time(at) - self.peer.time(self.arrived) <= self.limit:
             return "ended" if is_said or not self.peer.is_open else "unknown"
@@ -414,7 +419,7 @@ class Request:
         if self.coming.is_skipped(self.answer):
             return "reply-skipped"
         is_compared = self.peer.is_message(self.peer.places[self.answer])
-        return "unknown" if self.coming.is_unfound or not is_compared else "reply-missing"
+        return "unknown" if self.coming.is_unfound or self.own.is_open or not is_compared else "reply-missing"
 
     @property
     def cause(self) -> str:

@@ -314,6 +314,44 @@ fn first_copies_of_octets(rt: std::rt::HostRuntime) -> Result<(), ReassemblyFaul
     Ok(())
 }
 
+// Bytes after several gaps, in any order, and copies over them and over the gaps.
+const RUNS: &[Look] = &[
+    Look::Put(10, PUSHED, &[1, 2]),
+    Look::Put(20, PUSHED, &[9]),
+    Look::Put(14, PUSHED, &[5, 6]),
+    Look::Put(12, PUSHED, &[3]),
+    Look::Put(9, PUSHED, &[0, 0, 0, 0, 4, 0, 0, 7]),
+    Look::Put(9, PUSHED, &[8, 8, 8, 8, 8, 8, 8, 8]),
+    Look::Cell(8, None),
+    Look::Cell(9, Some(Cell::Octet(0))),
+    Look::Cell(10, Some(Cell::Octet(1))),
+    Look::Cell(12, Some(Cell::Octet(3))),
+    Look::Cell(13, Some(Cell::Octet(4))),
+    Look::Cell(15, Some(Cell::Octet(6))),
+    Look::Cell(16, Some(Cell::Octet(7))),
+    Look::Cell(17, None),
+    Look::Cell(20, Some(Cell::Octet(9))),
+    Look::Put(60000000, CLOSES, &[1]),
+    Look::Pass(15),
+    Look::Cell(14, None),
+    Look::Cell(15, Some(Cell::Octet(6))),
+    Look::Put(17, PUSHED, &[7, 7, 7, 0, 7]),
+    Look::Cell(19, Some(Cell::Octet(7))),
+    Look::Cell(20, Some(Cell::Octet(9))),
+    Look::Cell(21, Some(Cell::Octet(7))),
+    Look::Cell(60000001, Some(Cell::Fin)),
+    Look::Pass(60000001),
+    Look::Cell(60000001, Some(Cell::Fin)),
+    Look::Pass(60000002),
+    Look::Cell(60000001, None),
+];
+
+#[test]
+fn bytes_after_gaps(rt: std::rt::HostRuntime) -> Result<(), ReassemblyFault> {
+    let mut held = ReassemblyBuffer::new(rt.alloc());
+    check_looks(&rt, &mut held, RUNS)
+}
+
 // A SYN, and a message with a length of 10, whose last byte is captured later. Then lengths that no message has, 9 and
 // 2^26, and the maximum length of one that can be buffered, of which the rest is missing.
 const FRONTS: &[Look] = &[

@@ -176,6 +176,166 @@ wants host: pass entries=3 sent=1 taken=1 discarded=0 expired=0 waiting=0
 wants equipment: pass entries=4 sent=1 taken=2 discarded=0 expired=0 waiting=0
 wants agree connections=1
 result Ok(true)
+# an answer is late between both logs
+host hsms-log 1 host active 0 45000 6000 10000 5000 1048576 32
+host 0 up
+host 0 > ffff0000000100000001
+host 4 < ffff0000000200000001
+host 1000 > 000082290000000000020100
+host 46000 t3 00000002
+host 46012 ! 0000022a000000000002210100
+host 50000 > 00008101000000000003
+host 50010 < 00000102000000000003010241014d410131
+host 60000 > ffff0000000900000004
+host 60000 down
+equipment hsms-log 1 equipment passive 0 45000 6000 10000 5000 1048576 32
+equipment 700001 up
+equipment 700002 < ffff0000000100000001
+equipment 700002 > ffff0000000200000001
+equipment 701003 < 000082290000000000020100
+equipment 701015 > 0000022a000000000002210100
+equipment 750002 < 00008101000000000003
+equipment 750007 > 00000102000000000003010241014d410131
+equipment 760002 < ffff0000000900000004
+equipment 760002 down
+wants connection host line=2 sent=4 received=3 equipment line=2 sent=3 received=4
+wants expired host line=5 S2F41 W 00000002 cause=between received=5 answered=6 took=12 reply=7 after=45012 between=45000
+wants host: pass entries=10 sent=4 taken=2 discarded=1 expired=1 waiting=0
+wants equipment: pass entries=9 sent=3 taken=4 discarded=0 expired=0 waiting=0
+wants agree connections=1 failed=1
+result Ok(true)
+# one answer is late by the other clock, and one by both
+host hsms-log 1 host active 0 45000 6000 10000 5000 1048576 32
+host 0 up
+host 0 > ffff0000000100000001
+host 4 < ffff0000000200000001
+host 1000 > 000082290000000000020100
+host 1500 > 000081030000000000030100
+host 46000 t3 00000002
+host 46500 t3 00000003
+host 47009 ! 0000022a000000000002210100
+host 51500 ! 000001040000000000030100
+host 60000 > ffff0000000900000004
+host 60000 down
+equipment hsms-log 1 equipment passive 0 45000 6000 10000 5000 1048576 32
+equipment 700001 up
+equipment 700002 < ffff0000000100000001
+equipment 700002 > ffff0000000200000001
+equipment 701003 < 000082290000000000020100
+equipment 721503 < 000081030000000000030100
+equipment 747006 > 0000022a000000000002210100
+equipment 751499 > 000001040000000000030100
+equipment 760002 < ffff0000000900000004
+equipment 760002 down
+wants connection host line=2 sent=4 received=3 equipment line=2 sent=3 received=4
+wants expired host line=5 S2F41 W 00000002 cause=answered-late received=5 answered=7 took=46003 reply=9 after=46009 between=6
+wants expired host line=6 S1F3 W 00000003 cause=peer received=6 answered=8 took=29996 reply=10 after=50000 between=20004
+wants host: pass entries=11 sent=4 taken=1 discarded=2 expired=2 waiting=0
+wants equipment: pass entries=9 sent=3 taken=4 discarded=0 expired=0 waiting=0
+wants agree connections=1 failed=2
+result Ok(true)
+# a request is discarded, and an answer is
+host hsms-log 1 host active 0 45000 6000 10000 5000 1048576 32
+host 0 up
+host 0 > ffff0000000100000001
+host 4 < ffff0000000200000001
+host 1000 > 000082290000000000020101010101010100
+host 1009 < 00000907000000000001210a00008229000000000002
+host 2000 > 00008101000000000003
+host 2030 ! 00000102000000000003010241014d4101
+host 46000 t3 00000002
+host 47000 t3 00000003
+host 60000 > ffff0000000900000004
+host 60000 down
+equipment hsms-log 1 equipment passive 0 45000 6000 10000 5000 1048576 2
+equipment 700001 up
+equipment 700002 < ffff0000000100000001
+equipment 700002 > ffff0000000200000001
+equipment 701002 ! 000082290000000000020101010101010100
+equipment 701002 > 00000907000000000001210a00008229000000000002
+equipment 702002 < 00008101000000000003
+equipment 702027 > 00000102000000000003010241014d4101
+equipment 760002 < ffff0000000900000004
+equipment 760002 down
+wants connection host line=2 sent=4 received=3 equipment line=2 sent=3 received=4
+wants expired host line=5 S2F41 W 00000002 cause=discarded discarded=5
+wants expired host line=7 S1F1 W 00000003 cause=in-time received=7 answered=8 took=25 reply=8 after=30 between=5
+wants host: pass entries=11 sent=4 taken=2 discarded=1 expired=2 waiting=0
+wants equipment: fail line=8 rule=Text
+wants agree connections=1 failed=2
+result Ok(false)
+# a request is not answered, and one is rejected
+host hsms-log 1 host active 0 45000 6000 10000 5000 1048576 32
+host 0 up
+host 0 > ffff0000000100000001
+host 4 < ffff0000000200000001
+host 1000 > 000082290000000000020100
+host 1012 ! 0000022a000000000001210100
+host 2000 > 000087030000000000030100
+host 2009 < 00000004000700000003
+host 46000 t3 00000002
+host 60000 > ffff0000000900000004
+host 60000 down
+equipment hsms-log 1 equipment passive 0 45000 6000 10000 5000 1048576 32
+equipment 700001 up
+equipment 700002 < ffff0000000100000001
+equipment 700002 > ffff0000000200000001
+equipment 701002 < 000082290000000000020100
+equipment 701010 > 0000022a000000000001210100
+equipment 702002 < 000087030000000000030100
+equipment 702007 > 00000004000700000003
+equipment 760002 < ffff0000000900000004
+equipment 760002 down
+wants connection host line=2 sent=4 received=3 equipment line=2 sent=3 received=4
+wants expired host line=5 S2F41 W 00000002 cause=unanswered received=5
+wants rejected host line=7 S7F3 W 00000003 cause=rejected received=7 rejected=8
+wants host: pass entries=10 sent=4 taken=2 discarded=1 expired=1 waiting=0
+wants equipment: fail line=6 rule=NoTransaction
+wants agree connections=1 failed=2
+result Ok(false)
+# a reply and a request are lost
+host hsms-log 1 host active 0 45000 6000 10000 5000 1048576 32
+host 0 up
+host 0 > ffff0000000100000001
+host 4 < ffff0000000200000001
+host 1000 > 00008101000000000002
+host 1500 > 000081030000000000030100
+host 9000 down
+equipment hsms-log 1 equipment passive 0 45000 6000 10000 5000 1048576 32
+equipment 700001 up
+equipment 700002 < ffff0000000100000001
+equipment 700002 > ffff0000000200000001
+equipment 701002 < 00008101000000000002
+equipment 701027 > 00000102000000000002010241014d410131
+equipment 701030 down
+wants connection host line=2 sent=3 received=1 equipment line=2 sent=2 received=2
+wants ended host line=5 S1F1 W 00000002 cause=reply-missing received=5 answered=6 took=25
+wants ended host line=6 S1F3 W 00000003 cause=request-missing
+wants host: pass entries=6 sent=3 taken=1 discarded=0 expired=0 waiting=2
+wants equipment: pass entries=6 sent=2 taken=2 discarded=0 expired=0 waiting=0
+wants agree connections=1 failed=2
+result Ok(true)
+# the other end ends the session
+host hsms-log 1 host active 0 45000 6000 10000 5000 1048576 32
+host 0 up
+host 0 > ffff0000000100000001
+host 4 < ffff0000000200000001
+host 1000 > 000082290000000000020100
+host 9000 < ffff0000000900000001
+host 9000 down
+equipment hsms-log 1 equipment passive 0 45000 6000 10000 5000 1048576 32
+equipment 700001 up
+equipment 700002 < ffff0000000100000001
+equipment 700002 > ffff0000000200000001
+equipment 701002 < 000082290000000000020100
+equipment 708998 > ffff0000000900000001
+equipment 708998 down
+wants connection host line=2 sent=2 received=2 equipment line=2 sent=2 received=2
+wants ended host line=5 S2F41 W 00000002 cause=ended received=5 ended=6
+wants host: pass entries=6 sent=2 taken=2 discarded=0 expired=0 waiting=1
+wants equipment: pass entries=6 sent=2 taken=2 discarded=0 expired=0 waiting=0
+wants agree connections=1 failed=1
+result Ok(true)
 # a log has no connection
 host hsms-log 1 host active 0 45000 6000 10000 5000 1048576 32
 equipment hsms-log 1 equipment passive 0 45000 6000 10000 5000 1048576 32

@@ -28,6 +28,7 @@ returns-in_ok-of-in-Host-clause-ok g c one other known known' =
         contradiction = λ h e has has'. compared.contradiction (connection_of h) (connection_of e) (is_open_connection h) (is_open_connection e) (has_later_connections h) (has_later_connections e) (a one h known has) (b other e known' has');
         to_equipment = compared.to_equipment;
         to_host = compared.to_host;
+        failures = compared.failures one other (reads one known) (entries one known) (reads' other known') (entries' other known');
         of_host = compared.host one (reads one known) (entries one known);
         of_equipment = compared.equipment other (reads' other known') (entries' other known');
       }),
@@ -58,6 +59,7 @@ returns-in_ok-of-in-Equipment-clause-ok g c one other known known' =
         contradiction = λ h e has has'. compared.contradiction (connection_of h) (connection_of e) (is_open_connection h) (is_open_connection e) (has_later_connections h) (has_later_connections e) (b other h known' has) (a one e known has');
         to_equipment = compared.to_equipment;
         to_host = compared.to_host;
+        failures = compared.failures other one (reads' other known') (entries' other known') (reads one known) (entries one known);
         of_host = compared.host other (reads' other known') (entries' other known');
         of_equipment = compared.equipment one (reads one known) (entries one known);
       }),

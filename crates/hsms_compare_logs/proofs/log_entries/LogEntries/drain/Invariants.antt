@@ -11,9 +11,9 @@ invariant-loop-next g l =
     → ReadsText text l.self.reader.input.audit (g.R.Source.state l.self.reader.input.source).left)
     × ((text : List ℕ)
     → ReadsConnection text l.fn.self.reader.input.block.items (g.R.Source.state l.fn.self.reader.input.source).left l.fn.self.reader.max
-    l.fn.self.reader.lines l.fn.self.reader.is_ended l.fn.self.next l.fn.self.is_down l.fn.self.is_followed l.fn.self.up l.fn.self.frames
+    l.fn.self.reader.lines l.fn.self.reader.is_ended l.fn.self.next l.fn.self.is_down l.fn.self.is_followed l.fn.self.up l.fn.self.kept
     → ReadsConnection text l.self.reader.input.block.items (g.R.Source.state l.self.reader.input.source).left l.self.reader.max
-    l.self.reader.lines l.self.reader.is_ended l.self.next l.self.is_down l.self.is_followed l.self.up l.self.frames)
+    l.self.reader.lines l.self.reader.is_ended l.self.next l.self.is_down l.self.is_followed l.self.up l.self.kept)
 
 abbrev pub decreases-loop-next : goal.decreases-loop-next
 decreases-loop-next g l = length (pending l.self.next) + most_left l.self.reader.input.block.items l.self.reader.input.audit l.self.reader.is_ended

@@ -1,7 +1,7 @@
 use Rattle.std.proofs.Common.{◌∙◌, [], List, ℕ, refl, sym, subst}
 use Rattle.hsms_machine.specs.Settings.{Parameters}
-use Rattle.hsms_compare_repair.specs.declared.pair.LogFrames.{LogFrames}
-use Rattle.hsms_compare_repair.specs.Logs.{HasFramesOf}
+use Rattle.hsms_compare_logs.specs.declared.log_record.LogRecord.{LogRecord}
+use Rattle.hsms_compare_logs.specs.Records.{HasRecordOf}
 use Rattle.hsms_compare_logs.specs.LogEntries.{HasEntries, after_up, connection_of}
 use Rattle.hsms_log.specs.LineFormat.{EncodesSettings}
 use Rattle.hsms_compare_logs.proofs.Openings.{begins_with, same_settings, settings_in, settings_of, starts}
@@ -23,7 +23,7 @@ pub returns-clause-connection : goal.returns-clause-connection
 returns-clause-connection g c text octets known first s found entries =
     let P : List ℕ → Type 0 = λ x. EncodesSettings x c.in-Some.settings in
     let Q : Parameters → Type 0 = λ x. HasEntries text x found in
-    let F : LogFrames → Type 0 = λ x. HasFramesOf [] x in
+    let F : LogRecord → Type 0 = λ x. HasRecordOf [] x in
     let begins = settings_of text c.args.line.now _ c.args.is_ended c.in-Some.settings (subst P c.without_carriage_return.ensures c.in-Some.ensures.found) first in
     let same = same_settings text s c.in-Some.settings (begins_with text s found entries) begins in
     let skipped =
@@ -34,7 +34,7 @@ returns-clause-connection g c text octets known first s found entries =
       [],
       connection_of found,
       refl,
-      subst F (sym c.in_ok-advance.ensures.frames) c.new.ensures.frames,
+      subst F (sym c.in_ok-advance.ensures.kept) c.new.ensures,
       c.in_ok-advance.ensures.entry (after_up found) refl skipped.1,
     )
 

@@ -1,0 +1,9 @@
+pub mod Events
+pub mod Search
+pub mod OwnOutcome
+pub mod InnerSearch
+pub mod Trace
+pub mod Counterparts
+pub mod FailureCause
+pub mod TracedRequest
+pub mod Failures

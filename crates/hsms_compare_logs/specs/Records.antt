@@ -1,0 +1,39 @@
+-- What is kept of the entries of a connection.
+use Rattle.std.specs.Prelude.{◌≡◌, Bool, List, [], map}
+use Rattle.hsms_frame.specs.Frame.{Frame}
+use Rattle.hsms_machine.specs.declared.entry.Entry.{Entry}
+use Rattle.hsms_machine.specs.declared.entry.Event.{Event}
+use Rattle.hsms_machine.specs.declared.entry.Event.TheVariants.{Sent, Taken, Discarded}
+use Rattle.hsms_compare.specs.Conversation.{Line}
+use Rattle.hsms_compare_causes.specs.declared.connection_log.ConnectionLog.{ConnectionLog}
+use Rattle.hsms_compare_repair.specs.Logs.{HasFramesOf}
+use Rattle.hsms_compare_logs.specs.declared.log_record.LogRecord.{LogRecord}
+
+-- ---- entries without the texts of their messages
+
+abbrev pub bare_frame : Frame → Frame
+bare_frame frame = record { header = frame.header; text = [] }
+
+abbrev pub bare_event : Event → Event
+bare_event (Sent frame) = Sent (bare_frame frame)
+bare_event (Taken frame) = Taken (bare_frame frame)
+bare_event (Discarded frame) = Discarded (bare_frame frame)
+bare_event event = event
+
+abbrev pub bare_entry : Entry → Entry
+bare_entry entry = record { time = entry.time; event = bare_event entry.event }
+
+-- Holds if these are the entries of a log without texts, and the numbers of its lines.
+pub record HasBareEntries (lines : List Line) (log : ConnectionLog) : Type 0 where
+  pub entries_so : log.entries.items ≡ map (λ (line : Line). bare_entry line.entry) lines
+  pub lines_so : log.lines.items ≡ map (λ (line : Line). line.position) lines
+
+-- Holds if they are those of a connection that may have more entries, or not.
+pub record IsLogOf (lines : List Line) (more : Bool) (log : ConnectionLog) : Type 0 where
+  pub entries : HasBareEntries lines log
+  pub continued : log.is_open ≡ more
+
+-- Holds if the record is of these entries.
+pub record HasRecordOf (lines : List Line) (kept : LogRecord) : Type 0 where
+  pub frames : HasFramesOf lines kept.frames
+  pub entries : HasBareEntries lines kept.entries
