@@ -20,6 +20,7 @@ sys.dont_write_bytecode = True
 sys.path.insert(0, os.path.abspath(f"{__file__}/../../.."))
 
 from tests.support.command import LONGEST_RUN, TOP, Answer, program_given
+from tests.support.comparisons import status_of
 
 PROGRAM = program_given()
 
@@ -215,17 +216,5 @@ def tries():
     yield from others()
 
 
-def main():
-    passed = failed = 0
-    for name, told, expected in tries():
-        if told == expected:
-            passed += 1
-        else:
-            failed += 1
-            print(f"{name}:\n  {told}\n  expected {expected}")
-    print(f"{passed} passed, {failed} failed")
-    return 1 if failed else 0
-
-
 if __name__ == "__main__":
-    sys.exit(main())
+    sys.exit(status_of(tries()))
