@@ -3,7 +3,7 @@
 use crate::phrases::Tie;
 use hsms_frame::Header;
 use hsms_log::Unreadable;
-use hsms_machine::Rule;
+use hsms_machine::{Role, Rule, Side};
 use std::fmt;
 
 /// The maximum number of closed transactions of a direction that are kept.
@@ -35,6 +35,17 @@ impl Function {
     }
 }
 
+/// A setting in line 1 that an entry does not agree with.
+#[derive(Clone, Copy)]
+pub enum Setting {
+    /// Version 1: the log has one connection.
+    Version,
+    /// The link: the active end sends Select.req.
+    Link(Side),
+    /// The role: equipment sends the primaries of stream 9.
+    Role(Role),
+}
+
 /// What was expected instead of an entry that fails, if known, or why the entry is not allowed there.
 #[derive(Clone, Copy)]
 pub enum Expected {
@@ -63,11 +74,18 @@ pub enum Expected {
         expected: Function,
         system: u32,
     },
-    /// Another session ID.
+    /// Another session ID of a control message.
     Session {
         expected: u16,
         came: u16,
     },
+    /// The device ID of line 1.
+    Device {
+        expected: u16,
+        came: u16,
+    },
+    /// Line 1 has another setting.
+    LineOne(Setting),
     /// The text has this item error, at this offset from 0.
     Text {
         fault: &'static str,
@@ -98,6 +116,7 @@ impl Expected {
             | Expected::SelectLeftOut { line, .. }
             | Expected::Over(line) => Some(line),
             Expected::Selected(line) => line,
+            Expected::Device { .. } | Expected::LineOne(_) => Some(1),
             Expected::Forgotten
             | Expected::Session { .. }
             | Expected::Text { .. }
@@ -130,7 +149,9 @@ impl fmt::Display for Expected {
                 expected,
                 system,
             } => write_only_one(f, line, expected, system),
-            Expected::Session { expected, came } => write_session(f, expected, came),
+            Expected::Session { expected, came } => write_session(f, expected, "", came),
+            Expected::Device { expected, came } => write_session(f, expected, " of line 1", came),
+            Expected::LineOne(setting) => write_setting(f, setting),
             Expected::Text { fault, at } => write!(f, "item error: {fault} at={at}"),
             Expected::Selected(request) => write_selected(f, request),
             Expected::SelectLeftOut { line, rule } => write_left_out(f, line, rule),
@@ -193,9 +214,23 @@ fn write_only_one<W: fmt::Write>(
 fn write_session<W: fmt::Write>(
     f: &mut fmt::Formatter<W>,
     expected: u16,
+    whose: &str,
     came: u16,
 ) -> fmt::Result {
-    write!(f, "expected session ID {expected:04x}, got {came:04x}")
+    write!(
+        f,
+        "expected session ID {expected:04x}{whose}, got {came:04x}"
+    )
+}
+
+fn write_setting<W: fmt::Write>(f: &mut fmt::Formatter<W>, setting: Setting) -> fmt::Result {
+    f.write_str(match setting {
+        Setting::Version => "line 1 is of version 1: version 2 allows several connections",
+        Setting::Link(Side::Active) => "line 1 says active, so only this end sends Select.req",
+        Setting::Link(Side::Passive) => "line 1 says passive, so only the peer sends Select.req",
+        Setting::Role(Role::Host) => "line 1 says host, so only the peer sends stream 9",
+        Setting::Role(Role::Equipment) => "line 1 says equipment, so only this end sends stream 9",
+    })
 }
 
 fn write_selected<W: fmt::Write>(f: &mut fmt::Formatter<W>, request: Option<u64>) -> fmt::Result {

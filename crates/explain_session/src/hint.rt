@@ -2,7 +2,7 @@
 
 use crate::context::Known;
 use crate::history::{Closed, LeftOut, Past, Request, Requests};
-use explain_lines::{Expected, Function};
+use explain_lines::{Expected, Function, Setting};
 use hsms_frame::{CONTROL_SESSION, Header, Kind, kind};
 use hsms_log::{Step, What};
 use hsms_machine::{EntryRef, Mark, Rule, Settings};
@@ -14,10 +14,11 @@ pub fn expected_of(known: &Known, step: Step, text: &[u8], rule: Rule) -> Option
         return known.past.over.map(|line| Expected::Over(line));
     }
     let What::Frame(mark, header) = step.what else {
-        return None;
+        return version(known.settings, step.what, rule);
     };
     match rule {
         Rule::Session => Some(session(known.settings, header)),
+        Rule::Direction => Some(Expected::LineOne(direction(known.settings, header))),
         Rule::NotSelected => Some(selected(&known.past)),
         Rule::Text => text_fault(known.settings, text),
         Rule::NoTransaction => transaction(known, step.time, mark, header),
@@ -25,14 +26,31 @@ pub fn expected_of(known: &Known, step: Step, text: &[u8], rule: Rule) -> Option
     }
 }
 
+// Returns that the version of line 1 allows one connection, if this is the start of another.
+fn version(settings: Settings, what: What, rule: Rule) -> Option<Expected> {
+    let is_another = matches!(what, What::Up) && rule == Rule::NotUp;
+    (is_another && settings.version() == 1).then_some(Expected::LineOne(Setting::Version))
+}
+
+// Returns the setting that decides who sends the message.
+fn direction(settings: Settings, header: Header) -> Setting {
+    match kind(header) {
+        Kind::Primary => Setting::Role(settings.role()),
+        _ => Setting::Link(settings.link()),
+    }
+}
+
 fn session(settings: Settings, header: Header) -> Expected {
-    let expected = match kind(header) {
-        Kind::Primary | Kind::Reply => settings.device(),
-        _ => CONTROL_SESSION,
-    };
-    Expected::Session {
-        expected,
-        came: header.session,
+    let came = header.session;
+    match kind(header) {
+        Kind::Primary | Kind::Reply => Expected::Device {
+            expected: settings.device(),
+            came,
+        },
+        _ => Expected::Session {
+            expected: CONTROL_SESSION,
+            came,
+        },
     }
 }
 

@@ -110,7 +110,10 @@ def nesting(item: Item) -> int:
 
 
 class Log(Before):
-    """What is so after the entries of an end, kept as they come."""
+    """What is so after the entries of an end, kept as they come: those of one connection."""
+
+    up: Optional[Entry] = None
+    is_down = is_selected = is_over = False
 
     def __init__(self, settings: Settings):
         super().__init__(settings, [])
@@ -120,6 +123,11 @@ class Log(Before):
         if opens(entry):
             self.open.append(entry)
         self.entries.append(entry)
+        one = Before(self.settings, [entry])
+        self.up = self.up or one.up
+        self.is_down |= one.is_down
+        self.is_selected |= one.is_selected
+        self.is_over |= one.is_over
 
     @property
     def is_up(self) -> bool:

@@ -622,7 +622,12 @@ class Telling:
             is_end = [at for at in self.positions() if Before(settings, [self.entries[at]]).is_over]
             return f"the session ended at line {self.places[is_end[-1]]}"
         if rule == "Session":
-            return f"expected session ID {settings.device if frame.is_data else 0xFFFF:04x}, got {frame.session:04x}"
+            wanted = f"{settings.device:04x} of line 1" if frame.is_data else "ffff"
+            return f"expected session ID {wanted}, got {frame.session:04x}"
+        if rule == "NotUp" and entry.event == "up" and settings.version == 1:
+            return "line 1 is of version 1: version 2 allows several connections"
+        if rule == "Direction":
+            return self.expected_direction(frame)
         if rule == "NotSelected":
             entries = self.entries
             asked = [at for at in self.positions() if entries[at].frame and entries[at].frame.kind == "select.req"]
@@ -635,6 +640,13 @@ class Telling:
         if rule == "Text":
             return f"item error: {fault_of(frame.text, settings.depth).words()}"
         return self.expected_answer(before, entry) if rule == "NoTransaction" else None
+
+    def expected_direction(self, frame: Frame) -> str:
+        if frame.kind == "primary":
+            sender = "this end" if self.settings.role == "equipment" else "the peer"
+            return f"line 1 says {self.settings.role}, so only {sender} sends stream 9"
+        sender = "this end" if self.settings.link == "active" else "the peer"
+        return f"line 1 says {self.settings.link}, so only {sender} sends Select.req"
 
     def expected_answer(self, before: Before, entry: Entry) -> Optional[str]:
         peer, frame, entries = OTHER_DIRECTION[entry.event], entry.frame, self.entries

@@ -32,6 +32,9 @@ class Clock:
 class Connection:
     """One connection of two ends, from its start to its end."""
 
+    # How probable it is that the end that listens starts.
+    starts = 0.9
+
     def __init__(self, talk: "TwoEnds", start: int):
         self.talk, self.chance, self.now = talk, talk.chance, start
         self.ends = {role: End(settings, talk.desks[role], 1) for role, settings in talk.settings.items()}
@@ -48,17 +51,20 @@ class Connection:
         """Runs the connection, for some ms at most. Returns when it is over."""
         active = next(role for role, it in self.talk.settings.items() if it.link == "active")
         self.plan(self.now, self.tell, active, "start")
-        if self.chance.happens(0.9):
+        if self.chance.happens(self.starts):
             self.plan(self.now + self.delay(), self.tell, OTHER[active], "start")
         end = self.now + length
-        for _ in range(self.chance.one(0, 2, 6, 20)):
-            self.plan(self.chance.randrange(self.now, end), self.send, self.chance.one(HOST, EQUIPMENT))
+        self.plan_messages(end)
         self.plan(end, self.finish)
         for time in range(self.now, end + 100_000, 500):
             self.plan(time, self.tick)
         while self.events and self.now < end + 100_000 and not self.is_over():
             self.now, _, act, given = heapq.heappop(self.events)
             act(*given)
+
+    def plan_messages(self, end: int):
+        for _ in range(self.chance.one(0, 2, 6, 20)):
+            self.plan(self.chance.randrange(self.now, end), self.send, self.chance.one(HOST, EQUIPMENT))
 
     def is_over(self) -> bool:
         return all(it.log.up is not None and not it.log.is_up for it in self.ends.values())
