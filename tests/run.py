@@ -62,6 +62,7 @@ SIDE_BY_SIDE = [
     Script("gate/capture_formats", PROGRAM),
     Script("gate/multi_connection", PROGRAM),
     Script("gate/compare_reference", PROGRAM),
+    Script("gate/explain_days", PROGRAM),
     Script("gate/converters", PROGRAM),
     Script("gate/package", "the program, dpkg-deb, objdump"),
     Script("gate/memory_bounds", f"{DRIVER}, cc"),

@@ -226,19 +226,19 @@ const ALIKE: &str = "hsms-log 1 host active 0 45000 6000 10000 5000 1048576 32
 const ALIKE_TOLD: &str = "       ..
      7      12 < data 0001 00000003 S6F11 .
        FAIL Session: wrong session ID for this kind of message
-            expected session ID 0000, got 0001
+            expected session ID 0000 of line 1, got 0001
             continues as if it were discarded
      8      13 < data 0002 00000004 S6F11 .
        FAIL Session: wrong session ID for this kind of message
-            expected session ID 0000, got 0002
+            expected session ID 0000 of line 1, got 0002
             continues as if it were discarded
      9      14 < data 0001 00000005 S6F11 .
        FAIL Session: wrong session ID for this kind of message
-            expected session ID 0000, got 0001
+            expected session ID 0000 of line 1, got 0001
             continues as if it were discarded
     10      15 < data 0001 00000006 S6F11 .
        FAIL Session: wrong session ID for this kind of message
-            expected session ID 0000, got 0001
+            expected session ID 0000 of line 1, got 0001
             continues as if it were discarded
     11      16 < data 0001 00000007 S6F11 .
        FAIL Session: same as line 7
@@ -250,19 +250,19 @@ fail line=5 rule=Session
 const ALIKE_FAILURES_TOLD: &str = "       ..
      5      10 < data 0001 00000001 S6F11 .
        FAIL Session: wrong session ID for this kind of message
-            expected session ID 0000, got 0001
+            expected session ID 0000 of line 1, got 0001
             continues as if it were discarded
      6      11 < data 0001 00000002 S6F11 .
        FAIL Session: wrong session ID for this kind of message
-            expected session ID 0000, got 0001
+            expected session ID 0000 of line 1, got 0001
             continues as if it were discarded
      7      12 < data 0001 00000003 S6F11 .
        FAIL Session: wrong session ID for this kind of message
-            expected session ID 0000, got 0001
+            expected session ID 0000 of line 1, got 0001
             continues as if it were discarded
      8      13 < data 0002 00000004 S6F11 .
        FAIL Session: wrong session ID for this kind of message
-            expected session ID 0000, got 0002
+            expected session ID 0000 of line 1, got 0002
             continues as if it were discarded
        ..
 Session: 3 more like line 5, the last at line 11
