@@ -26,7 +26,7 @@ _hsms() {
       compare) words='--help --verbose' ;;
       capture) words='--port --peer --active --log --midstream --device --t3 --t6 --t7 --t8 --max --depth --help --verbose' ;;
       encode) words='--device --system --max --depth --hex --help --verbose' ;;
-      serve) words='--role --link --address --port --port-file --device --t3 --t6 --t7 --t8 --linktest --max --depth --first-system --turns --mdln --softrev --send --answer --all-sent --all-answered --reconnect --once --connections --t5 --help --verbose' ;;
+      serve) words='--role --link --address --port --port-file --skip-silent --device --t3 --t6 --t7 --t8 --linktest --max --depth --first-system --turns --mdln --softrev --send --answer --all-sent --all-answered --reconnect --once --connections --t5 --help --verbose' ;;
       help) words='show audit explain compare capture encode serve' ;;
       *) return ;;
     esac

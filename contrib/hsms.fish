@@ -60,6 +60,7 @@ complete -c hsms -n '__fish_seen_subcommand_from serve' -l link -x -a 'active pa
 complete -c hsms -n '__fish_seen_subcommand_from serve' -l address -x -d 'Where to connect to or listen: IP address or host name'
 complete -c hsms -n '__fish_seen_subcommand_from serve' -l port -x -d 'TCP port: 1 to 65535; 0 with --link passive: any free port'
 complete -c hsms -n '__fish_seen_subcommand_from serve' -l port-file -x -d 'With --link passive: write the port to this file'
+complete -c hsms -n '__fish_seen_subcommand_from serve' -l skip-silent -d 'With --link passive: skip connections whose peer sends nothing within T7'
 complete -c hsms -n '__fish_seen_subcommand_from serve' -l device -x -d 'Device ID, the session ID of data messages: 0 to 32767 [default: 0]'
 complete -c hsms -n '__fish_seen_subcommand_from serve' -l t3 -x -d 'T3 reply timeout in ms: 1 to 3600000 [default: 45000]'
 complete -c hsms -n '__fish_seen_subcommand_from serve' -l t6 -x -d 'T6 control transaction timeout in ms: 1 to 3600000 [default: 6000]'

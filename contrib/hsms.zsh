@@ -93,6 +93,7 @@ _hsms() {
         '--address[Where to connect to or listen\: IP address or host name]:A:' \
         '--port[TCP port\: 1 to 65535; 0 with --link passive\: any free port]:P:' \
         '--port-file[With --link passive\: write the port to this file]:FILE:' \
+        '--skip-silent[With --link passive\: skip connections whose peer sends nothing within T7]' \
         '--device[Device ID, the session ID of data messages\: 0 to 32767 \[default\: 0\]]:N:' \
         '--t3[T3 reply timeout in ms\: 1 to 3600000 \[default\: 45000\]]:N:' \
         '--t6[T6 control transaction timeout in ms\: 1 to 3600000 \[default\: 6000\]]:N:' \

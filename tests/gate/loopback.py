@@ -1003,7 +1003,7 @@ def command_line_is_refused():
     ):
         lines += [WORDS + ["--reconnect", option, value] for value in values]
     lines += [WORDS + [option, "x"] for option in ("--send", "--answer", "--all-sent", "--all-answered")]
-    lines += [WORDS + ["--port-file", "x"], WORDS + ["--port-file"]]
+    lines += [WORDS + ["--port-file", "x"], WORDS + ["--port-file"], WORDS + ["--skip-silent"]]
     lines += [WORDS + options for options in (["--once"], ["--connections", "1"], ["--t5", "10000"])]
     lines += [WORDS + ["--once", "--connections", "2", "--t5", "50"]]
     lines += [WORDS + ["--send=1"], WORDS + ["--t9", "1"], WORDS + ["--mdln"], WORDS + ["x"]]
@@ -1016,7 +1016,7 @@ def help_tells_every_option():
     run = subprocess.run([PROGRAM, "serve", "--help"], capture_output=True, timeout=SOON)
     same((run.returncode, run.stderr), (0, b""))
     for word in (
-        "role link address port port-file device t3 t6 t7 t8 max depth first-system turns mdln softrev send answer all-sent all-answered"
+        "role link address port port-file skip-silent device t3 t6 t7 t8 max depth first-system turns mdln softrev send answer all-sent all-answered"
         " linktest reconnect once connections t5"
     ).split():
         same((word, f"--{word} " in run.stdout.decode()), (word, True))
@@ -1214,6 +1214,46 @@ def timers_go_on():
     in_time(at[4] - at[3], 301, 600)
 
 
+def silent_peers_are_skipped():
+    """With `--skip-silent` a connection counts once its peer has sent a byte: it has no line of the log before."""
+    for again in ([], ["--reconnect", "--connections", "2"]):
+        port = free_port()
+        serving = Serving("equipment", "passive", port, "--skip-silent", "--t7", "300", *again)
+        for _ in range(2 if again else 1):
+            for ends in (Peer.close, Peer.reset):
+                ends(Peer.connected(port))
+            began = time.monotonic()
+            same(Peer.connected(port).rest(), b"")
+            in_time((time.monotonic() - began) * 1000, 300, 3000)
+            peer = Peer.connected(port)
+            peer.send_singly(SELECT + control(9, 2))
+            same(peer.rest(), SELECTED)
+        log = served_again(serving, 2) if again else served(serving, [*SERVED, "down"])
+        same(events(log), [*SERVED, "down"] * (2 if again else 1))
+        same(times(log)[0] < 300, True)
+
+
+# A peer that selects and separates, as equipment logs it.
+SERVED = ["up", "< " + ALONE, "> ffff0000000200000001", "< ffff0000000900000002"]
+
+
+def one_byte_is_not_silence():
+    """A peer that has sent a byte is served. Then T8 decides, and no read ends after T7."""
+    serving = Serving("equipment", "passive", free_port(), "--skip-silent", "--t8", "100")
+    peer = Peer.connected(serving.port)
+    peer.send(SELECT[:1])
+    same(peer.rest(), b"")
+    served(serving, ["up", "cut t8", "down"])
+    serving = Serving("equipment", "passive", free_port(), "--skip-silent", "--t7", "100", "--turns", "2")
+    peer = Peer.connected(serving.port)
+    peer.send(SELECT)
+    peer.wants(SELECTED)
+    time.sleep(A_WHILE)
+    peer.send(control(9, 2))
+    same(peer.rest(), b"")
+    served(serving, [*SERVED, "down"])
+
+
 def port_is_in_use_again():
     with socket.create_server((HERE, 0)) as taken:
         serving = Serving("equipment", "passive", taken.getsockname()[1], "--reconnect")
@@ -1286,6 +1326,8 @@ TESTS = [
     two_processes_again,
     terminated_between_connections,
     timers_go_on,
+    silent_peers_are_skipped,
+    one_byte_is_not_silence,
     port_is_in_use_again,
 ]
 

@@ -44,7 +44,11 @@ fn rejected_option(alloc: Global, words: &[String]) -> Result<String, AllocError
             return format!(in alloc; "{option} needs --reconnect");
         }
     }
-    for (option, needed) in [("--port-file", "--port-file"), ("--link", "--port 0")] {
+    for (option, needed) in [
+        ("--port-file", "--port-file"),
+        ("--skip-silent", "--skip-silent"),
+        ("--link", "--port 0"),
+    ] {
         if is_given(words, option) {
             return format!(in alloc; "{needed} needs --link passive");
         }

@@ -54,7 +54,7 @@ connections_number = record { name = codes "connections"; least = 1; greatest = 
 abbrev pub connection_rules : List Rule
 connection_rules =
     needed_option (codes "role") ∷ needed_option (codes "link") ∷ needed_option (codes "address") ∷ option_of port_number
-    ∷ text_option (codes "port-file") ∷ option_of device_number ∷ []
+    ∷ text_option (codes "port-file") ∷ flag_option (codes "skip-silent") ∷ option_of device_number ∷ []
 
 abbrev pub time_rules : List Rule
 time_rules = option_of t3_number ∷ option_of t6_number ∷ option_of t7_number ∷ option_of t8_number ∷ []
@@ -108,17 +108,20 @@ HasSettings rows s =
     × (first_of (codes "role") rows ≡ Some (role_word s.role)) × (first_of (codes "link") rows ≡ Some (side_word s.link))
     × HasNumbers rows s
 
--- True if an end with this side can have this port, and a file for its port. Only a passive end has a file, or any free
--- port.
+-- True if the matches say how an end listens: which file gets its port, or that silent peers are skipped.
+abbrev pub says_how_to_listen : List Row → Bool
+says_how_to_listen rows = is_some (first_of (codes "port-file") rows) || flag_in (codes "skip-silent") rows
+
+-- True if an end with this side can have this port, and options that say how it listens. Only a passive end has these,
+-- or any free port.
 abbrev pub allows_port : Side → ℕ → Bool → Bool
-allows_port Passive port has_file = true
-allows_port Active port has_file = not (port == 0) && not has_file
+allows_port Passive port says_how = true
+allows_port Active port says_how = not (port == 0) && not says_how
 
 -- Holds if the matches have these settings and this port, and an end with the settings can have the port.
 abbrev pub HasEndpoint : List Row → Parameters → ℕ → Type 0
 HasEndpoint rows s port =
-    HasSettings rows s × (number_in port_number rows ≡ Some port)
-    × (allows_port s.link port (is_some (first_of (codes "port-file") rows)) ≡ true)
+    HasSettings rows s × (number_in port_number rows ≡ Some port) × (allows_port s.link port (says_how_to_listen rows) ≡ true)
 
 -- True if the matches say something about further connections: that they have no script, how many there are, or after
 -- which time.
@@ -145,3 +148,4 @@ AsksToServe rows service =
     × (service.mdln.now ≡ text_in (codes "mdln") rows) × (service.softrev.now ≡ text_in (codes "softrev") rows)
     × IsFlag (codes "send") rows service.send × IsFlag (codes "answer") rows service.answer
     × IsFlag (codes "all-sent") rows service.all_sent × IsFlag (codes "all-answered") rows service.all_answered
+    × IsFlag (codes "skip-silent") rows service.skip_silent

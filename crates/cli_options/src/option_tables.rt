@@ -203,12 +203,13 @@ pub fn encode_options() -> &'static [Described]
     &ENCODE_OPTIONS
 }
 
-static SERVE_OPTIONS: [Described; 25] = options![
+static SERVE_OPTIONS: [Described; 26] = options![
     Needed("role", "ROLE") => "Role of this end: host or equipment",
     Needed("link", "LINK") => "Connection mode: active connects, passive listens",
     Needed("address", "A") => "Where to connect to or listen: IP address or host name",
     Number(PORT, "P") => "TCP port: 1 to 65535; 0 with --link passive: any free port",
     Word("port-file", "FILE") => "With --link passive: write the port to this file",
+    Flag("skip-silent") => "With --link passive: skip connections whose peer sends nothing within T7",
     Number(DEVICE, "N") => DEVICE_HELP,
     Number(T3, "N") => T3_HELP,
     Number(T6, "N") => T6_HELP,

@@ -5,7 +5,7 @@ ghost use Rattle.clap.specs.Words.{first_of, found_of, rows_of};
 ghost use Rattle.hsms_machine.specs.Settings.{Parameters};
 ghost use Rattle.hsms_machine.specs.declared.settings.Role.{Role};
 ghost use Rattle.hsms_machine.specs.declared.settings.Side.{Side};
-ghost use Rattle.cli_options.specs.ServeOptions.{AsksToServe, HasEndpoint, HasNumbers, HasRepeat, HasSettings, allows_port, limits_repeat as has_limits, role_word, side_word};
+ghost use Rattle.cli_options.specs.ServeOptions.{AsksToServe, HasEndpoint, HasNumbers, HasRepeat, HasSettings, allows_port, limits_repeat as has_limits, role_word, says_how_to_listen as says_how, side_word};
 ghost use Rattle.cli_options.specs.InnerServeOptions.{HasOwnNumbers};
 ghost use Rattle.cli_options.specs.declared.serve_options.Repeat.{Repeat};
 ghost use Rattle.cli_options.specs.declared.serve_options.Service.{Service};
@@ -28,6 +28,8 @@ pub struct Service<'a> {
     pub port: u16,
     /// The name of the file to which a passive end writes its port.
     pub port_file: Option<&'a str>,
+    /// True if a passive end serves no connection whose peer sends nothing within T7.
+    pub skip_silent: bool,
     /// The system bytes of its first own message.
     pub first_system: u32,
     /// The maximum number of turns.
@@ -77,6 +79,7 @@ pub fn service_of<'a>(options: &ArgMatches<'a>) -> Option<Service<'a>>
         settings,
         port,
         port_file: text_of(options, "port-file"),
+        skip_silent: flag_of(options, "skip-silent"),
         first_system,
         turns,
         linktest,
@@ -89,7 +92,7 @@ pub fn service_of<'a>(options: &ArgMatches<'a>) -> Option<Service<'a>>
     })
 }
 
-// Returns the settings and the port of a service, if an end with these settings can have the port, and a file for it.
+// Returns the settings and the port of a service, if an end with these settings can have the port and the options.
 fn endpoint_of(options: &ArgMatches<'_>) -> Option<(Settings, u16)>
     ensures asks { IfSome result (λ end. HasEndpoint (rows_of (found_of options.now)) end.0 end.1) }
     ensures port { IfSome result (λ end. end.1 ≤ 65535) }
@@ -98,21 +101,27 @@ fn endpoint_of(options: &ArgMatches<'_>) -> Option<(Settings, u16)>
 {
     let settings = settings_of(options)?;
     let port = short_of(options, PORT)?;
-    let has_file = text_of(options, "port-file").is_some();
-    if allows_port(settings.link(), port, has_file) {
+    if allows_port(settings.link(), port, says_how_to_listen(options)) {
         return Some((settings, port));
     }
     None
 }
 
-// Returns whether an end with this side can have this port, and a file for it.
-fn allows_port(link: Side, port: u16, has_file: bool) -> bool
-    ensures { result ≡ allows_port link port has_file }
+// Returns whether an end with this side can have this port, and options that say how it listens.
+fn allows_port(link: Side, port: u16, says_how: bool) -> bool
+    ensures { result ≡ allows_port link port says_how }
 {
     match link {
         Side::Passive => true,
-        Side::Active => port != 0 && !has_file,
+        Side::Active => port != 0 && !says_how,
     }
+}
+
+// Returns true if these options say how an end listens.
+fn says_how_to_listen(options: &ArgMatches<'_>) -> bool
+    ensures { result ≡ says_how (rows_of (found_of options.now)) }
+{
+    text_of(options, "port-file").is_some() || flag_of(options, "skip-silent")
 }
 
 // Returns a service's first system bytes, number of turns, and link test time.

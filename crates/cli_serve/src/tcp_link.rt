@@ -238,11 +238,42 @@ fn stream_of<R: Net>(
     listener: &Option<R::Listener>,
 ) -> io::Result<R::Stream> {
     let stream = match listener {
-        Some(listener) => listener.accept()?.0,
+        Some(listener) => accepted::<R>(listener, service)?,
         None => TcpStream::connect(rt, (service.address, service.port))?,
     };
     stream.set_nodelay(true)?;
     let t8 = u64::from(service.settings.t8());
     stream.set_write_timeout(Some(Duration::from_millis(t8)))?;
     Ok(stream)
+}
+
+// Accepts the next connection. If silent ones are skipped, it is the next one whose peer sends a byte within T7.
+fn accepted<R: Net>(listener: &R::Listener, service: &Service<'_>) -> io::Result<R::Stream> {
+    for _ in 0..u64::MAX {
+        let (stream, _) = listener.accept()?;
+        if !service.skip_silent || speaks(&stream, service.settings.t7())? {
+            return Ok(stream);
+        }
+    }
+    Err(io::Error::from(ErrorKind::TimedOut))
+}
+
+// Returns true if the peer sends a byte within a time, in milliseconds. The byte stays unread.
+fn speaks<S: OpenStream>(stream: &S, within: u32) -> io::Result<bool> {
+    stream.set_read_timeout(Some(Duration::from_millis(u64::from(within))))?;
+    let count = peeked(stream);
+    stream.set_read_timeout(None)?;
+    Ok(count > 0)
+}
+
+// Returns the number of bytes that a peek sees, or 0 if it fails. A signal does not end it.
+fn peeked<S: OpenStream>(stream: &S) -> usize {
+    let mut first = [0u8; 1];
+    for _ in 0..u64::MAX {
+        match stream.peek(&mut first) {
+            Err(error) if error.kind() == ErrorKind::Interrupted => {}
+            answer => return answer.unwrap_or(0),
+        }
+    }
+    0
 }
