@@ -73,7 +73,7 @@ _hsms() {
         '--depth[Maximum nesting of lists\: 1 to 100 \[default\: 32\]]:N:' \
         '--help[Print help]' \
         '--verbose[Explain errors\: what happened, and what to do]' \
-        ':FILE:_files'
+        '*:FILE:_files'
       ;;
     encode)
       _arguments \

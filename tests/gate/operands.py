@@ -2,7 +2,8 @@
 """Checks commands that name their input on the command line, against the same input at standard input.
 
 With one file, or with `-`, each command answers as it does with that standard input. With several files `show` and
-`encode` answer for each in turn, and `audit` writes a line for each and one with the counts. Files that are missing,
+`encode` answer for each in turn, and `audit` writes a line for each and one with the counts. Captures that are cut into
+files of pcap and pcapng, in any order, are one capture, up to a file that is cut off. Files that are missing,
 unreadable, folders or cut off are tried, options after files, `--`, and names that begin with a dash.
 
 It runs what `rt ci` has built, or the given program. The last line is `N passed, M failed`.
@@ -112,7 +113,7 @@ def on_the_command_line(room):
     yield "--max", answer(["audit", "--max"], cwd=room), INVALID
     # (-v is a request for explanations at any position)
     yield "-- -v", answer(["audit", "--", "-v"], read("examples/session.log"), cwd=room), Answer(0, PASS, b"")
-    for words in (["explain", "a", "b"], ["capture", "a", "b"], ["serve", "a"], ["audit", "--quit"], ["show", "--quiet"]):
+    for words in (["explain", "a", "b"], ["capture", "a", "-"], ["capture", "-", "-"], ["serve", "a"], ["audit", "--quit"], ["show", "--quiet"]):
         yield " ".join(words), answer(words), INVALID
 
 
@@ -181,9 +182,76 @@ def audits(room):
     )
 
 
+def records(octets):
+    """The header of a pcap file with microseconds in little endian, and its records."""
+    assert octets[:4] == b"\xd4\xc3\xb2\xa1", octets[:4]
+    header, at, found = octets[:24], 24, []
+    while at < len(octets):
+        size = 16 + int.from_bytes(octets[at + 8 : at + 12], "little")
+        found.append(octets[at : at + size])
+        at += size
+    return header, found
+
+
+def block(kind, body):
+    body += bytes(-len(body) % 4)
+    size = (12 + len(body)).to_bytes(4, "little")
+    return kind.to_bytes(4, "little") + size + body + size
+
+
+def in_pcapng(header, found):
+    """A file of pcapng with these records."""
+    made = block(0x0A0D0D0A, bytes.fromhex("4d3c2b1a01000000ffffffffffffffff")) + block(1, header[20:22] + bytes(6))
+    for record in found:
+        seconds, micros = (int.from_bytes(record[at : at + 4], "little") for at in (0, 4))
+        time = 1_000_000 * seconds + micros
+        times = (time >> 32).to_bytes(4, "little") + (time & 0xFFFFFFFF).to_bytes(4, "little")
+        made += block(6, bytes(4) + times + record[8:16] + record[16:])
+    return made
+
+
+def captures(room):
+    """Captures that are cut into files."""
+
+    def put(name, octets):
+        with open(f"{room}/{name}", "wb") as file:
+            file.write(octets)
+        return name
+
+    def capture(*words):
+        return answer(["capture", *words], cwd=room)
+
+    for place, more in (("examples/late-reply.pcap", ["--t3", "1000"]), ("tests/captures/devices.pcap", ["--midstream"])):
+        octets = read(place)
+        header, found = records(octets)
+        whole = answer(["capture", *more], octets)
+        log = answer(["capture", *more, "--log", "host"], octets)
+        cuts = [0, len(found) // 3, len(found) // 3, 2 * len(found) // 3, len(found)]
+        parts = [found[low:high] for low, high in zip(cuts, cuts[1:])]
+        for form, of in (("pcap", lambda part: header + b"".join(part)), ("pcapng", lambda part: in_pcapng(header, part))):
+            names = [put(f"{at}.{form}", of(part)) for at, part in enumerate(parts)]
+            for order in (names, names[::-1], names[2:] + names[:2]):
+                yield f"{place}: {order}", capture(*more, *order), whole
+            yield f"{place}: log of {names}", capture(*more, "--log", "host", *names), log
+        other = put("other.pcap", header[:20] + b"\x71\0\0\0" + b"".join(parts[0]))
+        for mixed in ("0.pcapng", other):
+            yield f"{place}: {mixed}", capture("0.pcap", mixed), Answer(2, b"", b"hsms: Mixed file=" + mixed.encode() + b"\n")
+        cut = put("cut.pcap", header + b"".join(parts[2])[:-3])
+        before = answer(["capture", *more], octets[:24] + b"".join(found[: cuts[3]])[:-3])
+        yield f"{place}: cut off", capture(*more, "3.pcap", cut, "0.pcap"), before
+        yield f"{place}: missing", capture("0.pcap", "missing"), Answer(2, b"", b"hsms: Open file=missing\n")
+        garbage = put("garbage", b"no capture at all, but a text that is long enough")
+        wanted = answer(["capture"], read("examples/session.log"))
+        yield f"{place}: no capture", capture("0.pcap", garbage), of_file(wanted, garbage)
+    mixed = b"hsms: Mixed file=0.pcapng\nthis capture has another format than the files before it: convert all with mergecap\n"
+    yield "mixed, with -v", capture("0.pcap", "0.pcapng", "-v"), Answer(2, b"", mixed)
+    names = [put(f"{at}.one", header + record) for at, record in enumerate(found)]
+    yield "a file for each packet", capture(*more, *names[::-1]), whole
+
+
 def tries():
     yield from one_file()
-    for part in (no_file, on_the_command_line, several, audits):
+    for part in (no_file, on_the_command_line, several, audits, captures):
         with tempfile.TemporaryDirectory() as room:
             yield from part(room)
 

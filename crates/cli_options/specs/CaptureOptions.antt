@@ -9,7 +9,7 @@ use Rattle.hsms_machine.specs.declared.settings.Side.{Side}
 use Rattle.hsms_machine.specs.declared.settings.Side.TheVariants.{Active, Passive}
 use Rattle.hsms_machine.specs.Settings.{Parameters}
 use Rattle.cli_options.specs.declared.capture_options.Capturing.{Capturing}
-use Rattle.cli_options.specs.OptionValues.{IsFlag, Number, depth_number, device_number, flag_option, max_number, number_in, operand, option_of, text_option}
+use Rattle.cli_options.specs.OptionValues.{IsFlag, Number, depth_number, device_number, flag_option, max_number, number_in, operands, option_of, text_option}
 use Rattle.cli_options.specs.ServeOptions.{HasNumbers, role_word, time_rules}
 
 -- ---- the options
@@ -27,7 +27,7 @@ abbrev pub size_rules : List Rule
 size_rules = option_of max_number ∷ option_of depth_number ∷ []
 
 abbrev pub capture_rules : List Rule
-capture_rules = operand (codes "FILE") ∷ place_rules ++ (time_rules ++ size_rules)
+capture_rules = operands (codes "FILE") ∷ place_rules ++ (time_rules ++ size_rules)
 
 -- ---- what they request
 

@@ -165,7 +165,7 @@ pub fn compare_options() -> &'static [Described]
 }
 
 static CAPTURE_OPTIONS: [Described; 13] = options![
-    File(FILE) => FILE_HELP,
+    Files(FILE) => "Files to read as one capture, in the order of their first packets; - is standard input [default: -]",
     Number(CAPTURED_PORT, "N") => "TCP port of the listening ends: 1 to 65535 [default: 5000]",
     Word("peer", "ADDRESS") => "Only connections with this IP address at one end",
     Word("active", "ROLE") => "Role of the connecting end, host or equipment [default: host]",
