@@ -23,7 +23,10 @@ impl<'a> Order<'a> {
         if self.files.iter().any(|(_, other)| !start.continues(other)) {
             return Ok(false);
         }
-        let at = self.files.iter().position(|(_, other)| start.is_earlier(other));
+        let at = self
+            .files
+            .iter()
+            .position(|(_, other)| start.is_earlier(other));
         let at = at.unwrap_or(self.files.len()).min(self.files.len());
         self.files.insert(at, (name, start))?;
         Ok(true)

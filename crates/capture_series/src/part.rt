@@ -122,7 +122,10 @@ impl<R: Read + Drop> Part<R> {
         let Some(reader) = &mut self.reader else {
             return Ok(false);
         };
-        let (_, rest) = self.octets.as_slice().split_at(self.ready.min(self.octets.len()));
+        let (_, rest) = self
+            .octets
+            .as_slice()
+            .split_at(self.ready.min(self.octets.len()));
         match reader.front(rest) {
             Ok(Front::More) => Ok(false),
             Ok(front) => match reader.pass(front) {

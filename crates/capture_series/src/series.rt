@@ -65,7 +65,7 @@ impl<P: Parts + Drop> Read for Series<P> {
                 Some(part) => {
                     let count = part.read(self.alloc, into)?;
                     if count > 0 {
-                        return Ok(count);
+                        return Ok(count.min(into.len()));
                     }
                     self.has_ended = part.is_last();
                     self.part = None;

@@ -31,9 +31,7 @@ impl Start {
                     parts: its_parts,
                     link: its_link,
                 },
-            ) => {
-                is_big(order) == is_big(its_order) && parts == its_parts && link == its_link
-            }
+            ) => { is_big(order) == is_big(its_order) && parts == its_parts && link == its_link }
             _ => false,
         }
     }
