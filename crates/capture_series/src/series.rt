@@ -53,7 +53,8 @@ impl<P: Parts + Drop> Series<P> {
 
 impl<P: Parts + Drop> Read for Series<P> {
     fn read(&mut self, into: &mut [u8]) -> io::Result<usize> {
-        if into.is_empty() {
+        let most = into.len();
+        if most == 0 {
             return Ok(0);
         }
         for _ in 0..u64::MAX {
@@ -65,7 +66,7 @@ impl<P: Parts + Drop> Read for Series<P> {
                 Some(part) => {
                     let count = part.read(self.alloc, into)?;
                     if count > 0 {
-                        return Ok(count.min(into.len()));
+                        return Ok(count.min(most));
                     }
                     self.has_ended = part.is_last();
                     self.part = None;
