@@ -53,8 +53,7 @@ impl<P: Parts + Drop> Series<P> {
 
 impl<P: Parts + Drop> Read for Series<P> {
     fn read(&mut self, into: &mut [u8]) -> io::Result<usize> {
-        let most = into.len();
-        if most == 0 {
+        if into.is_empty() {
             return Ok(0);
         }
         for _ in 0..u64::MAX {
@@ -66,7 +65,7 @@ impl<P: Parts + Drop> Read for Series<P> {
                 Some(part) => {
                     let count = part.read(self.alloc, into)?;
                     if count > 0 {
-                        return Ok(count.min(most));
+                        return Ok(count.min(into.len()));
                     }
                     self.has_ended = part.is_last();
                     self.part = None;
