@@ -2,13 +2,15 @@
 """Checks commands that name their input on the command line, against the same input at standard input.
 
 With one file, or with `-`, each command answers as it does with that standard input. With several files `show` and
-`encode` answer for each in turn, and `audit` writes a line for each and one with the counts. Captures that are cut into
-files of pcap and pcapng, in any order, are one capture, up to a file that is cut off. Files that are missing,
-unreadable, folders or cut off are tried, options after files, `--`, and names that begin with a dash.
+`encode` answer for each in turn, and `audit` writes a line for each and one with the counts. `capture` answers of files
+in all formats and link types, in any order, as of one with their packets, up to the first that cannot be read. Files that
+are missing, unreadable, folders or cut off are tried, options after files, `--`, and names that begin with a dash.
 
 It runs what `rt ci` has built, or the given program. The last line is `N passed, M failed`.
 """
+import glob
 import os
+import struct
 import subprocess
 import sys
 import tempfile
@@ -18,6 +20,7 @@ sys.path.insert(0, os.path.abspath(f"{__file__}/../../.."))
 
 from tests.support.command import LONGEST_RUN, TOP, Answer, program_given
 from tests.support.comparisons import status_of
+from tests.support.pcap_writer import LINKS, MORE_FORMS, Capture
 
 PROGRAM = program_given()
 
@@ -113,7 +116,7 @@ def on_the_command_line(room):
     yield "--max", answer(["audit", "--max"], cwd=room), INVALID
     # (-v is a request for explanations at any position)
     yield "-- -v", answer(["audit", "--", "-v"], read("examples/session.log"), cwd=room), Answer(0, PASS, b"")
-    for words in (["explain", "a", "b"], ["capture", "a", "-"], ["capture", "-", "-"], ["serve", "a"], ["audit", "--quit"], ["show", "--quiet"]):
+    for words in (["explain", "a", "b"], ["serve", "a"], ["audit", "--quit"], ["show", "--quiet"]):
         yield " ".join(words), answer(words), INVALID
 
 
@@ -183,31 +186,47 @@ def audits(room):
 
 
 def records(octets):
-    """The header of a pcap file with microseconds in little endian, and its records."""
-    assert octets[:4] == b"\xd4\xc3\xb2\xa1", octets[:4]
-    header, at, found = octets[:24], 24, []
+    """The records of a pcap file of Ethernet with microseconds in little endian: time, bytes, and the packet's length."""
+    assert octets[:4] == b"\xd4\xc3\xb2\xa1" and octets[20] == 1, octets[:24]
+    at, found = 24, []
     while at < len(octets):
-        size = 16 + int.from_bytes(octets[at + 8 : at + 12], "little")
-        found.append(octets[at : at + size])
-        at += size
-    return header, found
+        seconds, micros, held, had = struct.unpack_from("<IIII", octets, at)
+        found.append((10**6 * seconds + micros, octets[at + 16 : at + 16 + held], had))
+        at += 16 + held
+    return found
 
 
-def block(kind, body):
-    body += bytes(-len(body) % 4)
-    size = (12 + len(body)).to_bytes(4, "little")
-    return kind.to_bytes(4, "little") + size + body + size
+def in_form(found, form, link="ethernet"):
+    """A capture file of these records."""
+    capture = Capture(form, link, found and found[0][1][12:14] == b"\x86\xdd")
+    for time, octets, had in found:
+        if link != "ethernet":
+            octets, had = capture.link_header() + octets[14:], had - 14 + len(capture.link_header())
+        capture.packet(time, octets.ljust(had, b"\0"), len(octets))
+    return capture.octets
 
 
-def in_pcapng(header, found):
-    """A file of pcapng with these records."""
-    made = block(0x0A0D0D0A, bytes.fromhex("4d3c2b1a01000000ffffffffffffffff")) + block(1, header[20:22] + bytes(6))
-    for record in found:
-        seconds, micros = (int.from_bytes(record[at : at + 4], "little") for at in (0, 4))
-        time = 1_000_000 * seconds + micros
-        times = (time >> 32).to_bytes(4, "little") + (time & 0xFFFFFFFF).to_bytes(4, "little")
-        made += block(6, bytes(4) + times + record[8:16] + record[16:])
-    return made
+def without_times(found):
+    """A capture file of these records in simple packet blocks, which have no times."""
+    capture = Capture("pcapng<")
+    for _, octets, had in found:
+        assert len(octets) == had, had
+        capture.octets += capture.block(3, struct.pack("<I", had) + octets)
+    return capture.octets
+
+
+def in_series(told, names, counts, named=None):
+    """The answer on several files, from that on one with all their packets: `counts` of them are in each, in order. An
+    error names no file, or the one that cannot be read."""
+    starts, first = b"", 1
+    for name, count in zip(names, counts):
+        if count:
+            starts += f"# from packet {first}: {name}\n".encode()
+        first += count
+    lines = told.output.splitlines(keepends=True)
+    unjudged = lines.pop() if lines and lines[-1].startswith(b"# not judged: ") else b""
+    error = told.error if named is None else told.error[:-1] + f" file={named}\n".encode()
+    return Answer(told.status, b"".join(lines) + starts + unjudged, error)
 
 
 def captures(room):
@@ -218,40 +237,96 @@ def captures(room):
             file.write(octets)
         return name
 
-    def capture(*words):
-        return answer(["capture", *words], cwd=room)
+    def capture(*words, given=b""):
+        return answer(["capture", *words], given, cwd=room)
 
+    forms = [*MORE_FORMS, "pcap<"]
     for place, more in (("examples/late-reply.pcap", ["--t3", "1000"]), ("tests/captures/devices.pcap", ["--midstream"])):
         octets = read(place)
-        header, found = records(octets)
-        whole = answer(["capture", *more], octets)
-        log = answer(["capture", *more, "--log", "host"], octets)
+        found = records(octets)
+        whole, log = capture(*more, given=octets), capture(*more, "--log", "host", given=octets)
         cuts = [0, len(found) // 3, len(found) // 3, 2 * len(found) // 3, len(found)]
         parts = [found[low:high] for low, high in zip(cuts, cuts[1:])]
-        for form, of in (("pcap", lambda part: header + b"".join(part)), ("pcapng", lambda part: in_pcapng(header, part))):
-            names = [put(f"{at}.{form}", of(part)) for at, part in enumerate(parts)]
+        counts = [len(part) for part in parts]
+        for turn, form in enumerate(forms):
+            # (each file in a form and with a link type of its own)
+            names = [
+                put(f"{at}.{turn}", in_form(part, forms[(turn + at) % len(forms)], list(LINKS)[(turn + at) % len(LINKS)]))
+                for at, part in enumerate(parts)
+            ]
+            expected = in_series(whole, names, counts)
             for order in (names, names[::-1], names[2:] + names[:2]):
-                yield f"{place}: {order}", capture(*more, *order), whole
-            yield f"{place}: log of {names}", capture(*more, "--log", "host", *names), log
-        other = put("other.pcap", header[:20] + b"\x71\0\0\0" + b"".join(parts[0]))
-        for mixed in ("0.pcapng", other):
-            yield f"{place}: {mixed}", capture("0.pcap", mixed), Answer(2, b"", b"hsms: Mixed file=" + mixed.encode() + b"\n")
-        cut = put("cut.pcap", header + b"".join(parts[2])[:-3])
-        before = answer(["capture", *more], octets[:24] + b"".join(found[: cuts[3]])[:-3])
-        yield f"{place}: cut off", capture(*more, "3.pcap", cut, "0.pcap"), before
-        yield f"{place}: missing", capture("0.pcap", "missing"), Answer(2, b"", b"hsms: Open file=missing\n")
-        garbage = put("garbage", b"no capture at all, but a text that is long enough")
-        wanted = answer(["capture"], read("examples/session.log"))
-        yield f"{place}: no capture", capture("0.pcap", garbage), of_file(wanted, garbage)
-    mixed = b"hsms: Mixed file=0.pcapng\nthis capture has another format than the files before it: convert all with mergecap\n"
-    yield "mixed, with -v", capture("0.pcap", "0.pcapng", "-v"), Answer(2, b"", mixed)
-    names = [put(f"{at}.one", header + record) for at, record in enumerate(found)]
-    yield "a file for each packet", capture(*more, *names[::-1]), whole
+                yield f"{place} {form}: {order}", capture(*more, *order), expected
+            yield f"{place} {form}: log", capture(*more, "--log", "host", *names), in_series(log, names, counts)
+            for at, name in enumerate(names):
+                rest = names[:at] + names[at + 1 :]
+                with open(f"{room}/{name}", "rb") as file:
+                    given = file.read()
+                wanted = in_series(whole, ["-" if it == name else it for it in names], counts)
+                yield f"{place} {form}: - for {name}", capture(*more, *rest, "-", given=given), wanted
+        yield f"{place}: missing", capture("0.0", "missing"), Answer(2, b"", b"hsms: Open file=missing\n")
+        yield f"{place}: folder", capture("0.0", ".", "-v"), Answer(2, b"", b"hsms: Open file=.\n" + WHY_FOLDER)
+        names = [put(f"{at}.one", in_form([record], "pcap<")) for at, record in enumerate(found)]
+        counts = [1] * len(found)
+        yield f"{place}: a file for each packet", capture(*more, *names[::-1]), in_series(whole, names, counts)
+        yield from broken(place, more, found, put, capture)
+
+
+def broken(place, more, found, put, capture):
+    """Series with files that cannot be read to their ends."""
+    half = len(found) // 2
+    front, rest = in_form(found[:half], "pcap<"), in_form(found[half:], "pcapng>")
+    put("front", front), put("rest", rest)
+    faults = {
+        "cut off": (front[:-3], half - 1),
+        "cut off behind a packet": (front + b"\1", half),
+        "too long": (front + bytes(8) + b"\xff" * 8, half),
+    }
+    for called, (octets, count) in faults.items():
+        name, told = put("fault", octets), capture(*more, given=octets)
+        named = name if told.error.startswith((b"hsms: CutOff", b"hsms: Capture")) else None
+        yield f"{place}: {called}", capture(*more, "rest", name), in_series(told, [name], [count], named)
+    # (a file without a packet is the last, and one that is cut off ends the capture)
+    both, counts = ["front", "rest"], [half, len(found) - half]
+    whole = capture(*more, given=in_form(found, "pcap<"))
+    bare = put("bare", in_form([], "pcap>"))
+    yield f"{place}: no packets", capture(*more, bare, *both), in_series(whole, both, counts)
+    for called, octets in (("empty", b""), ("cut in its header", front[:20]), ("cut in its first packet", front[:50])):
+        name = put("none", octets)
+        cut = capture(*more, given=in_form(found, "pcap<") + b"\1")
+        wanted = in_series(cut, both, counts, name if cut.error == b"hsms: CutOff\n" else None)
+        yield f"{place}: {called}", capture(*more, name, *both), wanted
+    bare_ng = put("bare.pcapng", in_form([], "pcapng<"))
+    wanted = Answer(2, b"", b"hsms: NoConnection\n")
+    yield f"{place}: no packets at all", capture(bare, bare_ng), wanted
+    garbage = put("garbage", b"no capture at all, but a text that is long enough")
+    refused = capture(given=b"no capture at all, but a text that is long enough")
+    yield f"{place}: no capture", capture("front", garbage), of_file(Answer(2, b"", refused.error), garbage)
+    twice = capture(*more, given=in_form(found + found, "pcap<"))
+    put("all", in_form(found, "nanoseconds>"))
+    yield f"{place}: one file twice", capture(*more, "all", "all"), in_series(twice, ["all", "all"], 2 * [len(found)])
+    timeless = without_times(found[half:])
+    put("timeless", timeless)
+    told = capture(*more, given=in_form(found[:half], "pcapng<") + timeless)
+    yield f"{place}: no times", capture(*more, "timeless", "front"), in_series(told, ["front", "timeless"], counts)
+
+
+def kept_captures(room):
+    """Each capture of the tests, in a series with a file that has no packets: what is said of it is the same."""
+    with open(f"{room}/bare", "wb") as file:
+        file.write(in_form([], "pcap<"))
+    for path in sorted(glob.glob(f"{TOP}/tests/captures/*.pcap") + glob.glob(f"{TOP}/examples/*.pcap")):
+        for more in ([], ["--midstream"], ["--log", "equipment"]):
+            with open(path, "rb") as file:
+                told = answer(["capture", *more], file.read())
+            named = path if told.error.startswith((b"hsms: CutOff", b"hsms: Capture")) else None
+            wanted = in_series(told, [path], [1], named)
+            yield f"{os.path.basename(path)} {more}", answer(["capture", *more, "bare", path], cwd=room), wanted
 
 
 def tries():
     yield from one_file()
-    for part in (no_file, on_the_command_line, several, audits, captures):
+    for part in (no_file, on_the_command_line, several, audits, captures, kept_captures):
         with tempfile.TemporaryDirectory() as room:
             yield from part(room)
 

@@ -1,21 +1,19 @@
 //! Capture files that are read one after another as one capture, as those of a ring buffer.
 //!
-//! [`start_of`] reads a file up to its first packet, and an [`Order`] puts files in the order of their first packets. A
-//! [`Series`] reads them as one file:
+//! A [`Part`] reads one file packet by packet, and [`Part::time`] is the time of its first packet. A [`Series`] is a
+//! capture in pcapng whose packets are those of its files, in order:
 //!
 //! ```
-//! if !order.add(name, start_of(alloc, input)?)? { return .. } // of another format than the files before
-//! let source = Reader::new(Series::new(alloc, NamedFiles::new(rt, order)));
+//! let mut series = Series::new(alloc, parts); // `parts` opens one file after another
+//! let done = capture_to(alloc, options, &mut Reader::new(&mut series), &mut sink, &mut unjudged);
+//! for start in series.starts() { .. } // the number of each file's first packet
 //! ```
 #![tactic(auto)]
 
-mod named;
-mod order;
+mod blocks;
 mod part;
 mod series;
-mod start;
 
-pub use named::NamedFiles;
-pub use order::Order;
-pub use series::{Parts, Series};
-pub use start::{Start, start_of};
+pub use blocks::Blocks;
+pub use part::Part;
+pub use series::{FailedPart, NextPart, Parts, PartStart, Series};

@@ -1,144 +1,94 @@
 //! A capture file of a series.
 
-use capture_pcap::{Front, Opening, Reader, format_of};
-use hsms_frame::drop_front;
+use crate::blocks::Blocks;
+use capture_pcap::{FileFault, Packets, Step};
+use hsms_frame::Reader;
 use std::alloc::Global;
-use std::io;
-use std::io::{ErrorKind, Read};
+use std::io::Read;
 
-// The number of bytes of one read.
-const BLOCK: usize = 65536;
-
-/// A capture file that is read. Only complete records are returned, before its end or an invalid record.
+/// A capture file that is read packet by packet. Memory holds at most one of them, and 65,536 bytes more.
 #[derive(Drop)]
-pub struct Part<R> {
-    input: R,
-    // True if its header is left out.
-    is_continued: bool,
-    // Finds the records that follow the header. `None` before the header is found.
-    reader: Option<Reader>,
-    octets: Vec<u8>,
-    // The number of these bytes that may be returned.
-    ready: usize,
-    // True if the rest of the file is returned as it is.
-    is_raw: bool,
+pub struct Part<I> {
+    source: Reader<I>,
+    packets: Packets,
+    // What was read and not passed: the first packet, or why there is none.
+    first: Option<Result<Step, FileFault>>,
+    // The number of packets that were passed.
+    passed: u64,
 }
 
-impl<R: Read + Drop> Part<R> {
-    /// Creates a file of which nothing was read.
-    pub fn new(alloc: Global, input: R, is_continued: bool) -> Part<R> {
-        Part {
-            input,
-            is_continued,
-            reader: None,
-            octets: Vec::new(alloc),
-            ready: 0,
-            is_raw: false,
+impl<I: Read + Drop> Part<I> {
+    /// Opens a file, and reads up to its first packet.
+    ///
+    /// # Errors
+    ///
+    /// Returns why the file is not a capture. Why its first packet cannot be read is returned by [`Part::pass`].
+    pub fn open(alloc: Global, input: I) -> Result<Part<I>, FileFault> {
+        let mut source = Reader::new(input);
+        let mut packets = Packets::open(alloc, &mut source)?;
+        let first = first_step(&mut packets, &mut source);
+        Ok(Part {
+            source,
+            packets,
+            first: Some(first),
+            passed: 0,
+        })
+    }
+
+    /// Returns the time of the first packet in milliseconds since 1970, if the file has one with a time.
+    pub fn time(&self) -> Option<u128> {
+        match self.first {
+            Some(Ok(Step::Packet(_, record))) => record.time,
+            _ => None,
         }
     }
 
-    /// Returns true if no file may follow: a record was invalid or cut off.
-    pub fn is_last(&self) -> bool {
-        self.is_raw
+    /// Returns the number of packets that were passed.
+    pub fn passed(&self) -> u64 {
+        self.passed
     }
 
-    /// Reads bytes of complete records. Returns 0 at the end of the file.
-    pub fn read(&mut self, alloc: Global, into: &mut [u8]) -> io::Result<usize> {
-        for _ in 0..u64::MAX {
-            if self.ready > 0 {
-                return Ok(self.give(into));
-            }
-            if !self.read_more()? {
-                if self.octets.is_empty() {
-                    return Ok(0);
-                }
-                self.is_raw = true;
-            }
-            self.find(alloc)?;
+    /// Passes the next record or block of the file, and appends its packet, if it has one. Returns false at the end of
+    /// the file.
+    pub fn pass(&mut self, blocks: &mut Blocks) -> Result<bool, FileFault> {
+        if self.passed < self.unread() {
+            self.passed = self.passed.saturating_add(1);
+            blocks.push_unread()?;
+            return Ok(true);
         }
-        Ok(0)
-    }
-
-    // Returns bytes that are ready.
-    fn give(&mut self, into: &mut [u8]) -> usize {
-        let count = self.ready.min(self.octets.len()).min(into.len());
-        into[..count].copy_from_slice(&self.octets[..count]);
-        drop_front(&mut self.octets, count);
-        self.ready = self.ready.saturating_sub(count);
-        count
-    }
-
-    // Reads a block. Returns false at the end of the file.
-    fn read_more(&mut self) -> io::Result<bool> {
-        let mut block = [0u8; BLOCK];
-        let count = self.input.read(&mut block)?.min(BLOCK);
-        match self.octets.extend_from_slice(&block[..count]) {
-            Ok(()) => Ok(count > 0),
-            Err(_) => Err(io::Error::from(ErrorKind::OutOfMemory)),
-        }
-    }
-
-    // Finds the header and the complete records in what was read.
-    fn find(&mut self, alloc: Global) -> io::Result<()> {
-        if !self.is_raw {
-            self.find_header(alloc);
-            self.find_records()?;
-        }
-        if self.is_raw {
-            self.ready = self.octets.len();
-        }
-        Ok(())
-    }
-
-    fn find_records(&mut self) -> io::Result<()> {
-        for _ in 0..self.octets.len() {
-            if !self.find_record()? {
-                return Ok(());
-            }
-        }
-        Ok(())
-    }
-
-    fn find_header(&mut self, alloc: Global) {
-        if self.reader.is_some() {
-            return;
-        }
-        match format_of(&self.octets) {
-            Ok(Opening::More) => {}
-            Ok(Opening::Opened(format, size)) => {
-                if self.is_continued {
-                    drop_front(&mut self.octets, size);
-                } else {
-                    self.ready = size;
-                }
-                self.reader = Some(Reader::new(alloc, format, size));
-            }
-            Err(_) => self.is_raw = true,
-        }
-    }
-
-    // Finds the next record, if it is complete.
-    fn find_record(&mut self) -> io::Result<bool> {
-        let Some(reader) = &mut self.reader else {
-            return Ok(false);
+        let step = match self.first.take() {
+            Some(step) => step?,
+            None => self.packets.next(&mut self.source)?,
         };
-        let (_, rest) = self
-            .octets
-            .as_slice()
-            .split_at(self.ready.min(self.octets.len()));
-        match reader.front(rest) {
-            Ok(Front::More) => Ok(false),
-            Ok(front) => match reader.pass(front) {
-                Ok(size) => {
-                    self.ready = self.ready.saturating_add(size).min(self.octets.len());
-                    Ok(true)
-                }
-                Err(_) => Err(io::Error::from(ErrorKind::OutOfMemory)),
-            },
-            Err(_) => {
-                self.is_raw = true;
-                Ok(false)
+        match step {
+            Step::Packet(number, record) => {
+                let end = record.body.saturating_add(record.held);
+                let octets = self.packets.octets().get(record.body..end).unwrap_or(&[]);
+                blocks.push_packet(&record, octets)?;
+                self.passed = number;
+                Ok(true)
             }
+            Step::Passed => Ok(true),
+            Step::End => Ok(false),
         }
     }
+
+    // Returns the number of packets before the one that was read and not passed.
+    fn unread(&self) -> u64 {
+        match self.first {
+            Some(Ok(Step::Packet(number, _))) => number.saturating_sub(1),
+            _ => self.packets.reader().packets(),
+        }
+    }
+}
+
+// Reads up to the first packet.
+fn first_step<I: Read>(packets: &mut Packets, source: &mut Reader<I>) -> Result<Step, FileFault> {
+    for _ in 0..u64::MAX {
+        match packets.next(source)? {
+            Step::Passed => {}
+            step => return Ok(step),
+        }
+    }
+    Ok(Step::Passed)
 }

@@ -1,77 +1,150 @@
-//! The bytes of several capture files, as those of one.
+//! The packets of several capture files, as one capture.
 
+use crate::blocks::Blocks;
 use crate::part::Part;
-use std::alloc::Global;
+use capture_pcap::FileFault;
+use std::alloc::{AllocError, Global};
 use std::io;
-use std::io::Read;
+use std::io::{ErrorKind, Read};
+
+/// The next file of a series: its name, and the file if it can be opened.
+#[derive(Drop)]
+pub struct NextPart<'n, I> {
+    pub name: &'n str,
+    pub part: Result<Part<I>, FileFault>,
+}
 
 /// The files of a series, in order.
-pub trait Parts {
+pub trait Parts<'n> {
     /// An open file.
     type Input: Read + Drop;
 
     /// Opens the next file. Returns `None` after the last one.
-    fn open(&mut self) -> io::Result<Option<Self::Input>>;
+    fn next_part(&mut self) -> Option<NextPart<'n, Self::Input>>;
 }
 
-/// The bytes of capture files of one format: those of the first file, and of each later one what follows its header. So
-/// packets are numbered through all files. A record that is invalid or cut off ends the series: its file is read to the
-/// end, and no later one.
+/// The name of a file with packets, and the number of the first one in the series, counted from 1.
+#[derive(Clone, Copy)]
+pub struct PartStart<'n> {
+    pub name: &'n str,
+    pub packet: u64,
+}
+
+/// The name of a file that cannot be read to its end, and why.
+#[derive(Clone, Copy)]
+pub struct FailedPart<'n> {
+    pub name: &'n str,
+    pub fault: FileFault,
+}
+
+/// A capture in pcapng whose packets are those of its files, in order. A file that cannot be read to its end is the last
+/// one: the capture then ends within a block.
 #[derive(Drop)]
-pub struct Series<P: Parts> {
-    alloc: Global,
+pub struct Series<'n, P: Parts<'n>> {
     parts: P,
     part: Option<Part<P::Input>>,
-    // True if a file was opened.
-    has_begun: bool,
-    // True if the last file has ended.
+    // The name of the file that was opened last.
+    name: &'n str,
+    blocks: Blocks,
+    // The number of packets of the files that were read.
+    before: u64,
+    starts: Vec<PartStart<'n>>,
+    failed: Option<FailedPart<'n>>,
     has_ended: bool,
 }
 
-impl<P: Parts + Drop> Series<P> {
+impl<'n, P: Parts<'n> + Drop> Series<'n, P> {
     /// Creates a series of which nothing was read.
-    pub fn new(alloc: Global, parts: P) -> Series<P> {
-        Series {
-            alloc,
+    pub fn new(alloc: Global, parts: P) -> Result<Series<'n, P>, AllocError> {
+        Ok(Series {
             parts,
             part: None,
-            has_begun: false,
+            name: "",
+            blocks: Blocks::new(alloc)?,
+            before: 0,
+            starts: Vec::new(alloc),
+            failed: None,
             has_ended: false,
+        })
+    }
+
+    /// Returns the files of which packets were read, in order.
+    pub fn starts(&self) -> &[PartStart<'n>] {
+        &self.starts
+    }
+
+    /// Returns the file that cannot be read to its end, if there is one.
+    pub fn failed(&self) -> Option<FailedPart<'n>> {
+        self.failed
+    }
+
+    // Reads until there are blocks, or the last file has ended.
+    fn fill(&mut self) -> io::Result<()> {
+        for _ in 0..u64::MAX {
+            if self.has_ended || !self.blocks.is_empty() {
+                return Ok(());
+            }
+            if let Err(fault) = self.advance() {
+                return self.fail(fault);
+            }
         }
+        Ok(())
+    }
+
+    // Reads a record or block of the file, or opens the next file.
+    fn advance(&mut self) -> Result<(), FileFault> {
+        let Some(part) = &mut self.part else {
+            return self.open_next();
+        };
+        let passed = part.passed();
+        let has_more = part.pass(&mut self.blocks)?;
+        if passed == 0 && part.passed() > 0 {
+            self.starts.extend_from_slice(&[PartStart {
+                name: self.name,
+                packet: self.before.saturating_add(1),
+            }])?;
+        }
+        if !has_more {
+            self.before = self.before.saturating_add(part.passed());
+            self.part = None;
+        }
+        Ok(())
     }
 
     // Opens the next file, if there is one.
-    fn open_next(&mut self) -> io::Result<()> {
-        match self.parts.open()? {
-            Some(input) => self.part = Some(Part::new(self.alloc, input, self.has_begun)),
+    fn open_next(&mut self) -> Result<(), FileFault> {
+        match self.parts.next_part() {
+            Some(next) => {
+                self.name = next.name;
+                self.part = Some(next.part?);
+            }
             None => self.has_ended = true,
         }
-        self.has_begun = true;
         Ok(())
+    }
+
+    // Notes why the file cannot be read to its end.
+    fn fail(&mut self, fault: FileFault) -> io::Result<()> {
+        let fault = match self.blocks.push_cut() {
+            Ok(()) => fault,
+            Err(_) => FileFault::Memory,
+        };
+        self.has_ended = true;
+        self.failed = Some(FailedPart {
+            name: self.name,
+            fault,
+        });
+        match fault {
+            FileFault::Read => Err(io::Error::from(ErrorKind::Other)),
+            FileFault::Memory => Err(io::Error::from(ErrorKind::OutOfMemory)),
+            FileFault::Capture { .. } | FileFault::CutOff => Ok(()),
+        }
     }
 }
 
-impl<P: Parts + Drop> Read for Series<P> {
+impl<'n, P: Parts<'n> + Drop> Read for Series<'n, P> {
     fn read(&mut self, into: &mut [u8]) -> io::Result<usize> {
-        if into.is_empty() {
-            return Ok(0);
-        }
-        for _ in 0..u64::MAX {
-            if self.has_ended {
-                return Ok(0);
-            }
-            match &mut self.part {
-                None => self.open_next()?,
-                Some(part) => {
-                    let count = part.read(self.alloc, into)?;
-                    if count > 0 {
-                        return Ok(count.min(into.len()));
-                    }
-                    self.has_ended = part.is_last();
-                    self.part = None;
-                }
-            }
-        }
-        Ok(0)
+        self.fill()?;
+        Ok(self.blocks.read(into))
     }
 }

@@ -396,7 +396,6 @@ fn refused_advice(words: &str) -> &'static str {
     match word {
         "command" => "run hsms --help, or hsms COMMAND --help",
         "Open" => OPEN,
-        "Mixed" => "this capture has another format than the files before it: convert all with mergecap",
         word => compare_advice(word),
     }
 }

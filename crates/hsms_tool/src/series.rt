@@ -1,50 +1,193 @@
 //! `hsms capture` of several files, as those of a ring buffer.
 
-use crate::capture_by;
-use crate::input::{STANDARD, buffered, open_input};
-use capture_series::{NamedFiles, Order, Series, start_of};
+use crate::input::{Opened, STANDARD, check_standard, open_input};
+use capture_errors::{CaptureError, Rejection, Shortfall};
+use capture_pcap::FileFault;
+use capture_series::{FailedPart, NextPart, Part, PartStart, Parts, Series};
+use capture_unjudged::{Unjudged, emit_unjudged};
 use cli_advice::Failure;
-use cli_options::{Capturing, exit_status, no_request, refusal};
-use hsms_frame::{Reader, Writer};
-use std::alloc::Global;
+use cli_capture::capture_to;
+use cli_options::{Capturing, exit_status};
+use hsms_frame::{Reader, Sink, Writer, give_all};
+use std::alloc::{AllocError, Global};
 use std::fs::Files;
 use std::io;
 
-/// Reads capture files as one capture, in the order of their first packets. Returns the status.
+/// A file of the command line.
+#[derive(Drop)]
+struct CaptureFile<'n, I> {
+    name: &'n str,
+    // The time of its first packet.
+    time: Option<u128>,
+    // The file, if it can be opened only once.
+    part: Option<Part<I>>,
+}
+
+/// Files that are opened again, in the order of their first packets.
+#[derive(Drop)]
+struct CaptureFiles<'a, 'n, R: Files + Input> {
+    alloc: Global,
+    rt: &'a R,
+    files: Vec<CaptureFile<'n, Opened<R::Reader, R::File>>>,
+    next: usize,
+}
+
+impl<'a, 'n, R: Files + Input> Parts<'n> for CaptureFiles<'a, 'n, R> {
+    type Input = Opened<R::Reader, R::File>;
+
+    fn next_part(&mut self) -> Option<NextPart<'n, Opened<R::Reader, R::File>>> {
+        let file = self.files.get_mut(self.next)?;
+        self.next = self.next.saturating_add(1);
+        let name = file.name;
+        let part = match file.part.take() {
+            Some(part) => Ok(part),
+            None => opened_again(self.alloc, self.rt, name),
+        };
+        Some(NextPart { name, part })
+    }
+}
+
+/// Reads capture files as one capture, in the order of their first packets. Writes the number of each file's first packet
+/// after the verdicts or the log. Returns the status.
+///
+/// # Errors
+///
+/// Returns the error for a file that cannot be opened or is not a capture, before anything is judged, or that of
+/// `hsms capture` on the capture.
 pub fn capture_files<R: Files + Input + Print>(
     alloc: Global,
     rt: &R,
     options: Capturing,
-    files: &[&str],
+    names: &[&str],
     has_port: bool,
     is_verbose: bool,
 ) -> Result<u8, Failure> {
-    let order = ordered(alloc, rt, files, is_verbose)?;
-    let mut source = Reader::new(Series::new(alloc, NamedFiles::new(rt, order)));
+    check_standard(rt, names)?;
+    let files = in_order(alloc, rt, names, is_verbose)?;
+    let parts = CaptureFiles {
+        alloc,
+        rt,
+        files,
+        next: 0,
+    };
+    let mut series = Series::new(alloc, parts)?;
     let mut sink = Writer::new(io::writer(rt));
-    let well = capture_by(alloc, options, &mut source, &mut sink, has_port)?;
-    Ok(exit_status(&Ok(well)))
+    let mut unjudged = Unjudged::new(alloc, options.port, options.peer, options.active);
+    let mut source = Reader::new(&mut series);
+    let done = capture_to(alloc, options, &mut source, &mut sink, &mut unjudged);
+    let done = series_result(done, series.failed());
+    let named = named_by(&done, series.failed());
+    if matches!(&done, Ok(_) | Err(CaptureError::Refused(_))) {
+        write_starts(alloc, series.starts(), &mut sink)?;
+    }
+    match emit_unjudged(alloc, &mut sink, &unjudged, has_port, done) {
+        Ok(well) => Ok(exit_status(&Ok(well))),
+        Err(error) => Err(Failure::from(error).of_file(alloc, named)),
+    }
 }
 
-// Returns the files in the order of their first packets. Standard input is none of them: a file is opened twice.
-fn ordered<'n, R: Files + Input>(
+// Returns the files in the order of their first packets. Those without a time are the last.
+fn in_order<'n, R: Files + Input>(
     alloc: Global,
     rt: &R,
-    files: &[&'n str],
+    names: &[&'n str],
     is_verbose: bool,
-) -> Result<Order<'n>, Failure> {
-    let mut order = Order::new(alloc);
-    for name in files {
-        if *name == STANDARD {
-            return Err(Failure::from(no_request(alloc)));
+) -> Result<Vec<CaptureFile<'n, Opened<R::Reader, R::File>>>, Failure> {
+    let mut files = Vec::new(alloc);
+    for name in names {
+        let input = open_input(alloc, rt, name, is_verbose)?;
+        let file = match Part::open(alloc, input) {
+            Ok(part) => CaptureFile {
+                name: *name,
+                time: part.time(),
+                part: (*name == STANDARD).then_some(part),
+            },
+            // An empty file, or one that ends within its header.
+            Err(FileFault::CutOff) => CaptureFile {
+                name: *name,
+                time: None,
+                part: None,
+            },
+            Err(fault) => return Err(Failure::from(error_of(fault, 1)).of_file(alloc, name)),
+        };
+        files.push(file)?;
+    }
+    files.sort_by_key(alloc, |file| file.time.unwrap_or(u128::MAX))?;
+    Ok(files)
+}
+
+// Opens a file again.
+fn opened_again<R: Files + Input>(
+    alloc: Global,
+    rt: &R,
+    name: &str,
+) -> Result<Part<Opened<R::Reader, R::File>>, FileFault> {
+    match open_input(alloc, rt, name, false) {
+        Ok(input) => Part::open(alloc, input),
+        Err(_) => Err(FileFault::Read),
+    }
+}
+
+// Returns the result on a series, with the error of the file that cannot be read to its end.
+fn series_result(
+    done: Result<bool, CaptureError>,
+    failed: Option<FailedPart<'_>>,
+) -> Result<bool, CaptureError> {
+    match (done, failed) {
+        (Err(CaptureError::Refused(Rejection::Incomplete(Shortfall::File(_, packet)))), Some(failed)) => {
+            Err(error_of(failed.fault, packet))
         }
-        let input = buffered(alloc, open_input(alloc, rt, name, is_verbose)?)?;
-        let start = start_of(alloc, input)
-            .map_err(|error| Failure::from(error).of_file(alloc, name))?;
-        if !order.add(name, start)? {
-            let fault = refusal(String::from_str(alloc, "Mixed"));
-            return Err(Failure::from(fault).of_file(alloc, name));
+        (Err(CaptureError::Read), Some(failed)) => Err(error_of(failed.fault, 1)),
+        (done, _) => done,
+    }
+}
+
+// Returns the name of the file if the error is that of the file, or else the name of standard input.
+fn named_by<'n>(done: &Result<bool, CaptureError>, failed: Option<FailedPart<'n>>) -> &'n str {
+    match (done, failed) {
+        (
+            Err(CaptureError::Read | CaptureError::Refused(Rejection::Incomplete(Shortfall::File(..)))),
+            Some(failed),
+        ) => failed.name,
+        _ => STANDARD,
+    }
+}
+
+// Returns the error for a file that cannot be read from this packet on.
+fn error_of(fault: FileFault, packet: u64) -> CaptureError {
+    match fault {
+        FileFault::Read => CaptureError::Read,
+        FileFault::Memory => CaptureError::Memory,
+        FileFault::Capture { .. } | FileFault::CutOff => {
+            CaptureError::Refused(Rejection::Incomplete(Shortfall::File(fault, packet)))
         }
     }
-    Ok(order)
+}
+
+// Writes the number of each file's first packet.
+fn write_starts<W: Sink>(
+    alloc: Global,
+    starts: &[PartStart<'_>],
+    sink: &mut W,
+) -> Result<(), CaptureError> {
+    for start in starts {
+        let line = start_line(alloc, start)?;
+        give_all(sink, line.as_bytes())?;
+    }
+    Ok(())
+}
+
+// Returns the number of a file's first packet and its name, as a comment. Control characters of the name become U+FFFD.
+fn start_line(alloc: Global, start: &PartStart<'_>) -> Result<String, AllocError> {
+    let packet = start.packet;
+    let mut line = format!(in alloc; "# from packet {packet}: ")?;
+    for character in start.name.chars() {
+        line.push(if character.is_control() {
+            '\u{fffd}'
+        } else {
+            character
+        })?;
+    }
+    line.push('\n')?;
+    Ok(line)
 }
