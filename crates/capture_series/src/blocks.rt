@@ -11,8 +11,8 @@ const LONGEST: usize = 0x1000000 - 32;
 
 // The start of a section, of unknown length.
 const SECTION: [u8; 28] = [
-    0x0a, 0x0d, 0x0d, 0x0a, 28, 0, 0, 0, 0x4d, 0x3c, 0x2b, 0x1a, 1, 0, 0, 0, 255, 255, 255, 255, 255, 255, 255, 255, 28,
-    0, 0, 0,
+    0x0a, 0x0d, 0x0d, 0x0a, 28, 0, 0, 0, 0x4d, 0x3c, 0x2b, 0x1a, 1, 0, 0, 0, 255, 255, 255, 255,
+    255, 255, 255, 255, 28, 0, 0, 0,
 ];
 
 // An option: times are in milliseconds.

@@ -16,4 +16,4 @@ mod series;
 
 pub use blocks::Blocks;
 pub use part::Part;
-pub use series::{FailedPart, NextPart, Parts, PartStart, Series};
+pub use series::{FailedPart, NextPart, PartStart, Parts, Series};

@@ -37,8 +37,8 @@ pub struct FailedPart<'n> {
     pub fault: FileFault,
 }
 
-/// A capture in pcapng whose packets are those of its files, in order. A file that cannot be read to its end is the last
-/// one: the capture then ends within a block.
+/// A capture in pcapng whose packets are those of its files, in order. A file that cannot be read to its end is the
+/// last one: the capture then ends within a block.
 #[derive(Drop)]
 pub struct Series<'n, P: Parts<'n>> {
     parts: P,

@@ -7,7 +7,8 @@ use capture_series::{FailedPart, NextPart, Part, PartStart, Parts, Series};
 use capture_unjudged::{Unjudged, emit_unjudged};
 use cli_advice::Failure;
 use cli_capture::capture_to;
-use cli_options::{Capturing, exit_status};
+use cli_options::{Capturing, ToolFault, exit_status};
+use cli_reports::ObjectLines;
 use hsms_frame::{Reader, Sink, Writer, give_all};
 use std::alloc::{AllocError, Global};
 use std::fs::Files;
@@ -47,8 +48,8 @@ impl<'a, 'n, R: Files + Input> Parts<'n> for CaptureFiles<'a, 'n, R> {
     }
 }
 
-/// Reads capture files as one capture, in the order of their first packets. Writes the number of each file's first packet
-/// after the verdicts or the log. Returns the status.
+/// Reads capture files as one capture, in the order of their first packets. After the verdicts or the log it writes the
+/// number of each file's first packet. Returns the status.
 ///
 /// # Errors
 ///
@@ -72,18 +73,57 @@ pub fn capture_files<R: Files + Input + Print>(
     };
     let mut series = Series::new(alloc, parts)?;
     let mut sink = Writer::new(io::writer(rt));
-    let mut unjudged = Unjudged::new(alloc, options.port, options.peer, options.active);
-    let mut source = Reader::new(&mut series);
-    let done = capture_to(alloc, options, &mut source, &mut sink, &mut unjudged);
-    let done = series_result(done, series.failed());
-    let named = named_by(&done, series.failed());
-    if matches!(&done, Ok(_) | Err(CaptureError::Refused(_))) {
-        write_starts(alloc, series.starts(), &mut sink)?;
-    }
-    match emit_unjudged(alloc, &mut sink, &unjudged, has_port, done) {
+    let done = capture_series(alloc, options, &mut series, &mut sink, has_port);
+    match done {
         Ok(well) => Ok(exit_status(&Ok(well))),
-        Err(error) => Err(Failure::from(error).of_file(alloc, named)),
+        Err(error) => {
+            let named = named_by(error, series.failed());
+            Err(Failure::from(error).of_file(alloc, named))
+        }
     }
+}
+
+// Reads files as one capture, and writes its verdicts or a log in the requested format.
+fn capture_series<'n, P: Parts<'n> + Drop, W: Sink>(
+    alloc: Global,
+    options: Capturing,
+    series: &mut Series<'n, P>,
+    sink: &mut W,
+    has_port: bool,
+) -> Result<bool, CaptureError> {
+    if !options.json {
+        return series_lines(alloc, options, series, sink, has_port);
+    }
+    let mut objects = ObjectLines::new(alloc, sink);
+    let done = series_lines(
+        alloc,
+        options,
+        series,
+        &mut Writer::new(&mut objects),
+        has_port,
+    );
+    if objects.is_refused() {
+        return Err(CaptureError::Memory);
+    }
+    done
+}
+
+// Reads files as one capture, and then writes where each begins, and what of them is not audited.
+fn series_lines<'n, P: Parts<'n> + Drop, W: Sink>(
+    alloc: Global,
+    options: Capturing,
+    series: &mut Series<'n, P>,
+    sink: &mut W,
+    has_port: bool,
+) -> Result<bool, CaptureError> {
+    let mut unjudged = Unjudged::new(alloc, options.port, options.peer, options.active);
+    let mut source = Reader::new(&mut *series);
+    let done = capture_to(alloc, options, &mut source, sink, &mut unjudged);
+    let done = series_result(done, series.failed());
+    if matches!(&done, Ok(_) | Err(CaptureError::Refused(_))) {
+        write_starts(alloc, series.starts(), sink)?;
+    }
+    emit_unjudged(alloc, sink, &unjudged, has_port, done)
 }
 
 // Returns the files in the order of their first packets. Those without a time are the last.
@@ -110,9 +150,12 @@ fn in_order<'n, R: Files + Input>(
             },
             Err(fault) => return Err(Failure::from(error_of(fault, 1)).of_file(alloc, name)),
         };
-        files.push(file)?;
+        match files.push(file) {
+            Ok(()) => {}
+            Err(_) => return Err(Failure::from(ToolFault::Memory)),
+        }
     }
-    files.sort_by_key(alloc, |file| file.time.unwrap_or(u128::MAX))?;
+    files.sort_by_key(|file| file.time.unwrap_or(u128::MAX))?;
     Ok(files)
 }
 
@@ -134,19 +177,20 @@ fn series_result(
     failed: Option<FailedPart<'_>>,
 ) -> Result<bool, CaptureError> {
     match (done, failed) {
-        (Err(CaptureError::Refused(Rejection::Incomplete(Shortfall::File(_, packet)))), Some(failed)) => {
-            Err(error_of(failed.fault, packet))
-        }
+        (
+            Err(CaptureError::Refused(Rejection::Incomplete(Shortfall::File(_, packet)))),
+            Some(failed),
+        ) => { Err(error_of(failed.fault, packet)) }
         (Err(CaptureError::Read), Some(failed)) => Err(error_of(failed.fault, 1)),
         (done, _) => done,
     }
 }
 
-// Returns the name of the file if the error is that of the file, or else the name of standard input.
-fn named_by<'n>(done: &Result<bool, CaptureError>, failed: Option<FailedPart<'n>>) -> &'n str {
-    match (done, failed) {
+// Returns the name of the file if the error is that of the file, and otherwise that of standard input.
+fn named_by<'n>(error: CaptureError, failed: Option<FailedPart<'n>>) -> &'n str {
+    match (error, failed) {
         (
-            Err(CaptureError::Read | CaptureError::Refused(Rejection::Incomplete(Shortfall::File(..)))),
+            CaptureError::Read | CaptureError::Refused(Rejection::Incomplete(Shortfall::File(..))),
             Some(failed),
         ) => failed.name,
         _ => STANDARD,
