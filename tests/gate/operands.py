@@ -10,6 +10,7 @@ It runs what `rt ci` has built, or the given program. The last line is `N passed
 """
 import glob
 import os
+import re
 import struct
 import subprocess
 import sys
@@ -269,10 +270,10 @@ def captures(room):
         names = [put(f"{at}.one", in_form([record], "pcap<")) for at, record in enumerate(found)]
         counts = [1] * len(found)
         yield f"{place}: a file for each packet", capture(*more, *names[::-1]), in_series(whole, names, counts)
-        yield from broken(place, more, found, put, capture)
+        yield from broken(room, place, more, found, put, capture)
 
 
-def broken(place, more, found, put, capture):
+def broken(room, place, more, found, put, capture):
     """Series with files that cannot be read to their ends."""
     half = len(found) // 2
     front, rest = in_form(found[:half], "pcap<"), in_form(found[half:], "pcapng>")
@@ -305,6 +306,12 @@ def broken(place, more, found, put, capture):
     twice = capture(*more, given=in_form(found + found, "pcap<"))
     put("all", in_form(found, "nanoseconds>"))
     yield f"{place}: one file twice", capture(*more, "all", "all"), in_series(twice, ["all", "all"], 2 * [len(found)])
+    piped = subprocess.run(
+        ["bash", "-c", '"$0" capture "${@:1}" <(cat rest) <(cat front)', PROGRAM, *more], cwd=room, capture_output=True,
+        timeout=LONGEST_RUN,
+    )
+    told = re.sub(rb"/dev/fd/\d+", b"pipe", piped.stdout)
+    yield f"{place}: pipes", Answer(piped.returncode, told, piped.stderr), in_series(whole, ["pipe", "pipe"], counts)
     timeless = without_times(found[half:])
     put("timeless", timeless)
     told = capture(*more, given=in_form(found[:half], "pcapng<") + timeless)

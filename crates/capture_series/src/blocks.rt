@@ -3,7 +3,6 @@
 ghost use Rattle.std.specs.Prelude.{◌≤◌, length};
 
 use capture_pcap::Record;
-use hsms_frame::drop_front;
 use std::alloc::{AllocError, Global};
 
 // The maximum number of bytes of a packet in its block. No IP packet has more.
@@ -25,6 +24,8 @@ const UNREAD: [u8; 16] = [0xad, 0x0b, 0, 0, 16, 0, 0, 0, 0, 0, 0, 0, 16, 0, 0, 0
 #[derive(Drop)]
 pub struct Blocks {
     octets: Vec<u8>,
+    // The number of these bytes that were read.
+    passed: usize,
     // The link type of the section's interface, if it has one.
     link: Option<u32>,
 }
@@ -34,6 +35,7 @@ impl Blocks {
     pub fn new(alloc: Global) -> Result<Blocks, AllocError> {
         Ok(Blocks {
             octets: Vec::from_slice(alloc, &SECTION)?,
+            passed: 0,
             link: None,
         })
     }
@@ -47,10 +49,16 @@ impl Blocks {
     pub fn read(&mut self, into: &mut [u8]) -> usize
         ensures { result ≤ length into.new }
     {
-        let count = self.octets.len().min(into.len());
-        into[..count].copy_from_slice(&self.octets[..count]);
-        drop_front(&mut self.octets, count);
-        count.min(into.len())
+        let rest = self.octets.get(self.passed..).unwrap_or(&[]);
+        let left = rest.len();
+        let count = left.min(into.len());
+        into[..count].copy_from_slice(&rest[..count]);
+        self.passed = self.passed.saturating_add(count);
+        if count == left {
+            self.octets.clear();
+            self.passed = 0;
+        }
+        count
     }
 
     /// Appends a packet: its link type, its time, its captured bytes, and whether these are all.

@@ -20,11 +20,11 @@ struct CaptureFile<'n, I> {
     name: &'n str,
     // The time of its first packet.
     time: Option<u128>,
-    // The file, if it can be opened only once.
-    part: Option<Part<I>>,
+    // What opening it gave, if it is not opened again.
+    part: Option<Result<Part<I>, FileFault>>,
 }
 
-/// Files that are opened again, in the order of their first packets.
+/// Files in the order of their first packets. Regular files are opened again.
 #[derive(Drop)]
 struct CaptureFiles<'a, 'n, R: Files + Input> {
     alloc: Global,
@@ -41,7 +41,7 @@ impl<'a, 'n, R: Files + Input> Parts<'n> for CaptureFiles<'a, 'n, R> {
         self.next = self.next.saturating_add(1);
         let name = file.name;
         let part = match file.part.take() {
-            Some(part) => Ok(part),
+            Some(part) => part,
             None => opened_again(self.alloc, self.rt, name),
         };
         Some(NextPart { name, part })
@@ -136,17 +136,18 @@ fn in_order<'n, R: Files + Input>(
     let mut files = Vec::new(alloc);
     for name in names {
         let input = open_input(alloc, rt, name, is_verbose)?;
+        let is_regular = input.is_regular();
         let file = match Part::open(alloc, input) {
             Ok(part) => CaptureFile {
                 name: *name,
                 time: part.time(),
-                part: (*name == STANDARD).then_some(part),
+                part: (!is_regular).then_some(Ok(part)),
             },
             // An empty file, or one that ends within its header.
             Err(FileFault::CutOff) => CaptureFile {
                 name: *name,
                 time: None,
-                part: None,
+                part: Some(Err(FileFault::CutOff)),
             },
             Err(fault) => return Err(Failure::from(error_of(fault, 1)).of_file(alloc, name)),
         };
