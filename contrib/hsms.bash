@@ -6,6 +6,9 @@ _hsms() {
   if [ "${COMP_WORDS[1]} $before" = 'audit --format' ]; then
     mapfile -t COMPREPLY < <(compgen -W 'text json junit' -- "$word") && return
   fi
+  if [ "${COMP_WORDS[1]} $before" = 'capture --format' ]; then
+    mapfile -t COMPREPLY < <(compgen -W 'text json' -- "$word") && return
+  fi
   case $before in
     --only) mapfile -t COMPREPLY < <(compgen -W 'failures' -- "$word") && return ;;
     --format) mapfile -t COMPREPLY < <(compgen -W 'text json html' -- "$word") && return ;;
@@ -24,7 +27,7 @@ _hsms() {
       audit) words='--quiet --format --help --verbose' ;;
       explain) words='--only --around --from --to --format --utc --lists --all --help --verbose' ;;
       compare) words='--help --verbose' ;;
-      capture) words='--port --peer --active --log --midstream --device --t3 --t6 --t7 --t8 --max --depth --help --verbose' ;;
+      capture) words='--port --peer --active --log --format --midstream --device --t3 --t6 --t7 --t8 --max --depth --help --verbose' ;;
       encode) words='--device --system --max --depth --hex --help --verbose' ;;
       serve) words='--role --link --address --port --port-file --skip-silent --device --t3 --t6 --t7 --t8 --linktest --max --depth --first-system --turns --mdln --softrev --send --answer --all-sent --all-answered --reconnect --once --connections --t5 --help --verbose' ;;
       help) words='show audit explain compare capture encode serve' ;;

@@ -36,6 +36,7 @@ complete -c hsms -n '__fish_seen_subcommand_from capture' -l port -x -d 'TCP por
 complete -c hsms -n '__fish_seen_subcommand_from capture' -l peer -x -d 'Only connections with this IP address at one end'
 complete -c hsms -n '__fish_seen_subcommand_from capture' -l active -x -a 'host equipment' -d 'Role of the connecting end, host or equipment [default: host]'
 complete -c hsms -n '__fish_seen_subcommand_from capture' -l log -x -a 'host equipment' -d 'Write the log of this role instead of verdicts'
+complete -c hsms -n '__fish_seen_subcommand_from capture' -l format -x -a 'text json' -d 'Output format of verdicts: text or json (an object for each line) [default: text]'
 complete -c hsms -n '__fish_seen_subcommand_from capture' -l midstream -d 'Also audit sessions that started before the capture; their earlier state is assumed'
 complete -c hsms -n '__fish_seen_subcommand_from capture' -l device -x -d 'Device ID, the session ID of data messages: 0 to 32767 [default: 0]'
 complete -c hsms -n '__fish_seen_subcommand_from capture' -l t3 -x -d 'T3 reply timeout in ms: 1 to 3600000 [default: 45000]'

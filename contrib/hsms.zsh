@@ -63,6 +63,7 @@ _hsms() {
         '--peer[Only connections with this IP address at one end]:ADDRESS:' \
         '--active[Role of the connecting end, host or equipment \[default\: host\]]:ROLE:(host equipment)' \
         '--log[Write the log of this role instead of verdicts]:ROLE:(host equipment)' \
+        '--format[Output format of verdicts\: text or json (an object for each line) \[default\: text\]]:FORMAT:(text json)' \
         '--midstream[Also audit sessions that started before the capture; their earlier state is assumed]' \
         '--device[Device ID, the session ID of data messages\: 0 to 32767 \[default\: 0\]]:N:' \
         '--t3[T3 reply timeout in ms\: 1 to 3600000 \[default\: 45000\]]:N:' \
@@ -73,7 +74,7 @@ _hsms() {
         '--depth[Maximum nesting of lists\: 1 to 100 \[default\: 32\]]:N:' \
         '--help[Print help]' \
         '--verbose[Explain errors\: what happened, and what to do]' \
-        ':FILE:_files'
+        '*:FILE:_files'
       ;;
     encode)
       _arguments \

@@ -19,7 +19,7 @@ sys.dont_write_bytecode = True
 sys.path.insert(0, os.path.abspath(f"{__file__}/../../.."))
 
 from tests.support.command import DRIVER, PROGRAM, Answer, answer_of, call_failer
-from tests.support.pcap_writer import ACK, ACTIVE, PUSH, SELECT, Capture, Talk
+from tests.support.pcap_writer import ACK, ACTIVE, BEGIN, PUSH, SELECT, Capture, Talk
 from tests.support.reference.conversations import Maker, Told
 from tests.support.reference.endpoint_inputs import Answering, Listed
 from tests.support.reference.session import Settings
@@ -83,6 +83,19 @@ def connections(*ending):
     return f"hsms-log 2 host active 0 45000 6000 10000 5000 1048576 32\n{log}".encode()
 
 
+def many_packets(count):
+    """A capture of packets that carry no TCP."""
+    capture = Capture()
+    for number in range(count):
+        capture.packet(BEGIN + number, bytes(1000))
+    return bytes(capture.octets)
+
+
+def claiming_packet(length):
+    """A capture whose first packet has fewer bytes than its record says."""
+    return bytes(Capture().octets) + struct.pack("<IIII", 1, 0, length, length) + bytes(400)
+
+
 def far_ahead(place):
     """A connection whose host sends one byte, this many bytes after a gap."""
     talk = Talk(Capture())
@@ -123,6 +136,8 @@ def claims():
         Claim("audit", f"{LOG}6 > {HEADER}{'03ffffff' * 100}\n".encode(), f"{LOG}6 > {HEADER}\n".encode(), verdict),
         Claim("audit", f"{LOG}6 > {HEADER}43ffffff41\n".encode(), f"{LOG}6 > {HEADER}\n".encode(), verdict),
         Claim("capture", far_ahead(67_000_000), far_ahead(1), incomplete),
+        Claim("capture - -", many_packets(3000), many_packets(1), Answer(2, b"# from packet 1: -\n", b"hsms: CutOff\n")),
+        Claim("capture - -", claiming_packet(0xFFFFFF), claiming_packet(1000), refused("CutOff")),
         Claim("audit", connections(), connections("< 000001020000{0:08x}"), waits),
         at_end(octets("ffffffff" + HEADER), octets("0000000b" + HEADER)),
         at_end(octets("02000000" + HEADER), octets("0000000b" + HEADER)),

@@ -2,12 +2,16 @@
 """Checks commands that name their input on the command line, against the same input at standard input.
 
 With one file, or with `-`, each command answers as it does with that standard input. With several files `show` and
-`encode` answer for each in turn, and `audit` writes a line for each and one with the counts. Files that are missing,
-unreadable, folders or cut off are tried, options after files, `--`, and names that begin with a dash.
+`encode` answer for each in turn, and `audit` writes a line for each and one with the counts. `capture` answers of files
+in all formats and link types, in any order, as of one with their packets, up to the first that cannot be read. Files that
+are missing, unreadable, folders or cut off are tried, options after files, `--`, and names that begin with a dash.
 
 It runs what `rt ci` has built, or the given program. The last line is `N passed, M failed`.
 """
+import glob
 import os
+import re
+import struct
 import subprocess
 import sys
 import tempfile
@@ -17,6 +21,7 @@ sys.path.insert(0, os.path.abspath(f"{__file__}/../../.."))
 
 from tests.support.command import LONGEST_RUN, TOP, Answer, program_given
 from tests.support.comparisons import status_of
+from tests.support.pcap_writer import LINKS, MORE_FORMS, Capture
 
 PROGRAM = program_given()
 
@@ -112,7 +117,7 @@ def on_the_command_line(room):
     yield "--max", answer(["audit", "--max"], cwd=room), INVALID
     # (-v is a request for explanations at any position)
     yield "-- -v", answer(["audit", "--", "-v"], read("examples/session.log"), cwd=room), Answer(0, PASS, b"")
-    for words in (["explain", "a", "b"], ["capture", "a", "b"], ["serve", "a"], ["audit", "--quit"], ["show", "--quiet"]):
+    for words in (["explain", "a", "b"], ["serve", "a"], ["audit", "--quit"], ["show", "--quiet"]):
         yield " ".join(words), answer(words), INVALID
 
 
@@ -181,9 +186,154 @@ def audits(room):
     )
 
 
+def records(octets):
+    """The records of a pcap file of Ethernet with microseconds in little endian: time, bytes, and the packet's length."""
+    assert octets[:4] == b"\xd4\xc3\xb2\xa1" and octets[20] == 1, octets[:24]
+    at, found = 24, []
+    while at < len(octets):
+        seconds, micros, held, had = struct.unpack_from("<IIII", octets, at)
+        found.append((10**6 * seconds + micros, octets[at + 16 : at + 16 + held], had))
+        at += 16 + held
+    return found
+
+
+def in_form(found, form, link="ethernet"):
+    """A capture file of these records."""
+    capture = Capture(form, link, found and found[0][1][12:14] == b"\x86\xdd")
+    for time, octets, had in found:
+        if link != "ethernet":
+            octets, had = capture.link_header() + octets[14:], had - 14 + len(capture.link_header())
+        capture.packet(time, octets.ljust(had, b"\0"), len(octets))
+    return capture.octets
+
+
+def without_times(found):
+    """A capture file of these records in simple packet blocks, which have no times."""
+    capture = Capture("pcapng<")
+    for _, octets, had in found:
+        assert len(octets) == had, had
+        capture.octets += capture.block(3, struct.pack("<I", had) + octets)
+    return capture.octets
+
+
+def in_series(told, names, counts, named=None):
+    """The answer on several files, from that on one with all their packets: `counts` of them are in each, in order. An
+    error names no file, or the one that cannot be read."""
+    starts, first = b"", 1
+    for name, count in zip(names, counts):
+        if count:
+            starts += f"# from packet {first}: {name}\n".encode()
+        first += count
+    lines = told.output.splitlines(keepends=True)
+    unjudged = lines.pop() if lines and lines[-1].startswith(b"# not judged: ") else b""
+    error = told.error if named is None else told.error[:-1] + f" file={named}\n".encode()
+    return Answer(told.status, b"".join(lines) + starts + unjudged, error)
+
+
+def captures(room):
+    """Captures that are cut into files."""
+
+    def put(name, octets):
+        with open(f"{room}/{name}", "wb") as file:
+            file.write(octets)
+        return name
+
+    def capture(*words, given=b""):
+        return answer(["capture", *words], given, cwd=room)
+
+    forms = [*MORE_FORMS, "pcap<"]
+    for place, more in (("examples/late-reply.pcap", ["--t3", "1000"]), ("tests/captures/devices.pcap", ["--midstream"])):
+        octets = read(place)
+        found = records(octets)
+        whole, log = capture(*more, given=octets), capture(*more, "--log", "host", given=octets)
+        cuts = [0, len(found) // 3, len(found) // 3, 2 * len(found) // 3, len(found)]
+        parts = [found[low:high] for low, high in zip(cuts, cuts[1:])]
+        counts = [len(part) for part in parts]
+        for turn, form in enumerate(forms):
+            # (each file in a form and with a link type of its own)
+            names = [
+                put(f"{at}.{turn}", in_form(part, forms[(turn + at) % len(forms)], list(LINKS)[(turn + at) % len(LINKS)]))
+                for at, part in enumerate(parts)
+            ]
+            expected = in_series(whole, names, counts)
+            for order in (names, names[::-1], names[2:] + names[:2]):
+                yield f"{place} {form}: {order}", capture(*more, *order), expected
+            yield f"{place} {form}: log", capture(*more, "--log", "host", *names), in_series(log, names, counts)
+            for at, name in enumerate(names):
+                rest = names[:at] + names[at + 1 :]
+                with open(f"{room}/{name}", "rb") as file:
+                    given = file.read()
+                wanted = in_series(whole, ["-" if it == name else it for it in names], counts)
+                yield f"{place} {form}: - for {name}", capture(*more, *rest, "-", given=given), wanted
+        yield f"{place}: missing", capture("0.0", "missing"), Answer(2, b"", b"hsms: Open file=missing\n")
+        yield f"{place}: folder", capture("0.0", ".", "-v"), Answer(2, b"", b"hsms: Open file=.\n" + WHY_FOLDER)
+        names = [put(f"{at}.one", in_form([record], "pcap<")) for at, record in enumerate(found)]
+        counts = [1] * len(found)
+        yield f"{place}: a file for each packet", capture(*more, *names[::-1]), in_series(whole, names, counts)
+        yield from broken(room, place, more, found, put, capture)
+
+
+def broken(room, place, more, found, put, capture):
+    """Series with files that cannot be read to their ends."""
+    half = len(found) // 2
+    front, rest = in_form(found[:half], "pcap<"), in_form(found[half:], "pcapng>")
+    put("front", front), put("rest", rest)
+    faults = {
+        "cut off": (front[:-3], half - 1),
+        "cut off behind a packet": (front + b"\1", half),
+        "too long": (front + bytes(8) + b"\xff" * 8, half),
+    }
+    for called, (octets, count) in faults.items():
+        name, told = put("fault", octets), capture(*more, given=octets)
+        named = name if told.error.startswith((b"hsms: CutOff", b"hsms: Capture")) else None
+        yield f"{place}: {called}", capture(*more, "rest", name), in_series(told, [name], [count], named)
+    # (a file without a packet is the last, and one that is cut off ends the capture)
+    both, counts = ["front", "rest"], [half, len(found) - half]
+    whole = capture(*more, given=in_form(found, "pcap<"))
+    bare = put("bare", in_form([], "pcap>"))
+    yield f"{place}: no packets", capture(*more, bare, *both), in_series(whole, both, counts)
+    for called, octets in (("empty", b""), ("cut in its header", front[:20]), ("cut in its first packet", front[:50])):
+        name = put("none", octets)
+        cut = capture(*more, given=in_form(found, "pcap<") + b"\1")
+        wanted = in_series(cut, both, counts, name if cut.error == b"hsms: CutOff\n" else None)
+        yield f"{place}: {called}", capture(*more, name, *both), wanted
+    bare_ng = put("bare.pcapng", in_form([], "pcapng<"))
+    wanted = Answer(2, b"", b"hsms: NoConnection\n")
+    yield f"{place}: no packets at all", capture(bare, bare_ng), wanted
+    garbage = put("garbage", b"no capture at all, but a text that is long enough")
+    refused = capture(given=b"no capture at all, but a text that is long enough")
+    yield f"{place}: no capture", capture("front", garbage), of_file(Answer(2, b"", refused.error), garbage)
+    twice = capture(*more, given=in_form(found + found, "pcap<"))
+    put("all", in_form(found, "nanoseconds>"))
+    yield f"{place}: one file twice", capture(*more, "all", "all"), in_series(twice, ["all", "all"], 2 * [len(found)])
+    piped = subprocess.run(
+        ["bash", "-c", '"$0" capture "${@:1}" <(cat rest) <(cat front)', PROGRAM, *more], cwd=room, capture_output=True,
+        timeout=LONGEST_RUN,
+    )
+    told = re.sub(rb"/dev/fd/\d+", b"pipe", piped.stdout)
+    yield f"{place}: pipes", Answer(piped.returncode, told, piped.stderr), in_series(whole, ["pipe", "pipe"], counts)
+    timeless = without_times(found[half:])
+    put("timeless", timeless)
+    told = capture(*more, given=in_form(found[:half], "pcapng<") + timeless)
+    yield f"{place}: no times", capture(*more, "timeless", "front"), in_series(told, ["front", "timeless"], counts)
+
+
+def kept_captures(room):
+    """Each capture of the tests, in a series with a file that has no packets: what is said of it is the same."""
+    with open(f"{room}/bare", "wb") as file:
+        file.write(in_form([], "pcap<"))
+    for path in sorted(glob.glob(f"{TOP}/tests/captures/*.pcap") + glob.glob(f"{TOP}/examples/*.pcap")):
+        for more in ([], ["--midstream"], ["--log", "equipment"]):
+            with open(path, "rb") as file:
+                told = answer(["capture", *more], file.read())
+            named = path if told.error.startswith((b"hsms: CutOff", b"hsms: Capture")) else None
+            wanted = in_series(told, [path], [1], named)
+            yield f"{os.path.basename(path)} {more}", answer(["capture", *more, "bare", path], cwd=room), wanted
+
+
 def tries():
     yield from one_file()
-    for part in (no_file, on_the_command_line, several, audits):
+    for part in (no_file, on_the_command_line, several, audits, captures, kept_captures):
         with tempfile.TemporaryDirectory() as room:
             yield from part(room)
 

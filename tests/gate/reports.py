@@ -1,5 +1,6 @@
 #!/usr/bin/env python3
-"""Reads the reports of `hsms audit --format json` and `--format junit`, and compares them with the lines of `hsms audit`.
+"""Reads the reports of `hsms audit --format json` and `--format junit`, and compares them with the lines of `hsms audit`,
+and the objects of `hsms capture --format json` with its lines.
 
 A report has an entry for each file, in order: the verdict, or that the file cannot be opened. The text of a failure in
 JUnit is what `hsms explain` shows of the first failing line. Names with markup, control characters and other alphabets
@@ -21,6 +22,7 @@ sys.path.insert(0, os.path.abspath(f"{__file__}/../../.."))
 
 from tests.support.command import LONGEST_RUN, TOP, Answer, program_given
 from tests.support.comparisons import status_of
+from tests.support.pcap_writer import Capture, Talk
 
 PROGRAM = program_given()
 
@@ -186,6 +188,78 @@ def names(room, texts):
     yield "json: -v", told.error, b"hsms: Open file=folder\nthis is a directory: name the files in it\n"
 
 
+def connection_object(line):
+    """What the object of a line of `hsms capture` has."""
+    if line.startswith("# from packet "):
+        packet, name = re.fullmatch(r"# from packet (\d+): (.*)", line).groups()
+        return {"type": "file", "packet": int(packet), "file": name}
+    if line.startswith("# not judged: "):
+        return {"type": "unjudged", "text": line.removeprefix("# not judged: ")}
+    if line.startswith("# "):
+        packets, reasons = re.fullmatch(r"# (\d+) packets? skipped: (.*)", line).groups()
+        return {"type": "skipped", "packets": int(packets), **{name: int(n) for name, n in re.findall(r"(\w+) (\d+)", reasons)}}
+    active, passive, role, link, packet, rest = re.fullmatch(
+        r"(\S+) (\S+) (host|equipment) (active|passive):(?: incomplete packet=(\d+))?(?: ((?:pass|fail) .*))?", line
+    ).groups()
+    ends = {"active": end_of(active), "passive": end_of(passive), "role": role, "link": link}
+    verdict, _, numbers = (rest or "none").partition(" ")
+    told = {name: int(value) if value.isdigit() else value for name, value in re.findall(r"(\w+)=(\w+)", numbers)}
+    told |= {"rule": "unreadable"} if numbers.endswith(" unreadable") else {}
+    return {"type": "end", **ends, **({"incomplete": int(packet)} if packet else {}), **told, "verdict": verdict}
+
+
+def end_of(text):
+    address, port = re.fullmatch(r"\[?([0-9a-f.:]+?)\]?:(\d+)", text).groups()
+    return {"address": address, "port": int(port)}
+
+
+def captures(room, _):
+    """The objects of each capture, of one in IPv6, and of several files with odd names."""
+    paths = sorted(glob.glob(f"{TOP}/tests/captures/*.pcap") + glob.glob(f"{TOP}/examples/*.pcap"))
+    ipv6 = Capture("pcapng>", is_ipv6=True)
+    Talk(ipv6).end(1)
+    paths.append(f"{room}/ipv6")
+    with open(paths[-1], "wb") as file:
+        file.write(ipv6.octets)
+    found = set()
+    for path in paths:
+        for more in ([], ["--t3", "1000"], ["--midstream"], ["--max", "256", "--port", "1"]):
+            for files in ([path], [path, f"{room}/ipv6"]):
+                lines = answer(["capture", *more, *files])
+                told = answer(["capture", *more, "--format", "json", *files])
+                wanted = [connection_object(line) for line in lines.output.decode().splitlines()]
+                found |= {(it["type"], it.get("verdict"), "incomplete" in it, "rule" in it) for it in wanted}
+                yield f"capture {more} {files}", (told.status, objects_of(told.output), told.error), (
+                    lines.status, wanted, lines.error
+                )
+    wanted = {("end", "pass", False, False), ("end", "fail", False, True), ("end", "pass", True, False)}
+    wanted |= {("end", "none", True, False), ("file", None, False, False), ("skipped", None, False, False)}
+    yield "capture: kinds of objects", sorted(map(str, wanted - found)), []
+    for name in NAMES:
+        with open(f"{room}/{name}", "wb") as file:
+            file.write(ipv6.octets)
+    told = answer(["capture", "--format=json", *NAMES], cwd=room)
+    names = [re.sub("[\0-\x1f\x7f-\x9f]", "\ufffd", name) for name in NAMES]
+    yield "capture: names", [it["file"] for it in objects_of(told.output) if it["type"] == "file"], names
+    path = f"{TOP}/examples/late-reply.pcap"
+    yield "capture: text", answer(["capture", "--format", "text", path]), answer(["capture", path])
+    refused = Answer(2, b"", b"hsms: command line\n")
+    yield "capture: html", answer(["capture", "--format", "html", path]), refused
+    yield "capture: a log", answer(["capture", "--format", "json", "--log", "host", path]), refused
+    wanted = Answer(2, b"", b"hsms: command line\n--format html: expected text or json\n")
+    yield "capture: html, -v", answer(["capture", "--format", "html", path, "-v"]), wanted
+    wanted = Answer(2, b"", b"hsms: command line\n--format json is of verdicts: leave out --log\n")
+    yield "capture: a log, -v", answer(["capture", "--format", "json", "--log", "host", path, "-v"]), wanted
+    text = answer(["capture", "--format", "text", "--log", "host", path])
+    yield "capture: a log as text", text, answer(["capture", "--log", "host", path])
+    for files in ([path], [path, path]):
+        with open("/dev/full", "wb") as full:
+            ran = subprocess.run(
+                [PROGRAM, "capture", "--format", "json", *files], stdout=full, stderr=subprocess.PIPE, timeout=LONGEST_RUN
+            )
+        yield f"capture: a full device, {files}", (ran.returncode, ran.stderr), (3, b"hsms: Write\n")
+
+
 def others():
     log, failing = f"{TOP}/examples/session.log", f"{TOP}/examples/late-reply.log"
     yield "text", answer(["audit", "--format", "text", log]), answer(["audit", log])
@@ -210,7 +284,7 @@ def others():
 def tries():
     texts = sentences()
     yield from each_log(texts)
-    for part in (line_endings, names):
+    for part in (line_endings, names, captures):
         with tempfile.TemporaryDirectory() as room:
             yield from part(room, texts)
     yield from others()

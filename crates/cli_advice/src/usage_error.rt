@@ -24,14 +24,14 @@ pub fn refused_words(alloc: Global, words: &[String]) -> Result<String, AllocErr
 // Returns which option of a command line the command itself rejects, and why.
 fn rejected_option(alloc: Global, words: &[String]) -> Result<String, AllocError> {
     let mut before = "";
-    let is_audit = words.get(1).is_some_and(|word| word.as_str() == "audit");
+    let subcommand = words.get(1).map_or("", |word| word.as_str());
     for word in words {
         let word = word.as_str();
         let (option, value) = match word.split_once('=') {
             Some(parts) if word.starts_with("--") => parts,
             _ => (before, word),
         };
-        if let Some(expected) = expected_value(option, value, is_audit) {
+        if let Some(expected) = expected_value(subcommand, option, value) {
             return format!(in alloc; "{option} {value}: expected {expected}");
         }
         before = word;
@@ -53,23 +53,32 @@ fn rejected_option(alloc: Global, words: &[String]) -> Result<String, AllocError
             return format!(in alloc; "{needed} needs --link passive");
         }
     }
+    if is_given(words, "--log") {
+        return String::from_str(alloc, "--format json is of verdicts: leave out --log");
+    }
     String::from_str(alloc, "run hsms COMMAND --help")
 }
 
-// Returns what the command takes as the value of an option, if this value is another.
-fn expected_value(option: &str, value: &str, is_audit: bool) -> Option<&'static str> {
+// Returns what a subcommand takes as the value of an option, if this value is another.
+fn expected_value(subcommand: &str, option: &str, value: &str) -> Option<&'static str> {
     match option {
         "--role" | "--active" | "--log" => {
             (!matches!(value, "host" | "equipment")).then_some("host or equipment")
         }
         "--link" => (!matches!(value, "active" | "passive")).then_some("active or passive"),
         "--only" => (value != "failures").then_some("failures"),
-        "--format" if is_audit => {
-            (!matches!(value, "text" | "json" | "junit")).then_some("text, json or junit")
-        }
-        "--format" => (!matches!(value, "text" | "json" | "html")).then_some("text, json or html"),
+        "--format" => expected_format(subcommand, value),
         "--peer" => value.parse::<IpAddr>().is_err().then_some("an IP address"),
         _ => None,
+    }
+}
+
+// Returns the formats of a subcommand, if this is none of them.
+fn expected_format(subcommand: &str, format: &str) -> Option<&'static str> {
+    match subcommand {
+        "audit" => (!matches!(format, "text" | "json" | "junit")).then_some("text, json or junit"),
+        "capture" => (!matches!(format, "text" | "json")).then_some("text or json"),
+        _ => (!matches!(format, "text" | "json" | "html")).then_some("text, json or html"),
     }
 }
 

@@ -1,10 +1,10 @@
 //! The options of `hsms capture`: which connections of a capture are tracked, and what is written of them.
 
-ghost use Rattle.std.specs.Prelude.{◌≡◌, Option, IfSome, None, codes};
+ghost use Rattle.std.specs.Prelude.{◌≡◌, Bool, Option, IfSome, None, codes};
 ghost use Rattle.std.specs.declared.net.ip_addr.IpAddr.{IpAddr};
 ghost use Rattle.clap.specs.Words.{first_of, found_of, rows_of};
 ghost use Rattle.hsms_machine.specs.declared.settings.Role.{Role};
-ghost use Rattle.cli_options.specs.CaptureOptions.{HasCapturing, HasPeer, IsCapturingWithinLimits, log_word, other_role};
+ghost use Rattle.cli_options.specs.CaptureOptions.{HasCapturing, HasPeer, HasVerdictForm, IsCapturingWithinLimits, log_word, other_role, verdict_form_word};
 ghost use Rattle.cli_options.specs.declared.capture_options.Capturing.{Capturing};
 
 use crate::option_tables::CAPTURED_PORT;
@@ -23,6 +23,8 @@ pub struct Capturing {
     pub peer: Option<IpAddr>,
     /// The role whose log is written. `None` for verdicts on the logs of both ends.
     pub log: Option<Role>,
+    /// True if verdicts are written as JSON objects.
+    pub json: bool,
     /// True if midstream sessions are tracked.
     pub joined: bool,
     /// The settings of a connecting end, for a log of several connections.
@@ -41,6 +43,7 @@ pub fn capturing_of(options: &ArgMatches<'_>) -> Option<Capturing>
     let port = short_of(options, CAPTURED_PORT)?;
     let peer = peer_of(options)?;
     let log = log_of(options)?;
+    let json = is_json(options)?;
     let role = role_named(text_or(options, "active", "host"))?;
     let active = settings_with(options, role, Side::Active)?.several();
     let passive = settings_with(options, other_role(role), Side::Passive)?.several();
@@ -48,6 +51,7 @@ pub fn capturing_of(options: &ArgMatches<'_>) -> Option<Capturing>
         port,
         peer,
         log,
+        json,
         joined: flag_of(options, "midstream"),
         active,
         passive,
@@ -74,6 +78,31 @@ fn log_of(options: &ArgMatches<'_>) -> Option<Option<Role>>
     match text_of(options, "log") {
         Some(text) => Some(Some(role_named(text)?)),
         None => Some(None),
+    }
+}
+
+// Returns true if verdicts are requested as JSON objects. Returns `None` if there is no such format, or a log is
+// requested as JSON.
+fn is_json(options: &ArgMatches<'_>) -> Option<bool>
+    ensures some { IfSome result (HasVerdictForm (rows_of (found_of options.now))) }
+    ensures none { result ≡ None → (json : Bool) → HasVerdictForm (rows_of (found_of options.now)) json → ⊥ }
+{
+    let json = verdict_form_named(text_or(options, "format", "text"))?;
+    if json && text_of(options, "log").is_some() {
+        return None;
+    }
+    Some(json)
+}
+
+// Returns true if the format with this name is JSON.
+fn verdict_form_named(name: &str) -> Option<bool>
+    ensures some { IfSome result (λ json. name.now ≡ verdict_form_word json) }
+    ensures none { result ≡ None → (json : Bool) → name.now ≡ verdict_form_word json → ⊥ }
+{
+    match name {
+        "text" => Some(false),
+        "json" => Some(true),
+        _ => None,
     }
 }
 

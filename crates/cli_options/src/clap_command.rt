@@ -86,7 +86,9 @@ const CAPTURE_HELP: &str = help!(
     line. If data is missing, the line says `incomplete` with the packet that shows it, and nothing after it is audited.\n\n\
     With --log it writes the log of one role, for all connections between two addresses, in version 2; a comment above\n\
     each line has its packet number.\n\n\
+    Several files, as those of a ring buffer, are one capture, with one count of packets. Comments name the files.\n\n\
     Example: hsms capture tool.pcap\n\
+    Example: hsms capture ring*.pcap\n\
     Example: hsms capture --log host tool.pcap | hsms explain\n\n\
     Exit status: 0 each log passes, and no data is missing; 1 a log fails; 2 invalid command line or capture: missing data\n\
     (Lost, Length, Differs, Full, CutOff), an invalid file (Capture, Time), no connection (NoConnection), HSMS that was\n\

@@ -164,12 +164,13 @@ pub fn compare_options() -> &'static [Described]
     &COMPARE_OPTIONS
 }
 
-static CAPTURE_OPTIONS: [Described; 13] = options![
-    File(FILE) => FILE_HELP,
+static CAPTURE_OPTIONS: [Described; 14] = options![
+    Files(FILE) => "Files to read as one capture, in the order of their first packets; - is standard input [default: -]",
     Number(CAPTURED_PORT, "N") => "TCP port of the listening ends: 1 to 65535 [default: 5000]",
     Word("peer", "ADDRESS") => "Only connections with this IP address at one end",
     Word("active", "ROLE") => "Role of the connecting end, host or equipment [default: host]",
     Word("log", "ROLE") => "Write the log of this role instead of verdicts",
+    Word("format", "FORMAT") => "Output format of verdicts: text or json (an object for each line) [default: text]",
     Flag("midstream") => "Also audit sessions that started before the capture; their earlier state is assumed",
     Number(DEVICE, "N") => DEVICE_HELP,
     Number(T3, "N") => T3_HELP,

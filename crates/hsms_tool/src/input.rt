@@ -22,6 +22,19 @@ pub enum Opened<S, F> {
     File(F),
 }
 
+impl<S, F: OpenFile> Opened<S, F> {
+    /// Returns true if it is a regular file, which can be opened and read again.
+    pub fn is_regular(&self) -> bool {
+        match self {
+            Opened::Standard(_) => false,
+            Opened::File(file) => match file.metadata() {
+                Ok(metadata) => metadata.is_file(),
+                Err(_) => false,
+            },
+        }
+    }
+}
+
 impl<S: Read, F: Read> Read for Opened<S, F> {
     fn read(&mut self, into: &mut [u8]) -> io::Result<usize> {
         match self {
