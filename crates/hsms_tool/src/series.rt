@@ -1,6 +1,9 @@
 //! `hsms capture` of several files, as those of a ring buffer.
 
-use crate::input::{Opened, STANDARD, check_standard, open_input};
+use crate::input::{Opened, STANDARD, check_standard, open_input, reopened_input};
+use crate::painter::Painting;
+use crate::presentation::Console;
+use crate::progress::Counted;
 use capture_errors::{CaptureError, Rejection, Shortfall};
 use capture_pcap::FileFault;
 use capture_series::{FailedPart, NextPart, Part, PartStart, Parts, Series};
@@ -12,7 +15,10 @@ use cli_reports::ObjectLines;
 use hsms_frame::{Reader, Sink, Writer, give_all};
 use std::alloc::{AllocError, Global};
 use std::fs::Files;
-use std::io;
+use std::time::Clock;
+
+// A file that is open.
+type OpenedFile<'c, 'a, R> = Counted<'c, 'a, R, Opened<<R as Input>::Reader, <R as Files>::File>>;
 
 /// A file of the command line.
 #[derive(Drop)]
@@ -26,23 +32,24 @@ struct CaptureFile<'n, I> {
 
 /// Files in the order of their first packets. Regular files are opened again.
 #[derive(Drop)]
-struct CaptureFiles<'a, 'n, R: Files + Input> {
+struct CaptureFiles<'c, 'a, 'n, R: Clock + Eprint + Files + Input> {
     alloc: Global,
     rt: &'a R,
-    files: Vec<CaptureFile<'n, Opened<R::Reader, R::File>>>,
+    console: &'c Console<'a, R>,
+    files: Vec<CaptureFile<'n, OpenedFile<'c, 'a, R>>>,
     next: usize,
 }
 
-impl<'a, 'n, R: Files + Input> Parts<'n> for CaptureFiles<'a, 'n, R> {
-    type Input = Opened<R::Reader, R::File>;
+impl<'c, 'a, 'n, R: Clock + Eprint + Files + Input> Parts<'n> for CaptureFiles<'c, 'a, 'n, R> {
+    type Input = OpenedFile<'c, 'a, R>;
 
-    fn next_part(&mut self) -> Option<NextPart<'n, Opened<R::Reader, R::File>>> {
+    fn next_part(&mut self) -> Option<NextPart<'n, OpenedFile<'c, 'a, R>>> {
         let file = self.files.get_mut(self.next)?;
         self.next = self.next.saturating_add(1);
         let name = file.name;
         let part = match file.part.take() {
             Some(part) => part,
-            None => opened_again(self.alloc, self.rt, name),
+            None => opened_again(self.alloc, self.rt, name, self.console),
         };
         Some(NextPart { name, part })
     }
@@ -55,25 +62,33 @@ impl<'a, 'n, R: Files + Input> Parts<'n> for CaptureFiles<'a, 'n, R> {
 ///
 /// Returns the error for a file that cannot be opened or is not a capture, before anything is judged, or that of
 /// `hsms capture` on the capture.
-pub fn capture_files<R: Files + Input + Print>(
+pub fn capture_files<R: Clock + Eprint + Files + Input + Print>(
     alloc: Global,
     rt: &R,
     options: Capturing,
     names: &[&str],
     has_port: bool,
-    is_verbose: bool,
+    console: &Console<'_, R>,
 ) -> Result<u8, Failure> {
     check_standard(rt, names)?;
-    let files = in_order(alloc, rt, names, is_verbose)?;
+    console.progress.begin();
+    let files = in_order(alloc, rt, names, console)?;
     let parts = CaptureFiles {
         alloc,
         rt,
+        console,
         files,
         next: 0,
     };
     let mut series = Series::new(alloc, parts)?;
-    let mut sink = Writer::new(io::writer(rt));
+    let painting = if options.log.is_none() && !options.json {
+        Painting::Verdicts
+    } else {
+        Painting::Nothing
+    };
+    let mut sink = Writer::new(console.output(alloc, rt, painting));
     let done = capture_series(alloc, options, &mut series, &mut sink, has_port);
+    console.progress.erase();
     match done {
         Ok(well) => Ok(exit_status(&Ok(well))),
         Err(error) => {
@@ -127,16 +142,16 @@ fn series_lines<'n, P: Parts<'n> + Drop, W: Sink>(
 }
 
 // Returns the files in the order of their first packets. Those without a time are the last.
-fn in_order<'n, R: Files + Input>(
+fn in_order<'c, 'a, 'n, R: Clock + Eprint + Files + Input>(
     alloc: Global,
     rt: &R,
     names: &[&'n str],
-    is_verbose: bool,
-) -> Result<Vec<CaptureFile<'n, Opened<R::Reader, R::File>>>, Failure> {
+    console: &'c Console<'a, R>,
+) -> Result<Vec<CaptureFile<'n, OpenedFile<'c, 'a, R>>>, Failure> {
     let mut files = Vec::new(alloc);
     for name in names {
-        let input = open_input(alloc, rt, name, is_verbose)?;
-        let is_regular = input.is_regular();
+        let input = open_input(alloc, rt, name, console)?;
+        let is_regular = input.input().is_regular();
         let file = match Part::open(alloc, input) {
             Ok(part) => CaptureFile {
                 name: *name,
@@ -161,12 +176,13 @@ fn in_order<'n, R: Files + Input>(
 }
 
 // Opens a file again.
-fn opened_again<R: Files + Input>(
+fn opened_again<'c, 'a, R: Clock + Eprint + Files + Input>(
     alloc: Global,
     rt: &R,
     name: &str,
-) -> Result<Part<Opened<R::Reader, R::File>>, FileFault> {
-    match open_input(alloc, rt, name, false) {
+    console: &'c Console<'a, R>,
+) -> Result<Part<OpenedFile<'c, 'a, R>>, FileFault> {
+    match reopened_input(rt, name, console) {
         Ok(input) => Part::open(alloc, input),
         Err(_) => Err(FileFault::Read),
     }
