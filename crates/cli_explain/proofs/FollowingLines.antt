@@ -157,7 +157,7 @@ can_continue old new mid entries counts before line (carried.Entry step text) fa
       number_of old new mid entries counts before line (carried.Entry step text) facts number ∙ ap counted (sym size),
       facts.counted_so ∙ ap (λ c. with_entry c entry) so_far ∙ counts_more log entry,
       facts.clocks ∙ ap (λ (c : Clock). clock_after_line old.settings.t3 mid c what) still
-      ∙ steady_line old.settings log placed mid entry at_mid (is_valid old.settings log placed at_mid),
+          ∙ steady_line old.settings log placed mid entry at_mid (is_valid old.settings log placed at_mid),
     )
 can_continue old new mid entries counts before line carried.Nothing facts (none, same) (log, placed, encoded_bytes, has, number, so_far, still) =
     let S : List Entry → Type 0 = λ l. EncodesLog (before ++ line ∷ []) old.settings l in

@@ -274,7 +274,10 @@ fn send_notes<S: Serializer>(out: &mut S, notes: &[Note], utc: bool) -> Result<(
 
 fn send_closing<S: Serializer>(out: &mut S, closing: Closing) -> Result<(), S::Error> {
     let Closing { tie, line, after } = closing;
-    let members = [(word_of(tie), Member::Number(line)), ("after", Member::of(after))];
+    let members = [
+        (word_of(tie), Member::Number(line)),
+        ("after", Member::of(after)),
+    ];
     send_members(out, &members)
 }
 

@@ -236,7 +236,10 @@ fn write_left_out<W: fmt::Write>(f: &mut fmt::Formatter<W>, line: u64, rule: Rul
 
 fn write_clock<W: fmt::Write>(f: &mut fmt::Formatter<W>, step: ClockStep) -> fmt::Result {
     let ClockStep {
-        line, back, from, ..
+        line,
+        back,
+        from,
+        ..
     } = step;
     match step.fits {
         Some(fit) => {

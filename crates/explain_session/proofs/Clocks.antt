@@ -12,6 +12,7 @@ use Rattle.hsms_machine.specs.Settings.{Parameters}
 use Rattle.hsms_machine.specs.View.{view_of}
 use Rattle.hsms_machine.proofs.SameFacts.{never_from}
 use Rattle.hsms_machine.proofs.ViewsOfRuns.{past_to}
+use Rattle.explain_lines.specs.Counted.{counted}
 use Rattle.explain_session.specs.Clock.{by_clock, clock_after, clock_at, steady, stepped}
 use Rattle.explain_session.specs.RepairedSession.{CurrentState, HasProgress}
 use Rattle.explain_session.specs.declared.clock.Clock.{Clock}
@@ -36,19 +37,41 @@ step_kept t3 last clock time le = ap (λ b. if b then set_to last clock time els
 pub step_made : (t3 last : ℕ) (clock : Clock) (time : ℕ) → time + clock.offset + t3 < last → stepped t3 last clock time ≡ set_to last clock time
 step_made t3 last clock time lt = ap (λ b. if b then set_to last clock time else clock) (lt-ltb (time + clock.offset + t3) last lt)
 
+-- ---- the entry that is audited
+
+-- The audited time is that of the entry by the clock.
+pub by_clock_so : (last n time audited : ℕ) (event : Event) (clock now : Clock) → n ≡ last → now ≡ clock_at n clock time → audited ≡ counted (time + now.offset)
+    → entry_of_event audited event ≡ by_clock last clock (entry_of_event time event)
+by_clock_so last n time audited event clock now last_is now_is audited_is =
+    ap (λ t. entry_of_event t event)
+    (audited_is ∙ ap (λ (c : Clock). counted (time + c.offset)) (now_is ∙ ap (λ l. clock_at l clock time) last_is))
+
+-- The clock after the entry.
+pub clock_after_so : (t3 s last n time : ℕ) (clock now later : Clock) → n ≡ last → t3 ≡ s → now ≡ clock_at n clock time → later ≡ stepped t3 n now time
+    → later ≡ clock_after s last clock time
+clock_after_so t3 s last n time clock now later last_is t3_is now_is later_is =
+    later_is ∙ ap (λ t. stepped t n now time) t3_is ∙ ap (λ c. stepped s n c time) now_is ∙ ap (λ l. clock_after s l clock time) last_is
+
 -- ---- a log without a step
 
 pub steady_at : (last time : ℕ) → clock_at last steady time ≡ steady
 steady_at last time = elim (cases_lt (time + 0) last) [
-    | inl lt ↦ at_kept last steady time lt
-    | inr le ↦ at_back last steady time le
-  ]
+  | inl lt ↦ at_kept last steady time lt
+  | inr le ↦ at_back last steady time le
+]
 
 -- Without a step an entry is audited as it is logged.
 pub by_steady : (last time : ℕ) (event : Event) → time ≤ 2 ^ 64 - 1 → by_clock last steady (entry_of_event time event) ≡ entry_of_event time event
 by_steady last time event le =
     ap (λ (c : Clock). entry_of_event (min (time + c.offset) (2 ^ 64 - 1)) event) (steady_at last time)
     ∙ ap (λ n. entry_of_event n event) (omega (arith, le))
+
+-- Without a step the audited entry is the logged one.
+pub logged_so : (last n time audited : ℕ) (event : Event) (clock now : Clock) → n ≡ last → now ≡ clock_at n clock time → audited ≡ counted (time + now.offset)
+    → time ≤ 2 ^ 64 - 1 → clock ≡ steady → entry_of_event audited event ≡ entry_of_event time event
+logged_so last n time audited event clock now last_is now_is audited_is le still =
+    by_clock_so last n time audited event clock now last_is now_is audited_is ∙ ap (λ c. by_clock last c (entry_of_event time event)) still
+    ∙ by_steady last time event le
 
 steady_after : (t3 last time : ℕ) → last ≤ time → clock_after t3 last steady time ≡ steady
 steady_after t3 last time le =

@@ -227,17 +227,12 @@ fn subject_of(known: &Known, rule: Rule, what: What) -> What
     ensures backwards { rule ≡ Backwards → result ≡ Up }
     ensures other { (rule ≡ T3Overdue → ⊥) → (rule ≡ Backwards → ⊥) → result ≡ what }
 {
-    match rule {
-        Rule::T3Overdue => waiting_primary(known, what),
-        Rule::Backwards => What::Up,
-        _ => what,
+    if rule == Rule::Backwards {
+        return What::Up;
     }
-}
-
-// Returns the event of the primary that waits the longest, and without one the given event.
-fn waiting_primary(known: &Known, what: What) -> What
-    ensures { IsOverdue (oldest_of known.now.repaired_session.tracker.sent_data) what result }
-{
+    if rule != Rule::T3Overdue {
+        return what;
+    }
     match known.repaired_session.oldest_data() {
         Some((_, primary)) => What::Frame(Mark::Sent, primary),
         None => what,

@@ -178,7 +178,10 @@ impl Primaries {
         let Some((key, reply_outcome)) = closing_of(what, wait) else {
             return Ok(());
         };
-        if let Some(kind) = self.replies.note_closed(key, reply_outcome, wait.after, line)? {
+        if let Some(kind) = self
+            .replies
+            .note_closed(key, reply_outcome, wait.after, line)?
+        {
             if matches!(reply_outcome, ReplyOutcome::Answered) {
                 self.count_time(alloc, kind, wait.after)?;
             }
