@@ -46,12 +46,6 @@ by_clock_so last n time audited event clock now last_is now_is audited_is =
     ap (λ t. entry_of_event t event)
     (audited_is ∙ ap (λ (c : Clock). counted (time + c.offset)) (now_is ∙ ap (λ l. clock_at l clock time) last_is))
 
--- The clock after the entry.
-pub clock_after_so : (t3 s last n time : ℕ) (clock now later : Clock) → n ≡ last → t3 ≡ s → now ≡ clock_at n clock time → later ≡ stepped t3 n now time
-    → later ≡ clock_after s last clock time
-clock_after_so t3 s last n time clock now later last_is t3_is now_is later_is =
-    later_is ∙ ap (λ t. stepped t n now time) t3_is ∙ ap (λ c. stepped s n c time) now_is ∙ ap (λ l. clock_after s l clock time) last_is
-
 -- ---- a log without a step
 
 pub steady_at : (last time : ℕ) → clock_at last steady time ≡ steady
@@ -61,17 +55,11 @@ steady_at last time = elim (cases_lt (time + 0) last) [
 ]
 
 -- Without a step an entry is audited as it is logged.
-pub by_steady : (last time : ℕ) (event : Event) → time ≤ 2 ^ 64 - 1 → by_clock last steady (entry_of_event time event) ≡ entry_of_event time event
-by_steady last time event le =
-    ap (λ (c : Clock). entry_of_event (min (time + c.offset) (2 ^ 64 - 1)) event) (steady_at last time)
-    ∙ ap (λ n. entry_of_event n event) (omega (arith, le))
-
--- Without a step the audited entry is the logged one.
-pub logged_so : (last n time audited : ℕ) (event : Event) (clock now : Clock) → n ≡ last → now ≡ clock_at n clock time → audited ≡ counted (time + now.offset)
-    → time ≤ 2 ^ 64 - 1 → clock ≡ steady → entry_of_event audited event ≡ entry_of_event time event
-logged_so last n time audited event clock now last_is now_is audited_is le still =
-    by_clock_so last n time audited event clock now last_is now_is audited_is ∙ ap (λ c. by_clock last c (entry_of_event time event)) still
-    ∙ by_steady last time event le
+pub logged_so : (n time audited : ℕ) (event : Event) (clock now : Clock) → now ≡ clock_at n clock time → (now.offset ≡ 0 → audited ≡ time) → clock ≡ steady
+    → entry_of_event audited event ≡ entry_of_event time event
+logged_so n time audited event clock now now_is kept still =
+    let none : now.offset ≡ 0 = ap (λ (c : Clock). c.offset) (now_is ∙ ap (λ c. clock_at n c time) still ∙ steady_at n time) in
+    ap (λ t. entry_of_event t event) (kept none)
 
 steady_after : (t3 last time : ℕ) → last ≤ time → clock_after t3 last steady time ≡ steady
 steady_after t3 last time le =

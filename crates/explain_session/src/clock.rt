@@ -37,7 +37,8 @@ impl Clock {
 
     /// Returns the time as it is audited.
     pub fn audited(self, time: u64) -> u64
-        ensures { result ≡ counted (time + self.offset) }
+        ensures value { result ≡ counted (time + self.offset) }
+        ensures kept { self.offset ≡ 0 → result ≡ time }
     {
         time.saturating_add(self.offset)
     }
