@@ -1,5 +1,5 @@
 -- The clock of a log.
-use Rattle.std.proofs.Common.{◌≡◌, ◌<◌, ◌≤◌, ◌+◌, ◌-◌, ◌^◌, ℕ, min, List, length, inl, inr, refl, sym, ap, ◌∙◌, subst, arith, if◌then◌else◌, None}
+use Rattle.std.proofs.Common.{◌≡◌, ◌<◌, ◌≤◌, ◌+◌, ◌-◌, ℕ, List, length, inl, inr, ap, ◌∙◌, subst, arith, if◌then◌else◌, None}
 use Rattle.std.proofs.lemmas.Bool.{cases_lt, lt-ltb, le-ltb}
 use Rattle.hsms_machine.specs.declared.entry.Entry.{Entry}
 use Rattle.hsms_machine.specs.declared.entry.Event.{Event}
@@ -18,24 +18,21 @@ use Rattle.explain_session.specs.RepairedSession.{CurrentState, HasProgress}
 use Rattle.explain_session.specs.declared.clock.Clock.{Clock}
 
 -- The clock before the last step.
-abbrev pub back_of : Clock → Clock
+abbrev back_of : Clock → Clock
 back_of clock = record { offset = clock.before; before = clock.before }
 
-pub at_kept : (last : ℕ) (clock : Clock) (time : ℕ) → time + clock.before < last → clock_at last clock time ≡ clock
+at_kept : (last : ℕ) (clock : Clock) (time : ℕ) → time + clock.before < last → clock_at last clock time ≡ clock
 at_kept last clock time lt = ap (λ b. if b then clock else back_of clock) (lt-ltb (time + clock.before) last lt)
 
-pub at_back : (last : ℕ) (clock : Clock) (time : ℕ) → last ≤ time + clock.before → clock_at last clock time ≡ back_of clock
+at_back : (last : ℕ) (clock : Clock) (time : ℕ) → last ≤ time + clock.before → clock_at last clock time ≡ back_of clock
 at_back last clock time le = ap (λ b. if b then clock else back_of clock) (le-ltb (time + clock.before) last le)
 
 -- The clock after a step.
-abbrev pub set_to : ℕ → Clock → ℕ → Clock
+abbrev set_to : ℕ → Clock → ℕ → Clock
 set_to last clock time = record { offset = last - time; before = clock.offset }
 
-pub step_kept : (t3 last : ℕ) (clock : Clock) (time : ℕ) → last ≤ time + clock.offset + t3 → stepped t3 last clock time ≡ clock
+step_kept : (t3 last : ℕ) (clock : Clock) (time : ℕ) → last ≤ time + clock.offset + t3 → stepped t3 last clock time ≡ clock
 step_kept t3 last clock time le = ap (λ b. if b then set_to last clock time else clock) (le-ltb (time + clock.offset + t3) last le)
-
-pub step_made : (t3 last : ℕ) (clock : Clock) (time : ℕ) → time + clock.offset + t3 < last → stepped t3 last clock time ≡ set_to last clock time
-step_made t3 last clock time lt = ap (λ b. if b then set_to last clock time else clock) (lt-ltb (time + clock.offset + t3) last lt)
 
 -- ---- the entry that is audited
 

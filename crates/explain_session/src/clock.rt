@@ -8,7 +8,7 @@ pub struct Clock {
 }
 
 impl Clock {
-    ghost use Rattle.std.specs.Prelude.{◌≡◌, ◌+◌, ◌≤◌};
+    ghost use Rattle.std.specs.Prelude.{◌≡◌, ◌+◌};
     ghost use Rattle.explain_lines.specs.Counted.{counted};
     ghost use Rattle.explain_session.specs.Clock.{clock_at, steady, stepped as after_step};
 

@@ -5,7 +5,6 @@ ghost use Rattle.hsms_log.specs.Step.{entry_by};
 ghost use Rattle.explain_lines.specs.AnnotatedFailure.{first_why};
 ghost use Rattle.explain_session.specs.Clock.{by_clock, clock_after, steady};
 ghost use Rattle.explain_session.specs.EntryFailure.{FailsBy};
-ghost use Rattle.explain_session.specs.RepairedSession.{ForEachProgress};
 ghost use Rattle.explain_session.specs.RepairSteps.{RepairsEntry};
 
 use crate::context::Known;

@@ -1,4 +1,4 @@
-use Rattle.std.proofs.Common.{sym, subst}
+use Rattle.std.proofs.Common.{subst}
 use Rattle.hsms_machine.specs.declared.entry.Entry.{Entry}
 use Rattle.hsms_log.specs.Step.{event_of}
 use Rattle.explain_lines.specs.AnnotatedFailure.{first_why}
