@@ -50,6 +50,7 @@ IN_ORDER = [
 # Scripts that look at no clock, the longest first.
 SIDE_BY_SIDE = [
     Script("gate/explain_reference", PROGRAM),
+    Script("gate/clock_steps", PROGRAM),
     Script("gate/allocation_failures", "the program, hsms_ends_driver, the tests of the crates, cc, nm, objdump"),
     Script("gate/reference_check", PROGRAM),
     Script("gate/capture_reference", PROGRAM),

@@ -102,6 +102,22 @@ def other_settings() -> List[bytes]:
     return [settings + body for settings in [EMPTY, *others] for body in bodies]
 
 
+def other_clocks(log: bytes) -> List[bytes]:
+    """The log a day later, with other times: back from the middle on, one far ahead or back, and back for some lines."""
+    day, first, *lines = 86_400_000, *log.split(b"\n")
+    middle, told = len(lines) // 2, []
+    for start, end, by in ((middle, None, -3_600_000), (middle, middle + 1, 10**12), (middle, middle + 1, -day), (middle, middle + 4, -day), (2, None, -9)):
+        moved = range(len(lines))[start:end]
+        told.append(b"\n".join([first, *(later(line, day + by * (at in moved)) for at, line in enumerate(lines))]))
+    return told
+
+
+def later(line: bytes, by: int) -> bytes:
+    """A line with its time moved, if it has one."""
+    time, blank, words = line.partition(b" ")
+    return b"%d%s%s" % (int(time) + by, blank, words) if time.isdigit() else line
+
+
 def long_logs() -> List[bytes]:
     """Logs of which a page does not have each line: failures after 5,000 lines, also of requests before them."""
     comments = b"# a comment\n" * (explain.PAGE_LINES - 9)
@@ -203,6 +219,7 @@ def main() -> int:
     fixed = [*example_logs(), *random_logs.logs_at_edges(), *edge_cases.logs(), *markup(), overdue(), *reconnected(), *other_settings(), *long_logs()]
     logs = [*fixed, *random, *reasons.damaged_logs(seed, 2 * count)]
     logs += [many_sorts(), many_kinds(), *(repeated(log) for log in random + example_logs())]
+    logs += [it for log in [*example_logs(), overdue(), *random[:50]] for it in other_clocks(log)]
     with ProcessPoolExecutor() as pool:
         differences = [(len(log), told) for log, told in zip(logs, pool.map(difference, logs)) if told]
     if differences:

@@ -250,6 +250,8 @@ def cells_of(words: str) -> List[str]:
     way = counts[0].split("=")[0]
     greatest = f"{counted['max']} (line {counted['line']})" if "line" in counted else ""
     names = "answered aborted expired rejected ended waiting min median p99".split()
+    if "unmeasured" in counted:
+        counted["answered"] = f"{counted.get('answered', '')} + {counted['unmeasured']} unmeasured"
     return [f"{kind} W {way}", counted[way], *(counted.get(name, "") for name in names), greatest]
 
 

@@ -22,6 +22,8 @@ use Rattle.explain_lines.specs.declared.explained_line.Carried.TheVariants as ca
 use Rattle.explain_lines.specs.Counted.{counted}
 use Rattle.explain_statistics.specs.EntryCounts.{counts_of, one_more, with_entry}
 use Rattle.explain_statistics.specs.InnerEntryCounts.{with_carried}
+use Rattle.explain_session.specs.Clock.{steady}
+use Rattle.explain_session.specs.InnerRepairedLines.{clock_after_line}
 use Rattle.explain_session.specs.RepairedSession.{CurrentState, HasProgress}
 use Rattle.explain_statistics.specs.FirstFailure.{failed_at}
 use Rattle.explain_statistics.specs.InnerFirstFailure.{FailsFirst}
@@ -30,6 +32,8 @@ use Rattle.explain_lines.specs.AnnotatedFailure.{either}
 use Rattle.explain_session.specs.InnerEntryFailure.{LineFailsBy}
 use Rattle.explain_lines.specs.CarriedLine.{IsCarried}
 use Rattle.hsms_log.specs.Step.{entry_by}
+use Rattle.explain_session.specs.declared.clock.Clock.{Clock}
+use Rattle.explain_session.proofs.Clocks.{steady_line}
 
 -- ---- annotations
 
@@ -119,6 +123,7 @@ pub record LineFacts (old new : Known) (mid : CurrentState) (entries counts : Su
   pub same : new.settings ≡ old.settings
   pub number : new.repaired_session.line ≡ mid.line
   pub counted_so : counts ≡ with_carried entries what
+  pub clocks : new.clock ≡ clock_after_line old.settings.t3 mid old.clock what
 
 number_of : (old new : Known) (mid : CurrentState) (entries counts : Summary) (before : List (List ℕ)) (line : List ℕ) (what : Carried)
     → LineFacts old new mid entries counts line what → old.repaired_session.line ≡ counted (length before) → new.repaired_session.line ≡ counted (length before + 1)
@@ -135,9 +140,11 @@ mid_has old new mid entries counts line what log placed facts has =
 can_continue : (old new : Known) (mid : CurrentState) (entries counts : Summary) (before : List (List ℕ)) (line : List ℕ) (what : Carried)
     → LineFacts old new mid entries counts line what → LineFailsBy mid what new.repaired_session None → Tracks old entries before
     → Tracks new counts (before ++ line ∷ [])
-can_continue old new mid entries counts before line (carried.Entry step text) facts (is_valid, leads) (log, placed, encoded_bytes, has, number, so_far) =
+can_continue old new mid entries counts before line (carried.Entry step text) facts (is_valid, leads) (log, placed, encoded_bytes, has, number, so_far, still) =
     let entry = entry_by step text.now in
-    let later = leads old.settings log placed (mid_has old new mid entries counts line (carried.Entry step text) log placed facts has) in
+    let what = carried.Entry step text in
+    let at_mid = mid_has old new mid entries counts line what log placed facts has in
+    let later = leads old.settings log placed at_mid in
     let next = log ++ entry ∷ [] in
     let places = placed ++ at_place mid.line entry ∷ [] in
     let P : Parameters → Type 0 = λ s. EncodesLog (before ++ line ∷ []) s next × HasProgress s next places new.repaired_session in
@@ -149,8 +156,10 @@ can_continue old new mid entries counts before line (carried.Entry step text) fa
       both.1,
       number_of old new mid entries counts before line (carried.Entry step text) facts number ∙ ap counted (sym size),
       facts.counted_so ∙ ap (λ c. with_entry c entry) so_far ∙ counts_more log entry,
+      facts.clocks ∙ ap (λ (c : Clock). clock_after_line old.settings.t3 mid c what) still
+          ∙ steady_line old.settings log placed mid entry at_mid (is_valid old.settings log placed at_mid),
     )
-can_continue old new mid entries counts before line carried.Nothing facts (none, same) (log, placed, encoded_bytes, has, number, so_far) =
+can_continue old new mid entries counts before line carried.Nothing facts (none, same) (log, placed, encoded_bytes, has, number, so_far, still) =
     let S : List Entry → Type 0 = λ l. EncodesLog (before ++ line ∷ []) old.settings l in
     let C : CurrentState → Type 0 = λ c. HasProgress old.settings log placed c in
     let more = subst S (append-nil log) (encode_more before old.settings log line None encoded_bytes facts.carries) in
@@ -164,6 +173,7 @@ can_continue old new mid entries counts before line carried.Nothing facts (none,
       both.1,
       number_of old new mid entries counts before line carried.Nothing facts number ∙ ap counted (sym size),
       facts.counted_so ∙ so_far,
+      facts.clocks ∙ still,
     )
 can_continue old new mid entries counts before line (carried.Unreadable reasoned) facts some tracks = absurd cc
 
@@ -172,39 +182,41 @@ fails_so : (old new : Known) (mid : CurrentState) (entries counts : Summary) (be
     → LineFacts old new mid entries counts line what → LineFailsBy mid what new.repaired_session (Some why) → Tracks old entries before
     → FailsAfter before line why
 fails_so old new mid entries counts before line (carried.Entry step text) Unreadable facts fails tracks = absurd fails
-fails_so old new mid entries counts before line (carried.Entry step text) (Broken rule) facts fails (log, placed, encoded_bytes, has, number, so_far) =
+fails_so old new mid entries counts before line (carried.Entry step text) (Broken rule) facts fails (log, placed, encoded_bytes, has, number, so_far, still) =
     let mid_is = mid_has old new mid entries counts line (carried.Entry step text) log placed facts has in
     fails_after old.settings log before line (Broken rule) encoded_bytes has.run.run (entry_by step text.now, facts.carries, fails old.settings log placed mid_is)
 fails_so old new mid entries counts before line carried.Nothing why facts (some, same) tracks = absurd cc
-fails_so old new mid entries counts before line (carried.Unreadable reasoned) why facts some (log, placed, encoded_bytes, has, number, so_far) =
+fails_so old new mid entries counts before line (carried.Unreadable reasoned) why facts some (log, placed, encoded_bytes, has, number, so_far, still) =
     let is : why ≡ Unreadable = cc some in
     let P : Why → Type 0 = λ w. FailsAfter before line w in
     subst P (sym is) (fails_after old.settings log before line Unreadable encoded_bytes has.run.run facts.carries)
 
 follows_so : (old new : Known) (mid : CurrentState) (entries counts : Summary) (before : List (List ℕ)) (line : List ℕ) (what : Carried) (first : Option Failed) (why : Option Why)
-    → LineFacts old new mid entries counts line what → LineFailsBy mid what new.repaired_session why
+    → LineFacts old new mid entries counts line what → (old.clock ≡ steady → LineFailsBy mid what new.repaired_session why)
     → MatchOption first (Tracks old entries before) (FailsFirst before)
     → MatchOption (either first (failed_at new.repaired_session.line why)) (Tracks new counts (before ++ line ∷ [])) (FailsFirst (before ++ line ∷ []))
 follows_so old new mid entries counts before line what (Some failed) why facts fails after = fails_more before line failed after
-follows_so old new mid entries counts before line what None None facts fails after = can_continue old new mid entries counts before line what facts fails after
+follows_so old new mid entries counts before line what None None facts fails after =
+    can_continue old new mid entries counts before line what facts (fails after.6) after
 follows_so old new mid entries counts before line what None (Some why) facts fails after =
     fails_next before line new.repaired_session.line why
     (number_of old new mid entries counts before line what facts after.4)
-    (fails_so old new mid entries counts before line what why facts fails after)
+    (fails_so old new mid entries counts before line what why facts (fails after.6) after)
 
 -- A line after the first.
 pub later_follows : (old new : Known) (mid : CurrentState) (tally next : Tally) (before : List (List ℕ)) (line shown : List ℕ) (what : Carried) (number : ℕ) (why : Option Why)
     → mid ≡ next_progress old.repaired_session → IsShown (line_limit old.settings.max) line shown → IsCarried old.settings.max shown what
     → new.settings ≡ old.settings → new.repaired_session.line ≡ mid.line → number ≡ new.repaired_session.line → next.entries ≡ with_carried tally.entries what
-    → next.first ≡ either tally.first (failed_at number why) → LineFailsBy mid what new.repaired_session why
-    → TracksOrFails old tally before → TracksOrFails new next (before ++ line ∷ [])
-later_follows old new mid tally next before line shown what number why mid_is is_shown is_carried settings line_is number_is entries first fails after =
+    → next.first ≡ either tally.first (failed_at number why) → (old.clock ≡ steady → LineFailsBy mid what new.repaired_session why)
+    → new.clock ≡ clock_after_line old.settings.t3 mid old.clock what → TracksOrFails old tally before → TracksOrFails new next (before ++ line ∷ [])
+later_follows old new mid tally next before line shown what number why mid_is is_shown is_carried settings line_is number_is entries first fails clocks after =
     let facts : LineFacts old new mid tally.entries next.entries line what = record {
       mid_is = mid_is;
       carries = carried_shown old.settings.max line shown what is_shown is_carried;
       same = settings;
       number = line_is;
       counted_so = entries;
+      clocks = clocks;
     } in
     let lines = before ++ line ∷ [] in
     let P : Option Failed → Type 0 = λ f. MatchOption f (Tracks new next.entries lines) (FailsFirst lines) in
@@ -214,28 +226,28 @@ later_follows old new mid tally next before line shown what number why mid_is is
 -- ---- a line of a log that is not checked
 
 unjudged_first : (known : Known) (tally : Tally) (line : List ℕ) → EncodesSettings line known.settings → HasProgress known.settings [] [] known.repaired_session
-    → known.repaired_session.line ≡ 1 → tally.entries ≡ counts_of [] → Tracks known tally.entries (line ∷ [])
-unjudged_first known tally line encoded_bytes has number entries = ([], [], (encoded_bytes, refl), has, number, entries)
+    → known.repaired_session.line ≡ 1 → tally.entries ≡ counts_of [] → known.clock ≡ steady → Tracks known tally.entries (line ∷ [])
+unjudged_first known tally line encoded_bytes has number entries still = ([], [], (encoded_bytes, refl), has, number, entries, still)
 
 -- The first line, if it encodes settings.
 pub first_follows : (known : Known) (tally next : Tally) (so_far : ℕ) (before : List (List ℕ)) (line shown : List ℕ) (settings : Parameters) (first : Option Failed)
     → tally.first ≡ first → next.first ≡ either tally.first None → next.entries ≡ tally.entries
     → IsShown settings_limit line shown → EncodesSettings shown settings → known.settings ≡ settings → HasProgress settings [] [] known.repaired_session
-    → known.repaired_session.line ≡ 1
+    → known.repaired_session.line ≡ 1 → known.clock ≡ steady
     → MatchOption first ((before ≡ []) × (so_far ≡ 0) × (tally.entries ≡ counts_of [])) (FailsFirst before) → TracksOrFails known next (before ++ line ∷ [])
-first_follows known tally next so_far before line shown settings (Some failed) first next_is entries is_shown encoded_bytes same has number after =
+first_follows known tally next so_far before line shown settings (Some failed) first next_is entries is_shown encoded_bytes same has number still after =
     let lines = before ++ line ∷ [] in
     let P : Option Failed → Type 0 = λ f. MatchOption f (Tracks known next.entries lines) (FailsFirst lines) in
     let is : next.first ≡ Some failed = next_is ∙ ap (λ f. either f None) first in
     subst P (sym is) (fails_more before line failed after)
-first_follows known tally next so_far before line shown settings None first next_is entries is_shown encoded_bytes same has number (none, zero_is, none_yet) =
+first_follows known tally next so_far before line shown settings None first next_is entries is_shown encoded_bytes same has number still (none, zero_is, none_yet) =
     let lines = before ++ line ∷ [] in
     let P : Option Failed → Type 0 = λ f. MatchOption f (Tracks known next.entries lines) (FailsFirst lines) in
     let is : next.first ≡ None = next_is ∙ ap (λ f. either f None) first in
     let S : Parameters → Type 0 = λ s. EncodesSettings line s × HasProgress s [] [] known.repaired_session in
     let both = subst S (sym same) (encoded_shown line shown settings is_shown encoded_bytes, has) in
     let L : List (List ℕ) → Type 0 = λ l. Tracks known next.entries (l ++ line ∷ []) in
-    subst P (sym is) (subst L (sym none) (unjudged_first known next line both.0 both.1 number (entries ∙ none_yet)))
+    subst P (sym is) (subst L (sym none) (unjudged_first known next line both.0 both.1 number (entries ∙ none_yet) still))
 
 -- The first line, if it encodes no settings.
 pub first_fails : (tally next : Tally) (so_far number : ℕ) (before : List (List ℕ)) (line shown : List ℕ) (first : Option Failed)

@@ -12,6 +12,7 @@ use Rattle.cli_explain.specs.declared.audit_state.Stage.TheVariants.{Unjudged, C
 use Rattle.explain_statistics.specs.declared.failure_counts.Tally.{Tally}
 use Rattle.explain_lines.specs.Counted.{counted}
 use Rattle.explain_statistics.specs.EntryCounts.{counts_of}
+use Rattle.explain_session.specs.Clock.{steady}
 use Rattle.explain_session.specs.RepairedSession.{HasProgress}
 use Rattle.explain_statistics.specs.InnerFirstFailure.{FailsFirst}
 use Rattle.explain_session.specs.InnerRepairedLines.{ContinuesWith}
@@ -22,7 +23,7 @@ use Rattle.explain_session.specs.InnerRepairedLines.{ContinuesWith}
 abbrev pub Tracks : Known → Summary → List (List ℕ) → Type 0
 Tracks known entries lines =
     (log : List Entry) × (placed : List Entry) × EncodesLog lines known.settings log × HasProgress known.settings log placed known.repaired_session
-    × (known.repaired_session.line ≡ counted (length lines)) × (entries ≡ counts_of log)
+    × (known.repaired_session.line ≡ counted (length lines)) × (entries ≡ counts_of log) × (known.clock ≡ steady)
 
 -- Holds if the log is checked after these lines, or if this is their first failure.
 abbrev pub TracksOrFails : Known → Tally → List (List ℕ) → Type 0

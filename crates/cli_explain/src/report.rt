@@ -6,7 +6,8 @@ ghost use Rattle.cli_options.specs.declared.explain_options.OutputFormat.TheVari
 ghost use Rattle.explain_statistics.specs.EntryCounts.{counts_of};
 ghost use Rattle.cli_explain.specs.InnerFirstFailureOutput.{KeepsShown, ShowsWith};
 ghost use Rattle.explain_statistics.specs.FirstFailure.{failed_at};
-ghost use Rattle.explain_session.specs.InnerRepairedLines.{RepairsLine, NotesUnreadable};
+ghost use Rattle.explain_session.specs.Clock.{steady};
+ghost use Rattle.explain_session.specs.InnerRepairedLines.{RepairsLine, NotesUnreadable, clock_after_line};
 ghost use Rattle.explain_lines.specs.AnnotatedFailure.{either, first_why};
 ghost use Rattle.explain_statistics.specs.InnerEntryCounts.{with_carried};
 ghost use Rattle.explain_session.specs.InnerEntryFailure.{LineFailsBy};
@@ -17,7 +18,7 @@ use crate::line_filter::Window;
 use cli_options::Excerpt;
 use explain_forms::Page;
 use explain_lines::{Carried, ExplainedLine, Failing, Note, Unjudged};
-use explain_session::{Known, check_next_entry};
+use explain_session::{Known, check_logged_entry};
 use explain_statistics::{Groups, Lists, LogFacts, Primaries, Tally, group_notes};
 use hsms_log::Unreadable;
 use hsms_machine::Settings;
@@ -173,8 +174,12 @@ impl Report {
         known: &mut Known,
         carried: Carried<'_>,
     ) -> Result<(), AllocError>
-        ensures check_result { OnOk result (LineFailsBy known.old.repaired_session carried.entry known.new.repaired_session (first_why self.new.notes.items)) }
-        ensures repairs { OnOk result (RepairsLine known.old.repaired_session carried.entry known.new.repaired_session self.new.notes.items) }
+        ensures check_result { OnOk result (known.old.clock ≡ steady
+            → LineFailsBy known.old.repaired_session carried.entry known.new.repaired_session (first_why self.new.notes.items)) }
+        ensures repairs { OnOk result (RepairsLine known.old.repaired_session known.old.clock carried.entry known.new.repaired_session
+            self.new.notes.items) }
+        ensures clock { OnOk result (known.new.clock
+            ≡ clock_after_line known.old.settings.t3 known.old.repaired_session known.old.clock carried.entry) }
         ensures settings { OnOk result (known.new.settings ≡ known.old.settings) }
         ensures line { OnOk result (known.new.repaired_session.line ≡ known.old.repaired_session.line) }
         ensures entries { OnOk result (self.new.tally.entries ≡ with_carried self.old.tally.entries carried.entry) }
@@ -188,7 +193,7 @@ impl Report {
             Carried::Entry(step, text) => {
                 self.tally.count_entry(step.what);
                 self.facts.note(known.repaired_session.line(), step.what);
-                check_next_entry(alloc, known, step, text, &mut self.notes)
+                check_logged_entry(alloc, known, step, text, &mut self.notes)
             }
             Carried::Nothing => Ok(()),
             Carried::Unreadable(unreadable) => self.note_unreadable(unreadable),

@@ -509,10 +509,13 @@ fn write_outcome(page: &mut Page, links: &Links, outcome: Outcome) {
     put(page, outcome.way());
     put_number(page, "</td><td>", outcome.counts.opened);
     put(page, "</td>");
-    for (_, count) in outcome.fates() {
+    for (name, count) in outcome.fates() {
         put(page, "<td>");
         if count > 0 {
             page.append_number(count, 0);
+        }
+        if name == "answered" {
+            write_unmeasured(page, outcome.counts.unmeasured);
         }
         put(page, "</td>");
     }
@@ -521,6 +524,14 @@ fn write_outcome(page: &mut Page, links: &Links, outcome: Outcome) {
         None => put(page, "<td></td><td></td><td></td><td></td>"),
     }
     put(page, "</tr>\n");
+}
+
+// Writes the number of answered primaries without a time, if there are any.
+fn write_unmeasured(page: &mut Page, unmeasured: u64) {
+    if unmeasured > 0 {
+        put_number(page, " + ", unmeasured);
+        put(page, " unmeasured");
+    }
 }
 
 /// Writes a primary of a list, as a link to its line if that is shown.

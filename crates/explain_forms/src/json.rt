@@ -274,8 +274,11 @@ fn send_notes<S: Serializer>(out: &mut S, notes: &[Note], utc: bool) -> Result<(
 
 fn send_closing<S: Serializer>(out: &mut S, closing: Closing) -> Result<(), S::Error> {
     let Closing { tie, line, after } = closing;
-    send_number(out, word_of(tie), line)?;
-    send_number(out, "after", after)
+    let members = [
+        (word_of(tie), Member::Number(line)),
+        ("after", Member::of(after)),
+    ];
+    send_members(out, &members)
 }
 
 // The failures among the annotations of a line.
@@ -484,11 +487,20 @@ impl AsObject for Outcome {
         out.begin_map(None)?;
         send_kind(out, self)?;
         send_named(out, &self.fates())?;
+        send_unmeasured(out, self.counts.unmeasured)?;
         if let Some(times) = self.times {
             send_named(out, &times.named())?;
         }
         out.end_map()
     }
+}
+
+// Sends the number of answered primaries without a time, if there are any.
+fn send_unmeasured<S: Serializer>(out: &mut S, unmeasured: u64) -> Result<(), S::Error> {
+    if unmeasured > 0 {
+        return send_number(out, "unmeasured", unmeasured);
+    }
+    Ok(())
 }
 
 // Sends the kind of primaries, and their number.

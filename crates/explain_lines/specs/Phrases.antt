@@ -21,9 +21,14 @@ closing_word Answers = codes "answers"
 closing_word Rejects = codes "rejects"
 closing_word Expires = codes "T3 timeout of"
 
+-- The ms since a transaction was opened, if the clock was not set in between.
+abbrev pub closing_end : Option ℕ → List ℕ
+closing_end (Some after) = codes " after " ++ decimal after ++ codes " ms"
+closing_end None = codes ", across a step of the clock"
+
 -- The line that opened the transaction that an entry closes, and the ms since then.
 abbrev pub closing_text : Closing → List ℕ
-closing_text c = closing_word c.tie ++ codes " line " ++ decimal c.line ++ codes " after " ++ decimal c.after ++ codes " ms"
+closing_text c = closing_word c.tie ++ codes " line " ++ decimal c.line ++ closing_end c.after
 
 abbrev pub concern_text : Concern → List ℕ
 concern_text c = codes "open transaction: line " ++ decimal c.line

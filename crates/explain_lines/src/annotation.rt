@@ -8,7 +8,7 @@ ghost use Rattle.explain_lines.specs.AnnotatedFailure.{first_why, is_whole};
 
 use crate::expected::Expected;
 use crate::failure_kind::UNREADABLE_SORT;
-use crate::phrases::{Closing, Continuation, FailureGroup, Overdue, Put};
+use crate::phrases::{Closing, Continuation, FailureGroup, Overdue, Put, in_log_times};
 use hsms_log::{Unreadable, Why};
 use hsms_machine::RepairAction;
 
@@ -39,7 +39,8 @@ impl Note {
 }
 
 /// A failure of a line. It has its failure kind (`sort`), rule and rule text, the line of the open transaction
-/// involved, the request whose timer has expired, a hint, and the repair. An unreadable line is skipped.
+/// involved, the request whose timer has expired, a hint, and the repair with the offset of the clock in its times. An
+/// unreadable line is skipped.
 #[derive(Clone, Copy)]
 pub struct Failing {
     pub sort: u64,
@@ -49,6 +50,7 @@ pub struct Failing {
     pub overdue: Option<Overdue>,
     pub expected: Option<Expected>,
     pub repair_action: Option<RepairAction>,
+    pub offset: u64,
 }
 
 impl Failing {
@@ -66,13 +68,19 @@ impl Failing {
             overdue: None,
             expected: Some(Expected::Form(unreadable)),
             repair_action: None,
+            offset: 0,
         }
     }
 
     /// Returns how the log continues. `utc` selects dates instead of times in ms.
     pub fn continuation(&self, utc: bool) -> Option<Continuation> {
-        self.repair_action
-            .map(|repair_action| Continuation { repair_action, utc })
+        let is_step = matches!(self.expected, Some(Expected::Clock(_)));
+        let repair_action = in_log_times(self.repair_action?, self.offset);
+        Some(Continuation {
+            repair_action,
+            utc,
+            is_step,
+        })
     }
 
     /// Returns the line that the hint names.
@@ -94,7 +102,7 @@ impl Failing {
 
     /// Returns the entry that the repair inserts before the line.
     pub fn put(&self) -> Option<Put> {
-        Put::of(self.repair_action?)
+        Put::of(in_log_times(self.repair_action?, self.offset))
     }
 }
 

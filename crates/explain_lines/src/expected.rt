@@ -46,6 +46,23 @@ pub enum Setting {
     Role(Role),
 }
 
+/// A step of the clock: the time of `line` is `back` ms before that of `from`, the line with the last entry. If the time
+/// of `line` fits that of the line with the entry before, `from` alone is ahead.
+#[derive(Clone, Copy)]
+pub struct ClockStep {
+    pub line: u64,
+    pub back: u64,
+    pub from: u64,
+    pub fits: Option<Fit>,
+}
+
+/// A line, and how many ms after it another one is.
+#[derive(Clone, Copy)]
+pub struct Fit {
+    pub line: u64,
+    pub after: u64,
+}
+
 /// What was expected instead of an entry that fails, if known, or why the entry is not allowed there.
 #[derive(Clone, Copy)]
 pub enum Expected {
@@ -100,6 +117,8 @@ pub enum Expected {
     },
     /// The session ended at the line.
     Over(u64),
+    /// The clock was set back.
+    Clock(ClockStep),
     /// The line is unreadable.
     Form(Unreadable),
 }
@@ -117,6 +136,7 @@ impl Expected {
             | Expected::Over(line) => Some(line),
             Expected::Selected(line) => line,
             Expected::Device { .. } | Expected::LineOne(_) => Some(1),
+            Expected::Clock(step) => Some(step.from),
             Expected::Forgotten
             | Expected::Session { .. }
             | Expected::Text { .. }
@@ -156,6 +176,7 @@ impl fmt::Display for Expected {
             Expected::Selected(request) => write_selected(f, request),
             Expected::SelectLeftOut { line, rule } => write_left_out(f, line, rule),
             Expected::Over(line) => write!(f, "the session ended at line {line}"),
+            Expected::Clock(step) => write_clock(f, step),
             Expected::Form(unreadable) => write!(f, "{unreadable}"),
         }
     }
@@ -246,6 +267,27 @@ fn write_left_out<W: fmt::Write>(f: &mut fmt::Formatter<W>, line: u64, rule: Rul
         f,
         "the select.req of line {line} is left out: it breaks {name}"
     )
+}
+
+fn write_clock<W: fmt::Write>(f: &mut fmt::Formatter<W>, step: ClockStep) -> fmt::Result {
+    let ClockStep {
+        line,
+        back,
+        from,
+        ..
+    } = step;
+    match step.fits {
+        Some(fit) => {
+            write!(f, "clock: line {from} is {back} ms after line {line}")?;
+            write_fit(f, fit)
+        }
+        None => write!(f, "clock: line {line} is {back} ms before line {from}"),
+    }
+}
+
+fn write_fit<W: fmt::Write>(f: &mut fmt::Formatter<W>, fit: Fit) -> fmt::Result {
+    let Fit { line, after } = fit;
+    write!(f, ", which is {after} ms after line {line}")
 }
 
 fn closed_word(tie: Tie) -> &'static str {

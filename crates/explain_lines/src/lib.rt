@@ -13,7 +13,7 @@ mod phrases;
 mod timestamp;
 
 pub use annotation::{Failing, Note, UNREADABLE, has_failure, is_named};
-pub use expected::{Expected, Function, MOST_CLOSED, Setting};
+pub use expected::{ClockStep, Expected, Fit, Function, MOST_CLOSED, Setting};
 pub use explained_line::{Carried, ExplainedLine, SETTINGS_LIMIT, carried_by, limit_of};
 pub use failure_kind::failure_kind_of;
 pub use phrases::{

@@ -56,12 +56,13 @@ fn closing_phrase(tie: Tie) -> &'static str
     }
 }
 
-/// An entry that closes the transaction opened by a line, `after` ms later.
+/// An entry that closes the transaction opened by a line, `after` ms later. `after` is `None` if the clock was set in
+/// between.
 #[derive(Clone, Copy)]
 pub struct Closing {
     pub tie: Tie,
     pub line: u64,
-    pub after: u64,
+    pub after: Option<u64>,
 }
 
 impl fmt::Display for Closing {
@@ -70,8 +71,10 @@ impl fmt::Display for Closing {
     fn fmt<W: fmt::Write>(&self, f: &mut fmt::Formatter<W>) -> fmt::Result {
         let tie = closing_phrase(self.tie);
         let line = self.line;
-        let after = self.after;
-        write!(f, "{tie} line {line} after {after} ms")
+        match self.after {
+            Some(after) => write!(f, "{tie} line {line} after {after} ms"),
+            None => write!(f, "{tie} line {line}, across a step of the clock"),
+        }
     }
 }
 
@@ -288,11 +291,13 @@ pub fn name_of(why: Why) -> &'static str
     }
 }
 
-/// How the log continues after a failure. `utc` selects a date instead of a time in ms.
+/// How the log continues after a failure. `utc` selects a date instead of a time in ms. `is_step` says that the clock was
+/// set back.
 #[derive(Clone, Copy)]
 pub struct Continuation {
     pub repair_action: RepairAction,
     pub utc: bool,
+    pub is_step: bool,
 }
 
 /// An entry that is inserted before a line, as the log would have it.
@@ -339,10 +344,34 @@ impl fmt::Display for Continuation {
                     time,
                     utc: self.utc,
                 };
-                write!(f, "continues as if its time were {moment}")
+                write!(f, "continues as if its time were {moment}")?;
+                write_step(f, self.is_step)
             }
             RepairAction::Discard => write!(f, "continues as if it were discarded"),
             _ => write!(f, "continues without it"),
         }
+    }
+}
+
+// Writes that later times count from the time of a step of the clock.
+fn write_step<W: fmt::Write>(f: &mut fmt::Formatter<W>, is_step: bool) -> fmt::Result {
+    if is_step {
+        return write!(f, ", and later times count from there");
+    }
+    Ok(())
+}
+
+/// Returns the repair with its times in those of the log, to which this offset is added.
+pub fn in_log_times(repair_action: RepairAction, offset: u64) -> RepairAction {
+    let logged = |time: u64| time.saturating_sub(offset);
+    match repair_action {
+        RepairAction::Raise(time) => RepairAction::Raise(logged(time)),
+        RepairAction::ExpireFirst(time, system) => {
+            RepairAction::ExpireFirst(logged(time), system)
+        }
+        RepairAction::CutFirst(time, cause) => RepairAction::CutFirst(logged(time), cause),
+        RepairAction::DownFirst(time) => RepairAction::DownFirst(logged(time)),
+        RepairAction::Discard => RepairAction::Discard,
+        RepairAction::LeaveOut => RepairAction::LeaveOut,
     }
 }

@@ -24,7 +24,9 @@ use Rattle.hsms_log.specs.declared.step.Step.{Step}
 use Rattle.hsms_log.specs.declared.step.What.{What}
 use Rattle.hsms_log.specs.declared.step.What.TheVariants as what
 use Rattle.explain_session.specs.RepairedSession.{CurrentState}
-use Rattle.explain_session.specs.RepairedLines.{LinesAreRepaired, LinesCarry, LinesPut}
+use Rattle.explain_session.specs.Clock.{by_clock, clock_at}
+use Rattle.explain_session.specs.declared.clock.Clock.{Clock}
+use Rattle.explain_session.specs.RepairedLines.{AreTimed, LinesAreRepaired, LinesCarry, LinesPut, last_time_of}
 use Rattle.explain_session.specs.RepairSteps.{AreChecked, IsChecked, RepairsEntry, changed, left_of}
 use Rattle.explain_session.specs.InnerRepairSteps.{LeadsOn, most_steps}
 use Rattle.hsms_log.specs.Step.{entry_by, entry_of_what}
@@ -129,29 +131,37 @@ all_done old new entry before after fits (check_result, leads, notes, (few, inr 
 
 -- ---- law
 
-lines_repaired : (s : Parameters) (number : ℕ) (log : List Entry) (lines : List (List ℕ)) (after placed : List Entry) → LinesPut s number log lines after placed
-    → (entries : List Entry) × LinesCarry s.max lines entries × IsRepaired s log entries after
-lines_repaired s number log [] after placed puts = ([], refl, puts.0)
-lines_repaired s number log (line ∷ lines) after placed (put, rest, places, inl (blank, none), is, placed_is, later) =
-    let (entries, carry, repaired) = lines_repaired s (number + 1) (log ++ put) lines rest places later in (
+lines_repaired : (s : Parameters) (number : ℕ) (log : List Entry) (clock last : Clock) (lines : List (List ℕ)) (after placed : List Entry)
+    → LinesPut s number log clock lines after placed last
+    → (entries : List Entry) × (timed : List Entry) × LinesCarry s.max lines entries × AreTimed entries timed × IsRepaired s log timed after
+lines_repaired s number log clock last [] after placed puts = ([], [], refl, refl, puts.0)
+lines_repaired s number log clock last (line ∷ lines) after placed (put, next, rest, places, inl (blank, none, kept), is, placed_is, later) =
+    let (entries, timed, carry, are, repaired) = lines_repaired s (number + 1) (log ++ put) next last lines rest places later in (
       entries,
+      timed,
       ([], entries, inl (blank, refl), carry, refl),
-      subst (λ l. IsRepaired s l entries after) (ap (λ p. log ++ p) none ∙ append-nil log)
-          (subst (λ a. IsRepaired s (log ++ put) entries a) (sym (is ∙ ap (λ p. p ++ rest) none)) repaired),
+      are,
+      subst (λ l. IsRepaired s l timed after) (ap (λ p. log ++ p) none ∙ append-nil log)
+          (subst (λ a. IsRepaired s (log ++ put) timed a) (sym (is ∙ ap (λ p. p ++ rest) none)) repaired),
     )
-lines_repaired s number log (line ∷ lines) after placed (put, rest, places, inr (inl (unread, none)), is, placed_is, later) =
-    let (entries, carry, repaired) = lines_repaired s (number + 1) (log ++ put) lines rest places later in (
+lines_repaired s number log clock last (line ∷ lines) after placed (put, next, rest, places, inr (inl (unread, none, kept)), is, placed_is, later) =
+    let (entries, timed, carry, are, repaired) = lines_repaired s (number + 1) (log ++ put) next last lines rest places later in (
       entries,
+      timed,
       ([], entries, inr (inl (unread, refl)), carry, refl),
-      subst (λ l. IsRepaired s l entries after) (ap (λ p. log ++ p) none ∙ append-nil log)
-          (subst (λ a. IsRepaired s (log ++ put) entries a) (sym (is ∙ ap (λ p. p ++ rest) none)) repaired),
+      are,
+      subst (λ l. IsRepaired s l timed after) (ap (λ p. log ++ p) none ∙ append-nil log)
+          (subst (λ a. IsRepaired s (log ++ put) timed a) (sym (is ∙ ap (λ p. p ++ rest) none)) repaired),
     )
-lines_repaired s number log (line ∷ lines) after placed (put, rest, places, inr (inr (entry, steps, carries, entry_repaired)), is, placed_is, later) =
-    let (entries, carry, repaired) = lines_repaired s (number + 1) (log ++ put) lines rest places later in (
+lines_repaired s number log clock last (line ∷ lines) after placed (put, next, rest, places, inr (inr (entry, carries, ((steps, entry_repaired), stepped))), is, placed_is, later) =
+    let (entries, timed, carry, are, repaired) = lines_repaired s (number + 1) (log ++ put) next last lines rest places later in
+    let at = last_time_of s log in (
       entry ∷ entries,
+      by_clock at clock entry ∷ timed,
       (entry ∷ [], entries, inr (inr (entry, carries, refl)), carry, refl),
+      ((clock_at at clock entry.time).offset, timed, are, refl),
       (steps, put, rest, entry_repaired, repaired, is),
     )
 
 pub lines_are_repaired : LinesAreRepaired
-lines_are_repaired s number lines after placed puts = lines_repaired s number [] lines after placed puts
+lines_are_repaired s number clock last lines after placed puts = lines_repaired s number [] clock last lines after placed puts

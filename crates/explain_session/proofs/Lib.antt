@@ -1,3 +1,4 @@
+pub mod Clocks
 pub mod Ended
 pub mod EntryFailures
 pub mod RepairRows

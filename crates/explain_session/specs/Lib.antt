@@ -1,3 +1,4 @@
+pub mod Clock
 pub mod EntryFailure
 pub mod InnerEntryFailure
 pub mod RepairSteps

@@ -10,8 +10,10 @@ use secs_item::{ItemFault, measure_text};
 
 /// Returns what is known about why a step breaks a rule. `text` is the text of its frame.
 pub fn expected_of(known: &Known, step: Step, text: &[u8], rule: Rule) -> Option<Expected> {
-    if rule == Rule::Ended {
-        return known.past.over.map(|line| Expected::Over(line));
+    match rule {
+        Rule::Ended => return known.past.over.map(|line| Expected::Over(line)),
+        Rule::Backwards => return clock_step(known, step.time),
+        _ => {}
     }
     let What::Frame(mark, header) = step.what else {
         return version(known.settings, step.what, rule);
@@ -38,6 +40,13 @@ fn direction(settings: Settings, header: Header) -> Setting {
         Kind::Primary => Setting::Role(settings.role()),
         _ => Setting::Link(settings.link()),
     }
+}
+
+// Returns that the clock was set back, if a time goes back by more than T3.
+fn clock_step(known: &Known, time: u64) -> Option<Expected> {
+    let line = known.repaired_session.line();
+    let step = known.past.times.step_at(line, time, known.settings.t3())?;
+    Some(Expected::Clock(step))
 }
 
 fn session(settings: Settings, header: Header) -> Expected {

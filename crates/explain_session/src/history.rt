@@ -1,7 +1,8 @@
 //! History of a connection: earlier events that may explain a later failure.
 
 use crate::repaired_session::{Checked, Opening};
-use explain_lines::{MOST_CLOSED, Tie};
+use explain_lines::{ClockStep, Fit, MOST_CLOSED, Tie};
+use explain_statistics::Wait;
 use hsms_frame::{Header, Kind, kind};
 use hsms_log::{Step, What};
 use hsms_machine::{Mark, RepairAction, Rule};
@@ -47,8 +48,18 @@ pub struct LeftOut {
     pub rule: Rule,
 }
 
+/// The lines of the last two entries that are not of the same line, with their times, and the clock at the last one: the
+/// offset that is added to times, and the last line at which it changed.
+#[derive(Clone, Copy)]
+pub struct Times {
+    last: Option<Opening>,
+    before: Option<Opening>,
+    pub offset: u64,
+    changed: u64,
+}
+
 /// The history of a connection: its start, the last requests of each direction, the line of the last Select.req, the last
-/// one that is left out, and the line at which the session ended.
+/// one that is left out, and the line at which the session ended. Also the last times of the log.
 pub struct Past {
     pub up: Option<Opening>,
     pub sent: Requests,
@@ -56,6 +67,7 @@ pub struct Past {
     pub select: Option<u64>,
     pub left_out: Option<LeftOut>,
     pub over: Option<u64>,
+    pub times: Times,
 }
 
 // Written out so that a proof has one step for a dropped value, not one for each field.
@@ -68,6 +80,7 @@ impl Drop for Past {
             select: _select,
             left_out: _left_out,
             over: _over,
+            times: _times,
         } = self;
         drop(sent);
         drop(received);
@@ -149,6 +162,60 @@ impl Requests {
     }
 }
 
+impl Times {
+    fn new() -> Times {
+        Times {
+            last: None,
+            before: None,
+            offset: 0,
+            changed: 0,
+        }
+    }
+
+    /// Records the offset that is added to the time of the entry at a line, and whether the clock changes there.
+    pub fn note_clock(&mut self, line: u64, offset: u64, is_changed: bool) {
+        self.offset = offset;
+        if is_changed {
+            self.changed = line;
+        }
+    }
+
+    // Records the line and the time of a valid step.
+    fn note(&mut self, entry: Opening) {
+        if self.last.is_some_and(|last| last.line != entry.line) {
+            self.before = self.last;
+        }
+        self.last = Some(entry);
+    }
+
+    /// Returns the wait of a transaction that is closed at this time.
+    pub fn wait(&self, opening: Opening, now: u64) -> Wait {
+        Wait {
+            after: now.saturating_sub(opening.time),
+            is_measured: opening.line >= self.changed,
+        }
+    }
+
+    /// Returns the step of the clock at a line with this time, if the time goes back by more than T3.
+    pub fn step_at(&self, line: u64, time: u64, t3: u32) -> Option<ClockStep> {
+        let last = self.last?;
+        let back = last.time.saturating_sub(time);
+        (back > u64::from(t3)).then_some(ClockStep {
+            line,
+            back,
+            from: last.line,
+            fits: self.fit(time, back),
+        })
+    }
+
+    // Returns the line of the entry before the last one, if the time is after it, by at most a tenth of the step.
+    fn fit(&self, time: u64, back: u64) -> Option<Fit> {
+        let Opening { line, time: before } = self.before?;
+        let after = time.checked_sub(before)?;
+        (after.saturating_mul(10) <= back).then_some(Fit { line, after })
+    }
+}
+
 impl Past {
     /// Creates an empty history of a log with this T3.
     pub fn new(alloc: Global, t3: u32) -> Past {
@@ -159,6 +226,7 @@ impl Past {
             select: None,
             left_out: None,
             over: None,
+            times: Times::new(),
         }
     }
 
@@ -170,6 +238,7 @@ impl Past {
         closed: Option<Opening>,
     ) -> Result<(), AllocError> {
         let time = step.time;
+        self.times.note(Opening { line, time });
         match step.what {
             What::Up => {
                 self.begin(Opening { line, time });

@@ -1,9 +1,10 @@
 //! Repair of one log entry: it is checked again until it is accepted or skipped.
 
 ghost use Rattle.std.specs.Prelude.{◌≡◌, ◌∷◌, ℕ, List, [], None, Some, OnOk};
-ghost use Rattle.hsms_machine.specs.declared.rule.Rule.TheVariants.{T3Overdue};
+ghost use Rattle.hsms_machine.specs.declared.rule.Rule.TheVariants.{Backwards, T3Overdue};
 ghost use Rattle.hsms_machine.specs.Repair.{change_by, entry_of_event, thrown_away as without_taking};
 ghost use Rattle.hsms_machine.specs.View.{oldest_of, waiting_of};
+ghost use Rattle.hsms_log.specs.declared.step.What.TheVariants.{Up};
 ghost use Rattle.hsms_log.specs.declared.verdict.Why.{Why as Reason};
 ghost use Rattle.hsms_log.specs.declared.verdict.Why.TheVariants.{Broken};
 ghost use Rattle.explain_session.specs.declared.repaired_session.Checked.TheVariants.{Lawful};
@@ -146,9 +147,10 @@ fn take_in(
 {
     let line = known.repaired_session.line();
     known.past.note(line, step, closed)?;
-    let opened = closed.map(|opening| opening.time);
-    known.lists.note(alloc, line, step, opened)?;
-    known.primaries.note(alloc, line, step, opened)
+    let times = known.past.times;
+    let ended = closed.map(|opening| times.wait(opening, step.time));
+    known.lists.note(alloc, line, step.what, ended)?;
+    known.primaries.note(alloc, line, step.what, ended)
 }
 
 // Records the outcome of the entry of a line.
@@ -163,7 +165,7 @@ fn note(
     ensures says { OnOk result (Notes notes.old.items (check_result ∷ []) notes.new.items) }
 {
     match check_result {
-        Checked::Lawful(closed) => note_closing(step, closed, notes),
+        Checked::Lawful(closed) => note_closing(known, step, closed, notes),
         Checked::Broken(failure) => {
             notes.push(Note::Fails(failing(known, step, text, failure)))?;
             Ok(())
@@ -173,6 +175,7 @@ fn note(
 
 // Records the line that opened the transaction that a step closes, if it closes one.
 fn note_closing(
+    known: &Known,
     step: Step,
     closed: Option<Opening>,
     notes: &mut Vec<Note>,
@@ -182,20 +185,20 @@ fn note_closing(
 {
     match closed {
         Some(opening) => {
-            notes.push(Note::Closes(closing(step, opening)))?;
+            notes.push(Note::Closes(closing(known, step, opening)))?;
             Ok(())
         }
         None => Ok(()),
     }
 }
 
-fn closing(step: Step, opening: Opening) -> Closing
+fn closing(known: &Known, step: Step, opening: Opening) -> Closing
     ensures { result.line ≡ opening.line }
 {
     Closing {
         tie: Tie::of(step.what),
         line: opening.line,
-        after: step.time.saturating_sub(opening.time),
+        after: known.past.times.wait(opening, step.time).measured(),
     }
 }
 
@@ -213,15 +216,20 @@ fn failing(known: &Known, step: Step, text: &[u8], failure: Failure) -> Failing
         overdue: overdue_of(known, step, failure.rule),
         expected: expected_of(known, step, text, failure.rule),
         repair_action: Some(failure.repair_action),
+        offset: known.past.times.offset,
     }
 }
 
-// Returns the event by which similar failures are grouped: for `T3Overdue` that of the primary that waits, otherwise the
-// one that fails.
+// Returns the event by which similar failures are grouped: for `T3Overdue` that of the primary that waits, for
+// `Backwards` always the same one, otherwise the one that fails.
 fn subject_of(known: &Known, rule: Rule, what: What) -> What
     ensures overdue { rule ≡ T3Overdue → IsOverdue (oldest_of known.now.repaired_session.tracker.sent_data) what result }
-    ensures other { (rule ≡ T3Overdue → ⊥) → result ≡ what }
+    ensures backwards { rule ≡ Backwards → result ≡ Up }
+    ensures other { (rule ≡ T3Overdue → ⊥) → (rule ≡ Backwards → ⊥) → result ≡ what }
 {
+    if rule == Rule::Backwards {
+        return What::Up;
+    }
     if rule != Rule::T3Overdue {
         return what;
     }

@@ -92,6 +92,13 @@ impl RepairedSession {
         self.line
     }
 
+    /// Returns the time of the last entry in the repaired log, in ms, or 0 if there is none.
+    pub fn last_time(&self) -> u64
+        ensures { result ≡ self.now.tracker.last_time }
+    {
+        self.tracker.last_time()
+    }
+
     /// Returns the number of sent primaries with the W bit that wait for a reply.
     pub fn waiting(&self) -> usize
         ensures { result ≡ waiting_of self.now.tracker }

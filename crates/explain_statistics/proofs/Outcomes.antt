@@ -4,7 +4,7 @@ use Rattle.std.specs.Prelude.{Option, unwrap_or, if◌then◌else◌}
 use Rattle.indexmap.specs.IndexMap.{IndexMap, get, Updates}
 use Rattle.explain_statistics.specs.declared.reply_stats.Counts.{Counts}
 use Rattle.explain_statistics.specs.declared.reply_stats.ReplyOutcome.{ReplyOutcome}
-use Rattle.explain_statistics.specs.declared.reply_stats.ReplyOutcome.TheVariants.{Answered, Aborted, Expired, Rejected}
+use Rattle.explain_statistics.specs.declared.reply_stats.ReplyOutcome.TheVariants.{Answered, Unmeasured, Aborted, Expired, Rejected}
 use Rattle.explain_statistics.specs.ReplyStats.{Reply, has, FatesAddUp}
 use Rattle.explain_statistics.specs.InnerReplyStats.{Deed, Opened, Closed, IsCounts, HasReplies, counts_at, no_counts, open_of, opened_of, replies_of, is_kind}
 
@@ -73,14 +73,16 @@ closed_more {S} {T} deeds open_now open_then kinds next key kind reply_outcome a
     }
 
 -- One more reply has exactly one outcome.
-one_more : (reply_outcome : ReplyOutcome) (a b c d n : ℕ) → a + b + c + d ≡ n
-    → (if has Answered reply_outcome then a + 1 else a) + (if has Aborted reply_outcome then b + 1 else b) + (if has Expired reply_outcome then c + 1 else c)
+one_more : (reply_outcome : ReplyOutcome) (a u b c d n : ℕ) → a + u + b + c + d ≡ n
+    → (if has Answered reply_outcome then a + 1 else a) + (if has Unmeasured reply_outcome then u + 1 else u)
+    + (if has Aborted reply_outcome then b + 1 else b) + (if has Expired reply_outcome then c + 1 else c)
     + (if has Rejected reply_outcome then d + 1 else d) ≡ n + 1
-one_more Answered a b c d n is = omega (arith, is)
-one_more Aborted a b c d n is = omega (arith, is)
-one_more Expired a b c d n is = omega (arith, is)
-one_more Rejected a b c d n is = omega (arith, is)
+one_more Answered a u b c d n is = omega (arith, is)
+one_more Unmeasured a u b c d n is = omega (arith, is)
+one_more Aborted a u b c d n is = omega (arith, is)
+one_more Expired a u b c d n is = omega (arith, is)
+one_more Rejected a u b c d n is = omega (arith, is)
 
 pub add_up : FatesAddUp
 add_up [] = refl
-add_up (reply ∷ replies) = one_more reply.reply_outcome _ _ _ _ _ (add_up replies) ∙ add-one (length replies)
+add_up (reply ∷ replies) = one_more reply.reply_outcome _ _ _ _ _ _ (add_up replies) ∙ add-one (length replies)

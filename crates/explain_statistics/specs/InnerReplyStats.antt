@@ -4,7 +4,7 @@ use Rattle.indexmap.specs.IndexMap.{IndexMap, get}
 use Rattle.explain_lines.specs.Counted.{counted}
 use Rattle.explain_statistics.specs.declared.reply_stats.Counts.{Counts}
 use Rattle.explain_statistics.specs.declared.reply_stats.ReplyOutcome.{ReplyOutcome}
-use Rattle.explain_statistics.specs.declared.reply_stats.ReplyOutcome.TheVariants.{Answered, Aborted, Expired, Rejected}
+use Rattle.explain_statistics.specs.declared.reply_stats.ReplyOutcome.TheVariants.{Answered, Unmeasured, Aborted, Expired, Rejected}
 use Rattle.explain_statistics.specs.ReplyStats.{Reply, has, count_of}
 
 -- An event, in numbers. A primary of a kind is opened under a key, made of its direction and system bytes. The primary
@@ -55,6 +55,7 @@ longest_of (reply ∷ replies) =
 pub record IsCounts (primaries : ℕ) (replies : List Reply) (counts : Counts) : Type 0 where
   pub opened : counts.opened ≡ counted primaries
   pub answered : counts.answered ≡ counted (count_of Answered replies)
+  pub unmeasured : counts.unmeasured ≡ counted (count_of Unmeasured replies)
   pub aborted : counts.aborted ≡ counted (count_of Aborted replies)
   pub expired : counts.expired ≡ counted (count_of Expired replies)
   pub rejected : counts.rejected ≡ counted (count_of Rejected replies)
@@ -64,7 +65,7 @@ pub record IsCounts (primaries : ℕ) (replies : List Reply) (counts : Counts) :
 
 -- The counts before any primary.
 abbrev pub no_counts : Counts
-no_counts = record { opened = 0; answered = 0; aborted = 0; expired = 0; rejected = 0; least = 2 ^ 64 - 1; greatest = 0; line = 0 }
+no_counts = record { opened = 0; answered = 0; unmeasured = 0; aborted = 0; expired = 0; rejected = 0; least = 2 ^ 64 - 1; greatest = 0; line = 0 }
 
 abbrev pub counts_at : {S : Type 0} → IndexMap ℕ Counts S → ℕ → Counts
 counts_at counts kind = unwrap_or (get nat_eq counts kind) no_counts

@@ -1,7 +1,7 @@
 -- Outcomes of the primaries that request a reply.
 use Rattle.std.specs.Prelude.{◌≡◌, ◌+◌, ℕ, Bool, true, false, List, [], ◌∷◌, length, if◌then◌else◌}
 use Rattle.explain_statistics.specs.declared.reply_stats.ReplyOutcome.{ReplyOutcome}
-use Rattle.explain_statistics.specs.declared.reply_stats.ReplyOutcome.TheVariants.{Answered, Aborted, Expired, Rejected}
+use Rattle.explain_statistics.specs.declared.reply_stats.ReplyOutcome.TheVariants.{Answered, Unmeasured, Aborted, Expired, Rejected}
 
 -- A closing, after a number of ms, at a line.
 pub record Reply : Type 0 where
@@ -11,6 +11,7 @@ pub record Reply : Type 0 where
 
 abbrev pub has : ReplyOutcome → ReplyOutcome → Bool
 has Answered Answered = true
+has Unmeasured Unmeasured = true
 has Aborted Aborted = true
 has Expired Expired = true
 has Rejected Rejected = true
@@ -25,4 +26,5 @@ count_of reply_outcome (reply ∷ replies) = if has reply_outcome reply.reply_ou
 abbrev pub FatesAddUp : Type 0
 FatesAddUp =
     (replies : List Reply)
-    → count_of Answered replies + count_of Aborted replies + count_of Expired replies + count_of Rejected replies ≡ length replies
+    → count_of Answered replies + count_of Unmeasured replies + count_of Aborted replies + count_of Expired replies + count_of Rejected replies
+    ≡ length replies

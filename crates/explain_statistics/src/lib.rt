@@ -21,5 +21,5 @@ pub use failure_groups::{Group, Groups, MOST_GROUPS};
 pub use grouped_annotations::group_notes;
 pub use line_one::{Doubt, LogFacts};
 pub use primary_lists::{Asked, Ended, Listed, Lists};
-pub use primary_stats::{Outcome, Primaries, Times};
+pub use primary_stats::{Outcome, Primaries, Times, Wait};
 pub use reply_stats::Counts;

@@ -1,11 +1,11 @@
 //! Lists of primaries that request a reply: those with the slowest replies, those that expired, and those without a
 //! reply.
 
-use crate::primary_stats::{closing_of, is_request, key_of};
+use crate::primary_stats::{Wait, closing_of, is_request, key_of};
 use crate::reply_stats::ReplyOutcome;
 use explain_lines::{Function, System};
 use hsms_frame::Header;
-use hsms_log::{Step, What};
+use hsms_log::What;
 use hsms_machine::Mark;
 use indexmap::IndexMap;
 use std::alloc::{AllocError, Global};
@@ -235,24 +235,21 @@ impl Lists {
         }
     }
 
-    /// Records a valid step at a line. `opened` is the time at which the transaction that it closes was opened. It is
-    /// `None` if the step closes none.
+    /// Records a valid step at a line. `ended` is the wait of the transaction that it closes. It is `None` if the step
+    /// closes none.
     pub fn note(
         &mut self,
         alloc: Global,
         line: u64,
-        step: Step,
-        opened: Option<u64>,
+        what: What,
+        ended: Option<Wait>,
     ) -> Result<(), AllocError> {
         if !self.is_requested {
             return Ok(());
         }
-        match opened {
-            Some(opened) => {
-                let after = step.time.saturating_sub(opened);
-                self.note_closing(alloc, step.what, Ended { line, after })
-            }
-            None => self.note_opening(alloc, line, step.what),
+        match ended {
+            Some(wait) => self.note_closing(alloc, line, what, wait),
+            None => self.note_opening(alloc, line, what),
         }
     }
 
@@ -283,17 +280,27 @@ impl Lists {
     }
 
     // Records a step that closes a transaction.
-    fn note_closing(&mut self, alloc: Global, what: What, ended: Ended) -> Result<(), AllocError> {
-        let Some((key, reply_outcome)) = closing_of(what) else {
+    fn note_closing(
+        &mut self,
+        alloc: Global,
+        line: u64,
+        what: What,
+        wait: Wait,
+    ) -> Result<(), AllocError> {
+        let Some((key, reply_outcome)) = closing_of(what, wait) else {
             return Ok(());
         };
         let Some(asked) = self.open.swap_remove(&key) else {
             return Ok(());
         };
+        let ended = Ended {
+            line,
+            after: wait.after,
+        };
         match reply_outcome {
             ReplyOutcome::Answered => self.slowest.add(alloc, Listed::Slowest(asked, ended)),
             ReplyOutcome::Expired => self.expired.add(alloc, Listed::Expired(asked, ended)),
-            ReplyOutcome::Aborted | ReplyOutcome::Rejected => Ok(()),
+            ReplyOutcome::Unmeasured | ReplyOutcome::Aborted | ReplyOutcome::Rejected => Ok(()),
         }
     }
 

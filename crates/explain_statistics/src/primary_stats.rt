@@ -33,6 +33,20 @@ impl Direction {
 // The number of the messages beyond those that are counted separately. The number of a stream and function is less.
 const OTHERS: u16 = 1 << 15;
 
+/// The wait that a step ends, in ms. It is not measured if the clock was set during it.
+#[derive(Clone, Copy)]
+pub struct Wait {
+    pub after: u64,
+    pub is_measured: bool,
+}
+
+impl Wait {
+    /// Returns the time of a wait that is measured.
+    pub fn measured(self) -> Option<u64> {
+        self.is_measured.then_some(self.after)
+    }
+}
+
 /// The outcomes of the primaries of each kind, and the times of the replies.
 pub struct Primaries {
     replies: Replies,
@@ -106,21 +120,18 @@ impl Primaries {
         }
     }
 
-    /// Records a valid step at a line. `opened` is the time at which the transaction that it closes was opened. It is
-    /// `None` if the step closes none.
+    /// Records a valid step at a line. `ended` is the wait of the transaction that it closes. It is `None` if the step
+    /// closes none.
     pub fn note(
         &mut self,
         alloc: Global,
         line: u64,
-        step: Step,
-        opened: Option<u64>,
+        what: What,
+        ended: Option<Wait>,
     ) -> Result<(), AllocError> {
-        match opened {
-            Some(opened) => {
-                let after = step.time.saturating_sub(opened);
-                self.note_closing(alloc, line, step.what, after)
-            }
-            None => self.note_opening(step.what),
+        match ended {
+            Some(wait) => self.note_closing(alloc, line, what, wait),
+            None => self.note_opening(what),
         }
     }
 
@@ -156,20 +167,23 @@ impl Primaries {
             .note_opened(key(direction, header.system), kind)
     }
 
-    // Records a step that closes a transaction `after` ms after it was opened.
+    // Records a step that closes a transaction after a wait.
     fn note_closing(
         &mut self,
         alloc: Global,
         line: u64,
         what: What,
-        after: u64,
+        wait: Wait,
     ) -> Result<(), AllocError> {
-        let Some((key, reply_outcome)) = closing_of(what) else {
+        let Some((key, reply_outcome)) = closing_of(what, wait) else {
             return Ok(());
         };
-        if let Some(kind) = self.replies.note_closed(key, reply_outcome, after, line)? {
+        if let Some(kind) = self
+            .replies
+            .note_closed(key, reply_outcome, wait.after, line)?
+        {
             if matches!(reply_outcome, ReplyOutcome::Answered) {
-                self.count_time(alloc, kind, after)?;
+                self.count_time(alloc, kind, wait.after)?;
             }
         }
         Ok(())
@@ -232,29 +246,31 @@ fn key(direction: Direction, system: u32) -> u64 {
     u64::from(direction.number()) * (1 << 32) + u64::from(system)
 }
 
-/// Returns the key of the primary that a closing step closes, and the outcome.
-pub fn closing_of(what: What) -> Option<(u64, ReplyOutcome)> {
+/// Returns the key of the primary that a closing step closes after a wait, and the outcome.
+pub fn closing_of(what: What, wait: Wait) -> Option<(u64, ReplyOutcome)> {
     match what {
         What::Frame(Mark::Sent, header) => Some((
             key(Direction::Received, header.system),
-            reply_outcome_by(header),
+            reply_outcome_by(header, wait),
         )),
         What::Frame(Mark::Taken, header) => Some((
             key(Direction::Sent, header.system),
-            reply_outcome_by(header),
+            reply_outcome_by(header, wait),
         )),
         What::T3(system) => Some((key(Direction::Sent, system), ReplyOutcome::Expired)),
         _ => None,
     }
 }
 
-fn reply_outcome_by(header: Header) -> ReplyOutcome {
+fn reply_outcome_by(header: Header, wait: Wait) -> ReplyOutcome {
     if kind(header) == Kind::Reject {
         ReplyOutcome::Rejected
     } else if header.function() == 0 {
         ReplyOutcome::Aborted
-    } else {
+    } else if wait.is_measured {
         ReplyOutcome::Answered
+    } else {
+        ReplyOutcome::Unmeasured
     }
 }
 
@@ -283,6 +299,7 @@ impl Outcome {
         let counts = self.counts;
         let closed = [
             counts.answered,
+            counts.unmeasured,
             counts.aborted,
             counts.expired,
             counts.rejected,
@@ -293,7 +310,7 @@ impl Outcome {
         left.saturating_sub(self.waiting)
     }
 
-    /// Returns the number of primaries with each outcome.
+    /// Returns the number of primaries with each outcome, except the answered ones without a time.
     pub fn fates(&self) -> [(&'static str, u64); 6] {
         [
             ("answered", self.counts.answered),
@@ -334,6 +351,9 @@ impl fmt::Display for Outcome {
             if reply_outcome.1 > 0 {
                 write_named(f, &[reply_outcome])?;
             }
+        }
+        if self.counts.unmeasured > 0 {
+            write_named(f, &[("unmeasured", self.counts.unmeasured)])?;
         }
         match self.times {
             Some(times) => write_named(f, &times.named()),

@@ -16,6 +16,8 @@ const MOST: usize = 64;
 #[derive(Clone, Copy)]
 pub enum ReplyOutcome {
     Answered,
+    /// Answered, but the clock was set in between.
+    Unmeasured,
     Aborted,
     Expired,
     Rejected,
@@ -27,6 +29,7 @@ pub enum ReplyOutcome {
 pub struct Counts {
     pub opened: u64,
     pub answered: u64,
+    pub unmeasured: u64,
     pub aborted: u64,
     pub expired: u64,
     pub rejected: u64,
@@ -57,6 +60,7 @@ impl Counts {
         Counts {
             opened: 0,
             answered: 0,
+            unmeasured: 0,
             aborted: 0,
             expired: 0,
             rejected: 0,
@@ -83,6 +87,10 @@ impl Counts {
     {
         match reply_outcome {
             ReplyOutcome::Answered => self.with_answered(after, line),
+            ReplyOutcome::Unmeasured => Counts {
+                unmeasured: self.unmeasured.saturating_add(1),
+                ..self
+            },
             ReplyOutcome::Aborted => Counts {
                 aborted: self.aborted.saturating_add(1),
                 ..self

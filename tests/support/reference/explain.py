@@ -42,6 +42,9 @@ KINDS = 64
 # The text in place of skipped lines.
 DOTS = b"       ..\n"
 
+# The last time that an entry may have.
+LAST_TIME = 2**64 - 1
+
 # The first time of 1970, and the last one that is written as a date, in ms since then.
 EPOCH = datetime(1970, 1, 1, tzinfo=timezone.utc)
 LAST_DATE = 253402207200999
@@ -119,7 +122,9 @@ Sort = Tuple[object, ...]
 
 def sort_of(before: Before, entry: Entry, rule: str) -> Sort:
     """The rule, and what fails: of a frame its direction, whether it was discarded, its session ID and its kind, of
-    data with stream, function and W. What is overdue is the primary."""
+    data with stream, function and W. What is overdue is the primary. All times that go back are alike."""
+    if rule == "Backwards":
+        return (rule,)
     if rule == "T3Overdue":
         entry = before.sent_data[0]
     frame = entry.frame
@@ -171,6 +176,29 @@ def remedy_words(entry: Entry, remedy: Remedy, is_utc: bool) -> str:
     if other.event != entry.event:
         return "continues as if it were discarded"
     return f"continues as if its time were {date_of(other.time) if is_utc and date_of(other.time) else other.time}"
+
+
+def in_log_times(remedy: Remedy, offset: int) -> Remedy:
+    """A remedy with its times as the log has them, without the offset of the clock."""
+    other, first = (it and timed(it, max(0, it.time - offset)) for it in remedy)
+    return other, first
+
+
+class Clock(NamedTuple):
+    """What is added to the times of a log since its clock was set back by more than T3, and what was before that."""
+
+    offset: int = 0
+    before: int = 0
+
+    def at(self, last: int, time: int) -> "Clock":
+        """The clock at a time: as before the step, if that time is then not before the last one."""
+        return self if time + self.before < last else Clock(self.before, self.before)
+
+    def audited(self, time: int) -> int:
+        return min(time + self.offset, LAST_TIME)
+
+    def after(self, t3: int, last: int, time: int) -> "Clock":
+        return Clock(last - time, self.offset) if last - self.audited(time) > t3 else self
 
 
 class Note:
@@ -496,9 +524,14 @@ class Telling:
         self.settings, self.is_utc = settings, is_utc
         self.entries: List[Entry] = []
         self.places: List[int] = []
+        self.clock = Clock()
+        # The offset at the last entry that was read, and the line at which the offset last changed.
+        self.offset, self.changed = 0, 0
         # Of each entry the direction of the frame that opened what it closes.
         self.closed: List[Optional[str]] = []
         self.openers: List[Optional[int]] = []
+        # Of each entry whether the clock was not set since what it closes was opened.
+        self.measured: List[bool] = []
         self.failures: Dict[str, int] = {}
         self.lines: List[Line] = []
         # The entries as they are logged, each with the number of its line.
@@ -523,7 +556,13 @@ class Telling:
         self.lines.append(Line(number, entry, shown, self.is_utc))
         self.lines[-1].is_kept = len(line) <= LONGEST_KEPT and (entry.frame.kind if entry.frame else entry.event) in NAMEABLE
         self.logged.append((number, entry))
-        self.judge(entry, number)
+        last = self.entries[-1].time if self.entries else 0
+        clock = self.clock.at(last, entry.time)
+        later = clock.after(self.settings.t3, last, entry.time)
+        self.offset = clock.offset
+        self.changed = number if later.offset != self.clock.offset else self.changed
+        self.judge(timed(entry, clock.audited(entry.time)), number)
+        self.clock = later
 
     def tell_rule(self, rule: str, sentence: str, sort: Sort):
         self.failures[rule] = self.failures.get(rule, 0) + 1
@@ -550,6 +589,7 @@ class Telling:
                     self.lines[-1].opens, self.lines[-1].starts = session.opens(step), step.event == "up"
                 self.closed.append(None if opener is None else self.entries[opener].event)
                 self.openers.append(opener)
+                self.measured.append(opener is None or self.is_measured(opener))
                 self.entries.append(step)
                 self.places.append(number)
                 continue
@@ -560,9 +600,29 @@ class Telling:
                 self.tell_rule(rule, sentence_of(step, rule), sort_of(before, step, rule))
                 self.tell_concern(before, step, rule)
                 self.tell_expected(before, step, rule)
-                words = remedy_words(step, remedy, self.is_utc)
-                self.further(words, remedy=words, **({"put": words_of(remedy[1])} if remedy[1] else {}))
+                logged = in_log_times(remedy, self.offset)
+                words = remedy_words(step, logged, self.is_utc) + self.from_there(step, rule)
+                self.further(words, remedy=words, **({"put": words_of(logged[1])} if logged[1] else {}))
             pending += [one for one in remedy if one is not None]
+
+    def step_words(self, step: Entry) -> Optional[str]:
+        """What is said of a time that goes back by more than T3."""
+        line, last = self.lines[-1].number, self.places[-1]
+        back = self.entries[-1].time - step.time
+        if back <= self.settings.t3:
+            return None
+        others = [at for at in range(len(self.entries)) if self.places[at] != last]
+        after = step.time - self.entries[others[-1]].time if others else -1
+        if 0 <= after * 10 <= back:
+            return f"clock: line {last} is {back} ms after line {line}, which is {after} ms after line {self.places[others[-1]]}"
+        return f"clock: line {line} is {back} ms before line {last}"
+
+    def from_there(self, step: Entry, rule: str) -> str:
+        return ", and later times count from there" if rule == "Backwards" and self.step_words(step) else ""
+
+    def is_measured(self, opener: int) -> bool:
+        """Whether the clock was not set since a line that opened a transaction."""
+        return self.places[opener] >= self.changed
 
     def open(self) -> List[int]:
         return [at for at in range(len(self.entries)) if session.is_open(self.entries, at, len(self.entries))]
@@ -575,7 +635,11 @@ class Telling:
         tie = {"answered by": "answers", "rejected by": "rejects", "timed out at": "expires"}[self.tie_of(entry)]
         phrase = "T3 timeout of" if tie == "expires" else tie
         line, after = self.places[opener], entry.time - self.entries[opener].time
-        self.lines[-1].notes.append(Note(f"{phrase} line {line} after {after} ms", {tie: line, "after": after}))
+        if self.is_measured(opener):
+            note = Note(f"{phrase} line {line} after {after} ms", {tie: line, "after": after})
+        else:
+            note = Note(f"{phrase} line {line}, across a step of the clock", {tie: line})
+        self.lines[-1].notes.append(note)
 
     @staticmethod
     def tie_of(entry: Entry) -> str:
@@ -611,6 +675,10 @@ class Telling:
         return len(found) > MOST_CLOSED and self.is_recent(found[-MOST_CLOSED - 1], now)
 
     def tell_expected(self, before: Before, entry: Entry, rule: str):
+        if rule == "Backwards":
+            words = self.step_words(entry)
+            named = {"expected": words, "expected_line": self.places[-1]}
+            return self.further(words, **named) if words else None
         words = self.expected(before, entry, rule)
         if words:
             named = LINE_NAMED.search(words)
@@ -789,13 +857,13 @@ class Telling:
             ended = {"after": closing.time - entry.time, "end": self.places[end]}
             if closing.event == "t3":
                 expired.append((end, {"type": "expired", **asked, **ended}))
-            elif closing.frame.kind == "reply" and closing.frame.function:
+            elif closing.frame.kind == "reply" and closing.frame.function and self.measured[end]:
                 slowest.append((-ended["after"], end, {"type": "slowest", **asked, **ended}))
         told = [it for *_, it in sorted(slowest, key=lambda it: it[:2])[:SLOWEST]]
         return told + [it for _, it in sorted(expired, key=lambda it: it[0])[:LISTED]] + unanswered[:LISTED]
 
     def outcome(self, places: List[int], closings: Dict[int, int], still_open: Set[int]) -> Object:
-        counts = dict.fromkeys(("answered", "aborted", "expired", "rejected", "ended", "waiting"), 0)
+        counts = dict.fromkeys(("answered", "aborted", "expired", "rejected", "ended", "waiting", "unmeasured"), 0)
         times: List[Tuple[int, int]] = []
         for at in places:
             end = closings.get(at)
@@ -806,9 +874,13 @@ class Telling:
             fate = {"timed out at": "expired", "rejected by": "rejected", "answered by": "answered"}[self.tie_of(closing)]
             if fate == "answered" and closing.frame.function == 0:
                 fate = "aborted"
+            elif fate == "answered" and not self.measured[end]:
+                fate = "unmeasured"
             counts[fate] += 1
             if fate == "answered":
                 times.append((closing.time - self.entries[at].time, self.places[end]))
+        if not counts["unmeasured"]:
+            del counts["unmeasured"]
         return {**counts, **times_of(times)}
 
 
@@ -831,7 +903,8 @@ def outcome_text(outcome: Object) -> bytes:
     name = f"S{outcome['stream']}F{outcome['function']}" if "stream" in outcome else "others"
     fates = ("answered", "aborted", "expired", "rejected", "ended", "waiting")
     times = ("min", "median", "p99", "max", "line")
-    words = [f" {it}={outcome[it]}" for it in fates if outcome[it]] + [f" {it}={outcome[it]}" for it in times if it in outcome]
+    words = [f" {it}={outcome[it]}" for it in fates if outcome[it]]
+    words += [f" {it}={outcome[it]}" for it in ("unmeasured", *times) if it in outcome]
     return f"{name} W {outcome['direction']}={outcome['opened']}{''.join(words)}\n".encode()
 
 

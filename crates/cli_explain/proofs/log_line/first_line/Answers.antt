@@ -17,8 +17,9 @@ returns-in_ok-submit-in-Some-clause-shown_line c = λ before real shown after.
           (c.in_ok-submit-in-Some.ensures.first
           ∙ ap (λ t. either t.first (failed_at c.plain.result.number (first_why c.emit_ends.new.self.notes.items))) c.emit_ends.ensures.tally
           ∙ ap (λ n. either old.first (failed_at c.plain.result.number (first_why n))) (ap (λ v. v.items) c.emit_ends.ensures.notes ∙ c.clear.ensures.items))
-          (c.in_ok-submit-in-Some.ensures.entries ∙ ap (λ t. t.entries) c.emit_ends.ensures.tally) shown encoded_bytes known.settings known.repaired_session known.line after.0,
-      first_continues c.new.result settings before real c.args.line.now after.1 shown encoded_bytes known.settings known.repaired_session known.line,
+          (c.in_ok-submit-in-Some.ensures.entries ∙ ap (λ t. t.entries) c.emit_ends.ensures.tally) shown encoded_bytes known.settings known.repaired_session known.line known.clock after.0,
+      first_continues c.new.result settings before real c.args.line.now after.1 shown encoded_bytes known.settings known.repaired_session known.line
+          known.clock,
     )
 
 pub returns-in_ok-submit-in-Some-clause-shown : goal.returns-in_ok-submit-in-Some-clause-shown

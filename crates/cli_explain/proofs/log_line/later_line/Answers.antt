@@ -19,9 +19,9 @@ returns-clause-shown_line c =
     (λ first before real shown after. (
       later_follows c.args.known.now c.judge.new.known c.next_line.new.self c.args.report.now.tally c.submit.new.self.tally before real c.args.line.now what c.line.result why
           c.next_line.ensures shown is_carried check_result.settings check_result.line c.line.ensures (c.submit.ensures.entries ∙ check_result.entries)
-          (first ∙ ap (λ f. either f (failed_at c.line.result why)) check_result.first) check_result.check_result after.0,
+          (first ∙ ap (λ f. either f (failed_at c.line.result why)) check_result.first) check_result.check_result check_result.clock after.0,
       later_continues c.args.known.now c.judge.new.known c.next_line.new.self before real c.args.line.now what c.judge.new.self.notes.items
-          c.next_line.ensures shown is_carried check_result.settings check_result.line check_result.repairs after.1,
+          c.next_line.ensures shown is_carried check_result.settings check_result.line check_result.repairs check_result.clock after.1,
     ))
     c.submit.ensures.first
 
