@@ -1,4 +1,4 @@
-use Rattle.std.proofs.Common.{◌∷◌, ◌++◌, List, refl, subst, sym}
+use Rattle.std.proofs.Common.{◌++◌, List, refl, subst}
 use Rattle.std.proofs.lemmas.Result.{on_ok_weaker}
 use Rattle.capture_tcp.specs.InnerRuns.{CellRun, StoresAt}
 use Rattle.capture_tcp.proofs.StoredRuns.{stores_last}
