@@ -6,6 +6,7 @@ Use: bench/commands.py [MEGABYTES [WORD..]], 100 if left out; with words only th
 stands. It runs what `rt ci` or the first use of `hsms` has built. The texts of `encode` are kept below its limit of
 67,108,864 octets. Instructions are counted over 3 MB.
 """
+import itertools
 import os
 import struct
 import subprocess
@@ -148,7 +149,7 @@ def log(size):
 class Wire:
     """A capture (pcap, Ethernet, IPv4) of one connection at port 5000."""
 
-    PORTS, SYN, PSH, ACK = (40000, 5000), 2, 8, 16
+    PORTS, FIN, SYN, PSH, ACK = (40000, 5000), 1, 2, 8, 16
 
     def __init__(self):
         self.octets = bytearray(struct.pack("<IHHiIII", 0xA1B2C3D4, 2, 4, 0, 0, 262144, 1))
@@ -177,7 +178,11 @@ class Wire:
 
 def selected():
     """A connection whose session is selected."""
-    wire = Wire()
+    return select(Wire())
+
+
+def select(wire):
+    """A connection comes up, and its session is selected."""
     wire.put(0, wire.SYN)
     wire.put(1, wire.SYN | wire.ACK)
     wire.put(0, wire.ACK)
@@ -212,6 +217,40 @@ def captured_long(size):
     return bytes(wire.octets)
 
 
+def captured_again(size):
+    """Messages of 16 kB in segments of 1,460 octets, of which the first of each 64 messages is sent again behind them."""
+    wire = selected()
+    system, text = 1, b"\x01\x02\x41\x06RECIPE\x23\x00\x40\x00" + bytes(range(256)) * 64
+    while len(wire.octets) < size:
+        names = [f"{(system + more) % 2**32:08x}" for more in range(64)]
+        told = b"".join(frame(f"0000060b0000{name}", text) for name in names)
+        first = wire.numbers[1]
+        wire.numbers[1] += 1460
+        for place in range(1460, len(told), 1460):
+            wire.put(1, wire.PSH | wire.ACK, told[place : place + 1460])
+        last, wire.numbers[1] = wire.numbers[1], first
+        wire.put(1, wire.PSH | wire.ACK, told[:1460])
+        wire.numbers[1] = last
+        wire.put(0, wire.ACK)
+        system += 64
+    return bytes(wire.octets)
+
+
+def reconnecting(ports):
+    """What makes connections, one after another, from so many ports in turn: their sessions are selected."""
+
+    def make(size):
+        wire = Wire()
+        for number in itertools.count():
+            if len(wire.octets) >= size:
+                return bytes(wire.octets)
+            wire.PORTS, wire.numbers = (10_000 + number % ports, 5000), [number, 5000]
+            select(wire)
+            wire.put(0, wire.FIN | wire.ACK)
+
+    return make
+
+
 def main():
     size = int(sys.argv[1] if len(sys.argv) > 1 else 100) * MB
     words = sys.argv[2:]
@@ -239,6 +278,10 @@ def main():
         ("explain --format html", "ordinary traffic", log, size),
         ("capture", "ordinary traffic, each message in a packet", captured, size),
         ("capture", "messages of 16 kB in segments of 1,460 octets", captured_long, size),
+        ("capture", "the same, the first of each 720 segments sent again behind the others", captured_again, size),
+        ("capture", "connections from a port", reconnecting(1), size),
+        ("capture", "connections from 4,000 ports in turn", reconnecting(4_000), size),
+        ("capture", "connections from 50,000 ports", reconnecting(50_000), size),
         ("capture --log host", "ordinary traffic, each message in a packet", captured, size),
     ]
     with tempfile.TemporaryDirectory(prefix="hsms-bench-") as room:

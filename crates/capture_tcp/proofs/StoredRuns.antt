@@ -1,5 +1,5 @@
 -- Cells that are stored among runs.
-use Rattle.std.proofs.Common.{◌≡◌, ◌<◌, ◌≤◌, ◌+◌, ◌-◌, ◌++◌, ◌∷◌, ℕ, zero, suc, true, List, [], length, max, min, take, drop, slice_get, Option, Some, None, is_some, refl, sym, ap, subst, ◌∙◌, arith, inl, inr, length-drop, length-take}
+use Rattle.std.proofs.Common.{◌≡◌, ◌<◌, ◌≤◌, ◌+◌, ◌-◌, ◌++◌, ◌∷◌, ℕ, zero, suc, true, List, [], length, max, min, take, drop, slice_get, Option, Some, None, is_some, refl, sym, ap, subst, ◌∙◌, arith, inl, inr, length-append, length-drop, length-take}
 use Rattle.std.proofs.lemmas.Bool.{le-leb, cases_lt}
 use Rattle.std.proofs.lemmas.List.{drop-drop, take-append-drop}
 use Rattle.capture_tcp.specs.declared.reassembly.Cell.{Cell as HeldCell}
@@ -289,6 +289,57 @@ stores_none k count place stop end cs rs ts w e stops le same ends from high h =
         subst (λ (z : List CellRun). is_some (run_cell z n) ≡ true) (take-append-drop (k + count) rs)
         (subst (λ (o : Option HeldCell). is_some o ≡ true) (sym (run_append (take (k + count) rs) (drop (k + count) rs) n))
         (or_later (run_cell (take (k + count) rs) n) (run_cell (drop (k + count) rs) n) (reached end stop n (k + count) rs stops w.1 low high)))
+
+-- ---- cells after the last run
+
+apart_last : (low high : ℕ) (xs : List CellRun) (p : CellRun) → AreApart low high (xs ++ p ∷ []) → AreApart low p.at xs × (p.at + length p.cells ≤ high)
+apart_last low high [] p h = (h.0, h.1)
+apart_last low high (x ∷ xs) p h = let later = apart_last (end_of_run x) high xs p h.1 in ((h.0, later.0), later.1)
+
+get_front : (cs ds : List HeldCell) (i : ℕ) → i < length cs → slice_get (cs ++ ds) i ≡ slice_get cs i
+get_front [] ds i lt = absurd (omega (arith, lt))
+get_front (c ∷ cs) ds zero lt = refl
+get_front (c ∷ cs) ds (suc i) lt = get_front cs ds i (omega (arith, lt))
+
+get_back : (cs ds : List HeldCell) (i j : ℕ) → i ≡ length cs + j → slice_get (cs ++ ds) i ≡ slice_get ds j
+get_back [] ds i j e = let same : i ≡ j = omega (arith, e) in ap (slice_get ds) same
+get_back (c ∷ cs) ds zero j e = absurd (omega (arith, e))
+get_back (c ∷ cs) ds (suc i) j e = get_back cs ds i j (omega (arith, e))
+
+extended : (at end n : ℕ) (cs ds : List HeldCell) → end ≡ at + length cs → cell_from at (cs ++ ds) n ≡ or_else (cell_from at cs n) (cell_from end ds n)
+extended at end n cs ds e =
+    elim (cases_lt n at) [
+      | inl before ↦ early at n (cs ++ ds) before ∙ sym (early end n ds (omega (arith, e, before))) ∙ ap (λ (o : Option HeldCell). or_else o (cell_from end ds n)) (sym (early at n cs before))
+      | inr ge ↦ elim (cases_lt n end) [
+        | inl inside ↦
+            at_place (cs ++ ds) ge ∙ get_front cs ds (n - at) (omega (arith, e, ge, inside)) ∙ sym (at_place cs ge)
+            ∙ sym (or_some (cell_from at cs n) (cell_from end ds n) (inside_some at n cs ge (omega (arith, e, inside))))
+        | inr beyond ↦
+            at_place (cs ++ ds) ge ∙ get_back cs ds (n - at) (n - end) (omega (arith, e, beyond)) ∙ sym (rw (le-leb end n beyond) refl)
+            ∙ ap (λ (o : Option HeldCell). or_else o (cell_from end ds n)) (sym (past at n cs (omega (arith, e, beyond))))
+      ]
+    ]
+  where
+    at_place : (zs : List HeldCell) → at ≤ n → cell_from at zs n ≡ slice_get zs (n - at)
+    at_place zs le = rw (le-leb at n le) refl
+
+pub stores_last : (k place : ℕ) (cs : List HeldCell) (rs ts xs : List CellRun) (p q : CellRun) → rs ≡ xs ++ p ∷ [] → ts ≡ xs ++ q ∷ [] → q ≡ record { at = p.at; cells = p.cells ++ cs }
+    → place ≡ end_of_run p → StoresAt k place cs rs ts
+stores_last k place cs rs ts xs p q e f g at ends from high h =
+    let a = apart_last 0 high xs p (subst (AreApart 0 high) e h) in
+    let top : p.at + length p.cells ≤ high = a.1 in
+    let end : place ≡ p.at + length p.cells = at in
+    let starts : q.at ≡ p.at = ap (λ (z : CellRun). z.at) g in
+    let long : length q.cells ≡ length p.cells + length cs = ap (λ (z : CellRun). length z.cells) g ∙ length-append p.cells cs in (
+      subst (AreApart 0 (max high (place + length cs))) (sym f)
+          (append_apart 0 p.at (max high (place + length cs)) xs (q ∷ []) a.0 (omega (arith, starts), omega (arith, starts, long, end))),
+      λ n.
+          let one : cell_from q.at q.cells n ≡ or_else (cell_from p.at p.cells n) (cell_from place cs n) = ap (λ (z : CellRun). cell_from z.at z.cells n) g ∙ extended p.at place n p.cells cs at in
+          ap (λ (z : List CellRun). run_cell z n) f ∙ run_append xs (q ∷ []) n
+          ∙ ap (or_else (run_cell xs n)) (or_none (cell_from q.at q.cells n) ∙ one ∙ ap (λ (o : Option HeldCell). or_else o (cell_from place cs n)) (sym (or_none (cell_from p.at p.cells n))))
+          ∙ sym (or_assoc (run_cell xs n) (run_cell (p ∷ []) n) (cell_from place cs n))
+          ∙ ap (λ (o : Option HeldCell). or_else o (cell_from place cs n)) (sym (run_append xs (p ∷ []) n) ∙ ap (λ (z : List CellRun). run_cell z n) (sym e)),
+    )
 
 -- ---- without what is known
 

@@ -1,5 +1,5 @@
 -- Runs of cells, in the order of their offsets. What comes between two runs is missing.
-use Rattle.std.specs.Prelude.{◌≡◌, ◌<◌, ◌≤◌, ◌-◌, ◌+◌, ◌∷◌, ℕ, zero, suc, max, min, length, List, [], Option, Some, None}
+use Rattle.std.specs.Prelude.{◌≡◌, ◌<◌, ◌≤◌, ◌-◌, ◌+◌, ◌++◌, ◌∷◌, ℕ, zero, suc, max, min, length, List, [], Option, Some, None}
 use Rattle.capture_tcp.specs.declared.reassembly.Cell.{Cell as HeldCell}
 use Rattle.capture_tcp.specs.TcpStreams.{or_else}
 use Rattle.capture_tcp.specs.InnerReassembly.{cell_from}
@@ -79,6 +79,11 @@ StoresRun place cs old new =
 abbrev pub StoresAt : ℕ → ℕ → List HeldCell → List CellRun → List CellRun → Type 0
 StoresAt k place cs old new =
     (0 < length cs → 0 < k → HasAt (λ r. end_of_run r ≤ place) old (k - 1)) → IfAt (λ r. place ≤ r.at) old k → StoresRun place cs old new
+
+-- Holds if the last run ended at an offset, and has these cells too.
+abbrev pub ExtendsLast : ℕ → List HeldCell → List CellRun → List CellRun → Type 0
+ExtendsLast place cs old new =
+    (before : List CellRun) × (r : CellRun) × (old ≡ before ++ r ∷ []) × (new ≡ before ++ (record { at = r.at; cells = r.cells ++ cs }) ∷ []) × (place ≡ end_of_run r)
 
 -- Holds if nothing from an offset on changes.
 abbrev pub KeepsFrom : ℕ → List CellRun → List CellRun → Type 0

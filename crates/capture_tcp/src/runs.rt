@@ -3,7 +3,7 @@
 ghost use Rattle.std.specs.Prelude.{◌≡◌, ℕ, ◌<◌, ◌≤◌, ◌-◌, ◌+◌, ◌++◌, ◌^◌, true, false, drop, take, length, OnOk, OnErr, IfOk};
 ghost use Rattle.std.specs.VecDeque.{deque_len};
 ghost use Rattle.capture_tcp.specs.InnerReassembly.{cell_from};
-ghost use Rattle.capture_tcp.specs.InnerRuns.{CellRun, end_of_run, run_cell, AreApart, HasAt, IfAt, IsAfter, IsKnown, AreWithin, start_at, first_copies, StoresRun, StoresAt, KeepsFrom};
+ghost use Rattle.capture_tcp.specs.InnerRuns.{CellRun, end_of_run, run_cell, AreApart, HasAt, IfAt, IsAfter, IsKnown, AreWithin, start_at, first_copies, StoresRun, StoresAt, ExtendsLast, KeepsFrom};
 
 use crate::reassembly::Cell;
 use std::alloc::{AllocError, Global};
@@ -63,6 +63,21 @@ impl Run {
         ensures passes { result ≡ false → end < end_of_run self.now }
     {
         self.at <= end && self.cells.len() as u64 <= end - self.at
+    }
+
+    // Returns true if the run ends at an offset.
+    fn ends_at(&self, end: u64) -> bool
+        ensures { result ≡ true → end ≡ end_of_run self.now }
+    {
+        self.at <= end && self.cells.len() as u64 == end - self.at
+    }
+
+    // Appends cells. A failed allocation changes nothing.
+    fn extend(&mut self, cells: &[Cell]) -> Result<(), AllocError>
+        ensures ok { OnOk result (self.new ≡ record { at = self.old.at; cells = self.old.cells ++ cells.now }) }
+        ensures err { OnErr result (self.new ≡ self.old) }
+    {
+        self.cells.extend_from_slice(cells)
     }
 }
 
@@ -207,6 +222,48 @@ fn put_at(
     Ok(())
 }
 
+// Appends cells to the last run, if it ends at their offset. Returns whether it does. A failed allocation changes
+// nothing.
+fn extend_last(runs: &mut VecDeque<Run>, place: u64, cells: &[Cell]) -> Result<bool, AllocError>
+    ensures done { IfOk result (λ is_done. is_done ≡ true → ExtendsLast place cells.now runs.old.items runs.new.items) }
+    ensures left { IfOk result (λ is_done. is_done ≡ false → runs.new.items ≡ runs.old.items) }
+    ensures err { OnErr result (runs.new.items ≡ runs.old.items) }
+{
+    let Some(mut last) = runs.pop_back() else {
+        return Ok(false);
+    };
+    if !last.ends_at(place) {
+        runs.push_back_reserved(last);
+        return Ok(false);
+    }
+    let extended = last.extend(cells);
+    runs.push_back_reserved(last);
+    extended?;
+    Ok(true)
+}
+
+// Stores cells from an offset on before the run at an index, if the run before ends by the offset: in that run, if it
+// is the last one and ends there. A failed allocation changes nothing.
+fn put_after(
+    runs: &mut VecDeque<Run>,
+    index: usize,
+    place: u64,
+    cells: &[Cell],
+) -> Result<(), AllocError>
+    requires end { place + length cells.now < 2 ^ 64 }
+    requires index { index ≤ deque_len runs.old }
+    ensures ok { OnOk result (StoresAt index place cells.now runs.old.items runs.new.items) }
+    ensures err { OnErr result (runs.new.items ≡ runs.old.items) }
+{
+    if index < runs.len() {
+        return put_at(runs, index, place, cells);
+    }
+    if extend_last(runs, place, cells)? {
+        return Ok(());
+    }
+    put_at(runs, index, place, cells)
+}
+
 /// Stores cells from an offset on. A stored cell stays unchanged. A failed allocation changes nothing.
 pub(crate) fn put(runs: &mut VecDeque<Run>, place: u64, cells: &[Cell]) -> Result<(), AllocError>
     requires { place + length cells.now < 2 ^ 64 }
@@ -216,7 +273,7 @@ pub(crate) fn put(runs: &mut VecDeque<Run>, place: u64, cells: &[Cell]) -> Resul
     let index = place_after(runs, place);
     let known = known_from(runs, index, place, cells.len());
     let (_, rest) = cells.split_at(known);
-    put_at(runs, index, place + known as u64, rest)
+    put_after(runs, index, place + known as u64, rest)
 }
 
 /// Drops the runs at the front that end by an offset.
