@@ -6,19 +6,21 @@ Without the slip the log passes. A slip is what goes wrong between two implement
 from dataclasses import replace
 from typing import Callable, Dict, List, NamedTuple, Optional, Tuple, Union
 
-from tests.support.reference.ends import control, equipment_desk, first_line, host_desk, line_of, scripted_desk
+from tests.support.reference.ends import equipment_desk, first_line, host_desk, line_of, scripted_desk
 from tests.support.reference.items import BY_NAME, Item
 from tests.support.reference.messages import Frame
 from tests.support.reference.notation import Message
 from tests.support.reference.random_messages import Chance
 from tests.support.reference.session import OTHER_DIRECTION, SENT, TAKEN, Entry, Settings, closes, opens
-from tests.support.reference.two_ends import EQUIPMENT, HOST, Clock, Connection, text_of
+from tests.support.reference.two_ends import EQUIPMENT, HOST, OTHER, Clock, Connection, text_of
 
 # The mean time between two primaries, in ms.
 PAUSE = 860
 
 
 # Traffic.
+
+OK = Item(BY_NAME["B"], b"\x00")
 
 
 def unsigned(*values: int) -> Item:
@@ -31,8 +33,8 @@ def listed(*elements: Item) -> Item:
 
 def values_of(chance: Chance) -> Item:
     """The values of a report."""
-    some = [Item(BY_NAME["A"], b"LOT-%d" % chance.randrange(100)), unsigned(chance.randrange(1 << 32)), Item(BY_NAME["B"], b"\x01")]
-    return listed(*some[: chance.one(1, 2, 3)])
+    lot, count = Item(BY_NAME["A"], b"LOT-%d" % chance.randrange(100)), unsigned(chance.randrange(1 << 32))
+    return listed(*[lot, count, OK][: chance.one(1, 2, 3)])
 
 
 def event_report(chance: Chance) -> Message:
@@ -41,7 +43,8 @@ def event_report(chance: Chance) -> Message:
 
 
 def alarm(chance: Chance) -> Message:
-    return Message(5, 1, True, listed(Item(BY_NAME["B"], b"\x86"), unsigned(chance.randrange(99)), Item(BY_NAME["A"], b"DOOR")))
+    code, text = Item(BY_NAME["B"], b"\x86"), Item(BY_NAME["A"], b"DOOR")
+    return Message(5, 1, True, listed(code, unsigned(chance.randrange(99)), text))
 
 
 def trace(chance: Chance) -> Message:
@@ -70,14 +73,12 @@ TRAFFIC = {
     HOST: [poll] * 10 + [command] * 4 + [unknown, online],
 }
 
-OK = Item(BY_NAME["B"], b"\x00")
-
-
 def desks(chance: Chance) -> Dict[str, Callable]:
     values = [Message(1, 4, False, listed(unsigned(chance.randrange(1 << 32)), values_of(chance))) for _ in range(50)]
     of_equipment = [*values, Message(2, 42, False, listed(OK, listed()))]
     of_host = [Message(6, 12, False, OK), Message(5, 2, False, OK)]
-    return {HOST: scripted_desk(of_host, host_desk()), EQUIPMENT: scripted_desk(of_equipment, equipment_desk(b"MDLN", b"1"))}
+    own = equipment_desk(b"MDLN", b"1")
+    return {HOST: scripted_desk(of_host, host_desk()), EQUIPMENT: scripted_desk(of_equipment, own)}
 
 
 class DayConnection(Connection):
@@ -106,9 +107,10 @@ class Day:
     def __init__(self, chance: Chance, primaries: int, connections: int):
         self.chance = chance
         role, link = chance.one(HOST, EQUIPMENT), chance.one("active", "passive")
-        t3, device, version = chance.one(10_000, 45_000), chance.one(0, 1, 300), 2 if connections > 1 else chance.one(1, 2)
+        t3, device = chance.one(10_000, 45_000), chance.one(0, 1, 300)
+        version = 2 if connections > 1 else chance.one(1, 2)
         owner = Settings(role, link, device, t3, 5_000, 10_000, 5_000, 1_048_576, 32, version)
-        peer = replace(owner, role=HOST if role == EQUIPMENT else EQUIPMENT, link="passive" if link == "active" else "active")
+        peer = replace(owner, role=OTHER[role], link="passive" if link == "active" else "active")
         self.settings: Dict[str, Settings] = {it.role: it for it in (owner, peer)}
         self.owner, self.desks = owner, desks(chance)
         self.clocks = {role: Clock(chance) for role in self.settings}
@@ -146,17 +148,14 @@ class Day:
 
     def replies(self) -> List[Tuple[int, int]]:
         """The places of primaries with W, and of what answers them, but not what aborts."""
-        return [(at, end) for at, end in self.transactions() if self.frame(end).kind == "reply" and self.frame(end).byte3]
+        ends = [(at, end, self.frame(end)) for at, end in self.transactions()]
+        return [(at, end) for at, end, reply in ends if reply.kind == "reply" and reply.function]
 
     def frame(self, at: int) -> Frame:
         return self.entries[at].frame
 
     def data(self) -> List[int]:
-        return [at for at, entry in enumerate(self.entries) if entry.frame is not None and entry.frame.is_data and entry.flows]
-
-    def outlasts(self, at: int, time: int) -> bool:
-        """Whether its connection goes on until after a time."""
-        return self.entries[self.limits()[at] - 1].time > time
+        return [at for at, entry in enumerate(self.entries) if entry.flows and entry.frame.is_data]
 
 
 # A line of a log: an entry, or the text of a line.
@@ -230,7 +229,8 @@ def reply_has_another_function(day: Day) -> Slip:
 
 def reply_has_other_system_bytes(day: Day) -> Slip:
     _, end = day.chance.choice(day.replies())
-    return put(day, end, changed(day.entries[end], system=day.frame(end).system ^ day.chance.one(1 << 31, 1 << 24, 1 << 20)))
+    system = day.frame(end).system ^ day.chance.one(1 << 31, 1 << 24, 1 << 20)
+    return put(day, end, changed(day.entries[end], system=system))
 
 
 def system_bytes_are_used_twice(day: Day) -> Slip:
@@ -294,7 +294,8 @@ def time_goes_back(day: Day) -> Slip:
         lines[one], lines[two] = lines[two], lines[one]
         return Slip(lines, lines[two])
     step = day.chance.one(2_000, 60_000, 3_600_000)
-    at = day.chance.choice([at for at in data if lines[at].time >= step and lines[at].time - step < lines[at - 1].time])
+    places = [at for at in data if lines[at].time >= step and lines[at].time - step < lines[at - 1].time]
+    at = day.chance.choice(places)
     lines[at:] = [replace(it, time=it.time - step) if it.time >= step else it for it in lines[at:]]
     return Slip(lines, lines[at])
 
@@ -337,9 +338,9 @@ def linktest_is_unanswered(day: Day) -> Slip:
 
 
 SLIPS: List[Callable[[Day], Slip]] = [
-    reply_is_late, reply_is_missing, reply_has_another_function, reply_has_other_system_bytes, system_bytes_are_used_twice,
-    data_is_before_select, message_has_another_device, w_bit_is_wrong, reply_follows_reject, time_goes_back, down_is_missing,
-    line_is_cut, line_1_is_wrong, linktest_is_unanswered,
+    reply_is_late, reply_is_missing, reply_has_another_function, reply_has_other_system_bytes,
+    system_bytes_are_used_twice, data_is_before_select, message_has_another_device, w_bit_is_wrong, reply_follows_reject,
+    time_goes_back, down_is_missing, line_is_cut, line_1_is_wrong, linktest_is_unanswered,
 ]
 
 
