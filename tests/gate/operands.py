@@ -203,33 +203,32 @@ def audits(room):
 
 
 def records(octets):
-    """The records of a pcap file of Ethernet with microseconds in little endian: time, bytes, and the packet's length."""
-    assert octets[:4] == b"\xd4\xc3\xb2\xa1" and octets[20] == 1, octets[:24]
-    at, found = 24, []
+    """The IP packets of a pcap file with microseconds in little endian: their time, their bytes, and their length."""
+    assert octets[:4] == b"\xd4\xc3\xb2\xa1", octets[:4]
+    at, front, found = 24, {1: 14, 101: 0}[octets[20]], []
     while at < len(octets):
         seconds, micros, held, had = struct.unpack_from("<IIII", octets, at)
-        found.append((10**6 * seconds + micros, octets[at + 16 : at + 16 + held], had))
+        found.append((10**6 * seconds + micros, octets[at + 16 + front : at + 16 + held], had - front))
         at += 16 + held
     return found
 
 
-def in_form(found, form, link="ethernet"):
-    """A capture file of these records."""
-    capture = Capture(form, link, found and found[0][1][12:14] == b"\x86\xdd")
+def in_form(found, form, link="raw"):
+    """A capture file of these packets."""
+    capture = Capture(form, link, any(octets[0] >> 4 == 6 for _, octets, _ in found))
+    front = capture.link_header()
     for time, octets, had in found:
-        if link != "ethernet":
-            octets, had = capture.link_header() + octets[14:], had - 14 + len(capture.link_header())
-        capture.packet(time, octets.ljust(had, b"\0"), len(octets))
-    return capture.octets
+        capture.packet(time, front + octets.ljust(had, b"\0"), len(front + octets))
+    return bytes(capture.octets)
 
 
 def without_times(found):
-    """A capture file of these records in simple packet blocks, which have no times."""
-    capture = Capture("pcapng<")
+    """A capture file of these packets in simple packet blocks, which have no times."""
+    capture = Capture("pcapng<", "raw")
     for _, octets, had in found:
         assert len(octets) == had, had
         capture.octets += capture.block(3, struct.pack("<I", had) + octets)
-    return capture.octets
+    return bytes(capture.octets)
 
 
 def in_series(told, names, counts, named=None):
@@ -257,7 +256,8 @@ def captures(room):
     def capture(*words, given=b""):
         return answer(["capture", *words], given, cwd=room)
 
-    forms = [*MORE_FORMS, "pcap<"]
+    # (the writer rounds times up to the milliseconds of one interface of `two`)
+    forms = [form for form in MORE_FORMS if "two" not in form]
     for place, more in (("examples/late-reply.pcap", ["--t3", "1000"]), ("tests/captures/devices.pcap", ["--midstream"])):
         octets = read(place)
         found = records(octets)
@@ -283,9 +283,12 @@ def captures(room):
                 yield f"{place} {form}: - for {name}", capture(*more, *rest, "-", given=given), wanted
         yield f"{place}: missing", capture("0.0", "missing"), Answer(2, b"", b"hsms: Open file=missing\n")
         yield f"{place}: folder", capture("0.0", ".", "-v"), Answer(2, b"", b"hsms: Open file=.\n" + WHY_FOLDER)
-        names = [put(f"{at}.one", in_form([record], "pcap<")) for at, record in enumerate(found)]
-        counts = [1] * len(found)
-        yield f"{place}: a file for each packet", capture(*more, *names[::-1]), in_series(whole, names, counts)
+        # (times are compared in milliseconds)
+        names = [put(f"{at}.one", in_form([packet], "pcap<")) for at, packet in enumerate(found)]
+        order = sorted(range(len(found))[::-1], key=lambda at: found[at][0] // 1000)
+        told = capture(*more, given=in_form([found[at] for at in order], "pcap<"))
+        wanted = in_series(told, [names[at] for at in order], [1] * len(found))
+        yield f"{place}: a file for each packet", capture(*more, *names[::-1]), wanted
         yield from broken(room, place, more, found, put, capture)
 
 

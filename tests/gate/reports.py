@@ -22,7 +22,7 @@ sys.path.insert(0, os.path.abspath(f"{__file__}/../../.."))
 
 from tests.support.command import LONGEST_RUN, TOP, Answer, program_given
 from tests.support.comparisons import status_of
-from tests.support.pcap_writer import Capture, Talk
+from tests.support.pcap_writer import ACTIVE, SELECT, SYN, Capture, Talk
 
 PROGRAM = program_given()
 
@@ -228,13 +228,18 @@ def end_of(text):
 
 
 def captures(room, _):
-    """The objects of each capture, of one in IPv6, and of several files with odd names."""
+    """The objects of each capture, of one in IPv6, of one without a handshake, and of several files with odd names."""
     paths = sorted(glob.glob(f"{TOP}/tests/captures/*.pcap") + glob.glob(f"{TOP}/examples/*.pcap"))
     ipv6 = Capture("pcapng>", is_ipv6=True)
     Talk(ipv6).end(1)
-    paths.append(f"{room}/ipv6")
-    with open(paths[-1], "wb") as file:
-        file.write(ipv6.octets)
+    unseen = Capture()
+    talk = Talk(unseen, shakes_hands=False)
+    talk.segment(ACTIVE, 0, SYN)
+    talk.say(5, ACTIVE, SELECT[0][1])
+    for name, capture in (("ipv6", ipv6), ("unseen", unseen)):
+        paths.append(f"{room}/{name}")
+        with open(paths[-1], "wb") as file:
+            file.write(capture.octets)
     found = set()
     for path in paths:
         for more in ([], ["--t3", "1000"], ["--midstream"], ["--max", "256", "--port", "1"]):

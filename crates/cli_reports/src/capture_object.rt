@@ -46,8 +46,8 @@ fn push_address(
 
 // Appends what the log of an end shows: the packet of what is missing, and the verdict with its numbers.
 fn push_shown(object: &mut String, shown: &str) -> Result<(), AllocError> {
-    let mut verdict = "none";
     let mut is_incomplete = false;
+    let mut is_judged = false;
     for word in shown.split(' ') {
         match word.split_once('=') {
             Some((_, packet)) if is_incomplete => {
@@ -58,10 +58,16 @@ fn push_shown(object: &mut String, shown: &str) -> Result<(), AllocError> {
             Some((name, number)) => push_number(object, name, number)?,
             None if word == "incomplete" => is_incomplete = true,
             None if word == "unreadable" => push_text(object, "rule", word)?,
-            None => verdict = word,
+            None => {
+                push_text(object, "verdict", word)?;
+                is_judged = true;
+            }
         }
     }
-    push_text(object, "verdict", verdict)
+    if is_judged {
+        return Ok(());
+    }
+    push_text(object, "verdict", "none")
 }
 
 // Appends the members of a comment: with which packet a file begins, what was skipped, or what was not judged.
