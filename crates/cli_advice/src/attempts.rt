@@ -4,7 +4,7 @@ use crate::error_help::link_words;
 use cli_serve::{Attempts, ConnectError, Ending};
 use std::alloc::Global;
 use std::io;
-use std::io::{ErrorKind, Write};
+use std::io::{ErrorKind, Printer, Write};
 
 /// Writes one line for each kind of failure to standard error, and one on each connection whose end the socket shows,
 /// if errors are explained.
@@ -68,21 +68,21 @@ fn ending_words(why: Ending) -> &'static str {
     }
 }
 
-/// A writer of a log, which receives each line in one piece. If errors are explained, it writes to standard error why a
+/// Standard output for a log, which receives each line in one piece. If errors are explained, it writes to standard error why a
 /// connection ended, if the lines before `down` show it.
 #[derive(Drop)]
-pub struct ExplainedLog<'a, W: Write, R: Eprint> {
-    output: W,
+pub struct ExplainedLog<'a, R: Print> {
+    output: Printer<'a, R>,
     rt: &'a R,
     is_verbose: bool,
     why: Option<&'static str>,
 }
 
-impl<'a, W: Write, R: Eprint> ExplainedLog<'a, W, R> {
-    /// Creates a writer that passes what it receives to `output`.
-    pub fn new(output: W, rt: &'a R, is_verbose: bool) -> ExplainedLog<'a, W, R> {
+impl<'a, R: Eprint + Print> ExplainedLog<'a, R> {
+    /// Creates a writer to standard output.
+    pub fn new(rt: &'a R, is_verbose: bool) -> ExplainedLog<'a, R> {
         ExplainedLog {
-            output,
+            output: io::writer(rt),
             rt,
             is_verbose,
             why: None,
@@ -103,7 +103,7 @@ impl<'a, W: Write, R: Eprint> ExplainedLog<'a, W, R> {
     }
 }
 
-impl<'a, W: Write, R: Eprint> Write for ExplainedLog<'a, W, R> {
+impl<'a, R: Eprint + Print> Write for ExplainedLog<'a, R> {
     fn write(&mut self, octets: &[u8]) -> io::Result<usize> {
         let count = self.output.write(octets)?;
         if self.is_verbose {

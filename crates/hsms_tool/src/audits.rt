@@ -21,7 +21,7 @@ pub fn audit_each<R: Clock + Eprint + Files + Input + Print>(
     rt: &R,
     files: &[&str],
     quiet: bool,
-    console: &Console<'_, R>,
+    console: &Console,
 ) -> Result<u8, Failure> {
     let mut sink = Writer::new(console.output(alloc, rt, Painting::Verdicts));
     let mut report = AuditReport::new(quiet);
@@ -44,14 +44,14 @@ fn audit_file<R: Clock + Eprint + Files + Input, W: Sink>(
     is_named: bool,
     report: &mut AuditReport,
     sink: &mut W,
-    console: &Console<'_, R>,
+    console: &Console,
 ) -> Result<(), Failure> {
-    console.progress.begin();
+    console.progress.begin(rt);
     match open_input(alloc, rt, name, console) {
         Ok(input) => {
             let label = is_named.then_some(name);
             let done = audit_input(alloc, rt, label, input, report, sink, console);
-            console.progress.erase();
+            console.progress.erase(rt);
             done.map_err(|failure| failure.of_file(alloc, name))
         }
         Err(failure) => {
@@ -73,7 +73,7 @@ fn audit_input<R: Clock + Eprint, I: Read + Drop, W: Sink>(
     input: I,
     report: &mut AuditReport,
     sink: &mut W,
-    console: &Console<'_, R>,
+    console: &Console,
 ) -> Result<(), Failure> {
     let input = buffered(alloc, input)?;
     if !console.is_verbose {
@@ -82,7 +82,7 @@ fn audit_input<R: Clock + Eprint, I: Read + Drop, W: Sink>(
     }
     let mut lines = KeptLines::new(alloc, input);
     let verdict = report.audit(alloc, label, &mut Reader::new(&mut lines), sink)?;
-    console.progress.erase();
+    console.progress.erase(rt);
     if let Some(words) = lines.words_for(alloc, verdict) {
         let _ = match label {
             Some(name) => eprintln!(rt; "{name}: {words}"),
@@ -99,7 +99,7 @@ pub fn report_each<R: Clock + Eprint + Files + Input + Print>(
     form: ReportForm,
     files: &[&str],
     quiet: bool,
-    console: &Console<'_, R>,
+    console: &Console,
 ) -> Result<u8, Failure> {
     let mut sink = Writer::new(console.output(alloc, rt, Painting::Nothing));
     let mut report = LogReport::new(alloc, form, quiet);
@@ -120,13 +120,13 @@ fn report_file<R: Clock + Eprint + Files + Input, W: Sink>(
     name: &str,
     report: &mut LogReport,
     sink: &mut W,
-    console: &Console<'_, R>,
+    console: &Console,
 ) -> Result<(), Failure> {
-    console.progress.begin();
+    console.progress.begin(rt);
     match open_input(alloc, rt, name, console) {
         Ok(input) => {
             let done = report.audit(alloc, name, buffered(alloc, input)?, sink);
-            console.progress.erase();
+            console.progress.erase(rt);
             done.map_err(|error| Failure::from(error).of_file(alloc, name))
         }
         Err(failure) => {

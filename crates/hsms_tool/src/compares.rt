@@ -22,7 +22,7 @@ pub fn compare_files<R: Clock + Eprint + Files + Input + Print>(
     alloc: Global,
     rt: &R,
     files: &[&str],
-    console: &Console<'_, R>,
+    console: &Console,
 ) -> Result<u8, Failure> {
     let [first, second] = files else {
         return Err(Failure::from(no_request(alloc)));
@@ -32,12 +32,12 @@ pub fn compare_files<R: Clock + Eprint + Files + Input + Print>(
         return Err(Failure::from(no_request(alloc)));
     }
     check_standard(rt, files)?;
-    console.progress.begin();
+    console.progress.begin(rt);
     let one = open_input(alloc, rt, first, console)?;
     let other = open_input(alloc, rt, second, console)?;
     let mut sink = Writer::new(console.output(alloc, rt, Painting::Verdicts));
     let agree = compare_inputs(alloc, one, other, &mut sink);
-    console.progress.erase();
+    console.progress.erase(rt);
     Ok(exit_status(&Ok(agree?)))
 }
 

@@ -8,7 +8,6 @@ use std::alloc::Global;
 use std::fs::{File, Files, OpenFile};
 use std::io;
 use std::io::{BufReader, ErrorKind, Read};
-use std::time::Clock;
 
 // The number of bytes that are buffered between the command and its input.
 const BUFFER: usize = 65536;
@@ -62,12 +61,12 @@ impl<S: Read, F: Read> Read for Opened<S, F> {
 ///
 /// Returns the text `Open file=NAME` if the file cannot be opened or is a directory. If errors are explained, the
 /// failure has the reason.
-pub fn open_input<'c, 'a, R: Clock + Eprint + Files + Input>(
+pub fn open_input<'c, R: Files + Input>(
     alloc: Global,
-    rt: &R,
+    rt: &'c R,
     name: &str,
-    console: &'c Console<'a, R>,
-) -> Result<Counted<'c, 'a, R, Opened<R::Reader, R::File>>, Failure> {
+    console: &'c Console,
+) -> Result<Counted<'c, R, Opened<R::Reader, R::File>>, Failure> {
     match reopened_input(rt, name, console) {
         Ok(opened) => {
             console.progress.add_file(opened.input().length());
@@ -82,17 +81,17 @@ pub fn open_input<'c, 'a, R: Clock + Eprint + Files + Input>(
 /// # Errors
 ///
 /// Returns an error if the file cannot be opened or is a directory.
-pub fn reopened_input<'c, 'a, R: Clock + Eprint + Files + Input>(
-    rt: &R,
+pub fn reopened_input<'c, R: Files + Input>(
+    rt: &'c R,
     name: &str,
-    console: &'c Console<'a, R>,
-) -> io::Result<Counted<'c, 'a, R, Opened<R::Reader, R::File>>> {
+    console: &'c Console,
+) -> io::Result<Counted<'c, R, Opened<R::Reader, R::File>>> {
     let opened = if name == STANDARD {
         Opened::Standard(rt.reader())
     } else {
         Opened::File(opened_file(rt, name)?)
     };
-    Ok(Counted::new(opened, &console.progress))
+    Ok(Counted::new(opened, rt, &console.progress))
 }
 
 /// Checks that standard input is open if one of the names is `-`. If it is closed, the first file that is opened would take

@@ -2,8 +2,7 @@
 
 use crate::progress::Progress;
 use std::alloc::{AllocError, Global};
-use std::io::Write;
-use std::time::Clock;
+use std::io::{Printer, Write};
 use std::{io, str};
 
 // The sequences of ECMA-48 that begin red and bold text, and end both.
@@ -24,30 +23,32 @@ pub enum Painting {
     Explained,
 }
 
-/// A writer that marks lines by their first word. A line is marked if one slice has all of it. Before each write it
+/// Standard output, whose lines are marked by their first word. A line is marked if one slice has all of it. Before each write it
 /// erases the line of the progress.
 #[derive(Drop)]
-pub struct Painter<'p, 'a, R: Clock + Eprint, W> {
-    output: W,
+pub struct Painter<'p, R: Print> {
+    output: Printer<'p, R>,
     painting: Painting,
-    progress: &'p Progress<'a, R>,
+    rt: &'p R,
+    progress: &'p Progress,
     // The lines of a slice, with their marks.
     marked: Vec<u8>,
     // True if the last slice ended inside a line.
     is_inside: bool,
 }
 
-impl<'p, 'a, R: Clock + Eprint, W: Write> Painter<'p, 'a, R, W> {
-    /// Creates a writer that passes lines to an output.
+impl<'p, R: Eprint + Print> Painter<'p, R> {
+    /// Creates a writer to standard output.
     pub fn new(
         alloc: Global,
-        output: W,
+        rt: &'p R,
         painting: Painting,
-        progress: &'p Progress<'a, R>,
-    ) -> Painter<'p, 'a, R, W> {
+        progress: &'p Progress,
+    ) -> Painter<'p, R> {
         Painter {
-            output,
+            output: io::writer(rt),
             painting,
+            rt,
             progress,
             marked: Vec::new(alloc),
             is_inside: false,
@@ -82,12 +83,12 @@ impl<'p, 'a, R: Clock + Eprint, W: Write> Painter<'p, 'a, R, W> {
     }
 }
 
-impl<'p, 'a, R: Clock + Eprint, W: Write> Write for Painter<'p, 'a, R, W> {
+impl<'p, R: Eprint + Print> Write for Painter<'p, R> {
     fn write(&mut self, octets: &[u8]) -> io::Result<usize> {
         if octets.is_empty() {
             return self.output.write(octets);
         }
-        self.progress.make_way();
+        self.progress.make_way(self.rt);
         if self.painting == Painting::Nothing || self.mark(octets).is_err() {
             return self.output.write(octets);
         }

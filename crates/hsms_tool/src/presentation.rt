@@ -25,11 +25,11 @@ pub struct Presentation {
 
 /// What results and errors are written to.
 #[derive(Drop)]
-pub struct Console<'a, R: Clock + Eprint> {
+pub struct Console {
     /// True if errors are explained.
     pub is_verbose: bool,
     /// How much of a file is read.
-    pub progress: Progress<'a, R>,
+    pub progress: Progress,
     is_colored: bool,
 }
 
@@ -100,10 +100,10 @@ impl Presentation {
     }
 
     /// Returns what results and errors are written to.
-    pub fn console<R: Clock + Eprint>(self, rt: &R) -> Console<'_, R> {
+    pub fn console(self) -> Console {
         Console {
             is_verbose: self.is_verbose,
-            progress: Progress::new(rt, self.has_progress, self.is_at_terminal),
+            progress: Progress::new(self.has_progress, self.is_at_terminal),
             is_colored: self.is_colored,
         }
     }
@@ -164,20 +164,20 @@ impl WordsLeft {
     }
 }
 
-impl<'a, R: Clock + Eprint> Console<'a, R> {
-    /// Returns standard output, with colours if they are requested.
-    pub fn output<'p, P: Print>(
+impl Console {
+    /// Returns standard output, with colors if they are requested.
+    pub fn output<'p, R: Eprint + Print>(
         &'p self,
         alloc: Global,
-        rt: &'p P,
+        rt: &'p R,
         painting: Painting,
-    ) -> Painter<'p, 'a, R, Printer<'p, P>> {
+    ) -> Painter<'p, R> {
         let painting = if self.is_colored {
             painting
         } else {
             Painting::Nothing
         };
-        Painter::new(alloc, io::writer(rt), painting, &self.progress)
+        Painter::new(alloc, rt, painting, &self.progress)
     }
 }
 

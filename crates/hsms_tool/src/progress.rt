@@ -12,8 +12,7 @@ const NEXT: u64 = 200;
 
 /// A line of a terminal with the share of the input that is read, the rate, and the time left.
 #[derive(Drop)]
-pub struct Progress<'a, R: Clock + Eprint> {
-    rt: &'a R,
+pub struct Progress {
     is_on: bool,
     // True if standard output is a terminal too: then the line is erased before each output.
     is_shared: bool,
@@ -26,11 +25,10 @@ pub struct Progress<'a, R: Clock + Eprint> {
     is_shown: Cell<bool>,
 }
 
-impl<'a, R: Clock + Eprint> Progress<'a, R> {
+impl Progress {
     /// Creates a line that is not shown. If it is off, it is never shown.
-    pub fn new(rt: &'a R, is_on: bool, is_shared: bool) -> Progress<'a, R> {
+    pub fn new(is_on: bool, is_shared: bool) -> Progress {
         Progress {
-            rt,
             is_on,
             is_shared,
             began: Cell::new(None),
@@ -42,9 +40,9 @@ impl<'a, R: Clock + Eprint> Progress<'a, R> {
     }
 
     /// Begins with other files, of which nothing is read.
-    pub fn begin(&self) {
+    pub fn begin<R: Clock>(&self, rt: &R) {
         if self.is_on {
-            self.began.set(Instant::now(self.rt).ok());
+            self.began.set(Instant::now(rt).ok());
             self.total.set(0);
             self.read.set(0);
             self.next.set(FIRST);
@@ -57,27 +55,27 @@ impl<'a, R: Clock + Eprint> Progress<'a, R> {
     }
 
     // Adds bytes that are read, and writes the line if it is time.
-    fn add_read(&self, count: usize) {
+    fn add_read<R: Clock + Eprint>(&self, rt: &R, count: usize) {
         if !self.is_on {
             return;
         }
         self.read.set(self.read.get().saturating_add(count as u64));
-        let passed = self.passed();
+        let passed = self.passed(rt);
         if passed >= self.next.get() && self.total.get() > 0 {
-            self.show(passed);
+            self.show(rt, passed);
             self.next.set(passed.saturating_add(NEXT));
         }
     }
 
     // Returns the number of milliseconds since the files were begun.
-    fn passed(&self) -> u64 {
-        match self.began.get().map(|began| began.elapsed(self.rt)) {
+    fn passed<R: Clock>(&self, rt: &R) -> u64 {
+        match self.began.get().map(|began| began.elapsed(rt)) {
             Some(Ok(passed)) => u64::try_from(passed.as_millis()).unwrap_or(u64::MAX),
             Some(Err(_)) | None => 0,
         }
     }
 
-    fn show(&self, passed: u64) {
+    fn show<R: Eprint>(&self, rt: &R, passed: u64) {
         let total = self.total.get();
         let read = self.read.get().min(total);
         let share = read.saturating_mul(100).checked_div(total).unwrap_or(0);
@@ -85,7 +83,7 @@ impl<'a, R: Clock + Eprint> Progress<'a, R> {
         let rate = read.checked_div(passed).unwrap_or(0);
         let rest = total.saturating_sub(read).saturating_mul(passed);
         let left = rest.checked_div(read).unwrap_or(0) / 1000;
-        let _ = eprint!(self.rt;
+        let _ = eprint!(rt;
             "\rhsms: {share} %, {}.{} MB/s, {left} s left\u{1b}[K",
             rate / 1000,
             rate % 1000 / 100
@@ -94,32 +92,37 @@ impl<'a, R: Clock + Eprint> Progress<'a, R> {
     }
 
     /// Erases the line, if it is shown.
-    pub fn erase(&self) {
+    pub fn erase<R: Eprint>(&self, rt: &R) {
         if self.is_shown.get() {
-            let _ = eprint!(self.rt; "\r\u{1b}[K");
+            let _ = eprint!(rt; "\r\u{1b}[K");
             self.is_shown.set(false);
         }
     }
 
     /// Erases the line before an output to the same terminal.
-    pub fn make_way(&self) {
+    pub fn make_way<R: Eprint>(&self, rt: &R) {
         if self.is_shared {
-            self.erase();
+            self.erase(rt);
         }
     }
 }
 
 /// A reader of files whose bytes are counted.
 #[derive(Drop)]
-pub struct Counted<'p, 'a, R: Clock + Eprint, I> {
+pub struct Counted<'p, R, I> {
     input: I,
-    progress: &'p Progress<'a, R>,
+    rt: &'p R,
+    progress: &'p Progress,
 }
 
-impl<'p, 'a, R: Clock + Eprint, I> Counted<'p, 'a, R, I> {
+impl<'p, R, I> Counted<'p, R, I> {
     /// Creates a reader of an input.
-    pub fn new(input: I, progress: &'p Progress<'a, R>) -> Counted<'p, 'a, R, I> {
-        Counted { input, progress }
+    pub fn new(input: I, rt: &'p R, progress: &'p Progress) -> Counted<'p, R, I> {
+        Counted {
+            input,
+            rt,
+            progress,
+        }
     }
 
     /// Returns the input.
@@ -128,10 +131,10 @@ impl<'p, 'a, R: Clock + Eprint, I> Counted<'p, 'a, R, I> {
     }
 }
 
-impl<'p, 'a, R: Clock + Eprint, I: Read> Read for Counted<'p, 'a, R, I> {
+impl<'p, R: Clock + Eprint, I: Read> Read for Counted<'p, R, I> {
     fn read(&mut self, into: &mut [u8]) -> io::Result<usize> {
         let count = self.input.read(into)?;
-        self.progress.add_read(count);
+        self.progress.add_read(self.rt, count);
         Ok(count)
     }
 }

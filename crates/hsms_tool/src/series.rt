@@ -17,9 +17,6 @@ use std::alloc::{AllocError, Global};
 use std::fs::Files;
 use std::time::Clock;
 
-// A file that is open.
-type OpenedFile<'c, 'a, R> = Counted<'c, 'a, R, Opened<<R as Input>::Reader, <R as Files>::File>>;
-
 /// A file of the command line.
 #[derive(Drop)]
 struct CaptureFile<'n, I> {
@@ -32,18 +29,18 @@ struct CaptureFile<'n, I> {
 
 /// Files in the order of their first packets. Regular files are opened again.
 #[derive(Drop)]
-struct CaptureFiles<'c, 'a, 'n, R: Clock + Eprint + Files + Input> {
+struct CaptureFiles<'c, 'n, R: Clock + Eprint + Files + Input> {
     alloc: Global,
-    rt: &'a R,
-    console: &'c Console<'a, R>,
-    files: Vec<CaptureFile<'n, OpenedFile<'c, 'a, R>>>,
+    rt: &'c R,
+    console: &'c Console,
+    files: Vec<CaptureFile<'n, Counted<'c, R, Opened<R::Reader, R::File>>>>,
     next: usize,
 }
 
-impl<'c, 'a, 'n, R: Clock + Eprint + Files + Input> Parts<'n> for CaptureFiles<'c, 'a, 'n, R> {
-    type Input = OpenedFile<'c, 'a, R>;
+impl<'c, 'n, R: Clock + Eprint + Files + Input> Parts<'n> for CaptureFiles<'c, 'n, R> {
+    type Input = Counted<'c, R, Opened<R::Reader, R::File>>;
 
-    fn next_part(&mut self) -> Option<NextPart<'n, OpenedFile<'c, 'a, R>>> {
+    fn next_part(&mut self) -> Option<NextPart<'n, Counted<'c, R, Opened<R::Reader, R::File>>>> {
         let file = self.files.get_mut(self.next)?;
         self.next = self.next.saturating_add(1);
         let name = file.name;
@@ -68,10 +65,10 @@ pub fn capture_files<R: Clock + Eprint + Files + Input + Print>(
     options: Capturing,
     names: &[&str],
     has_port: bool,
-    console: &Console<'_, R>,
+    console: &Console,
 ) -> Result<u8, Failure> {
     check_standard(rt, names)?;
-    console.progress.begin();
+    console.progress.begin(rt);
     let files = in_order(alloc, rt, names, console)?;
     let parts = CaptureFiles {
         alloc,
@@ -88,7 +85,7 @@ pub fn capture_files<R: Clock + Eprint + Files + Input + Print>(
     };
     let mut sink = Writer::new(console.output(alloc, rt, painting));
     let done = capture_series(alloc, options, &mut series, &mut sink, has_port);
-    console.progress.erase();
+    console.progress.erase(rt);
     match done {
         Ok(well) => Ok(exit_status(&Ok(well))),
         Err(error) => {
@@ -142,12 +139,12 @@ fn series_lines<'n, P: Parts<'n> + Drop, W: Sink>(
 }
 
 // Returns the files in the order of their first packets. Those without a time are the last.
-fn in_order<'c, 'a, 'n, R: Clock + Eprint + Files + Input>(
+fn in_order<'c, 'n, R: Clock + Eprint + Files + Input>(
     alloc: Global,
-    rt: &R,
+    rt: &'c R,
     names: &[&'n str],
-    console: &'c Console<'a, R>,
-) -> Result<Vec<CaptureFile<'n, OpenedFile<'c, 'a, R>>>, Failure> {
+    console: &'c Console,
+) -> Result<Vec<CaptureFile<'n, Counted<'c, R, Opened<R::Reader, R::File>>>>, Failure> {
     let mut files = Vec::new(alloc);
     for name in names {
         let input = open_input(alloc, rt, name, console)?;
@@ -176,12 +173,12 @@ fn in_order<'c, 'a, 'n, R: Clock + Eprint + Files + Input>(
 }
 
 // Opens a file again.
-fn opened_again<'c, 'a, R: Clock + Eprint + Files + Input>(
+fn opened_again<'c, R: Clock + Eprint + Files + Input>(
     alloc: Global,
-    rt: &R,
+    rt: &'c R,
     name: &str,
-    console: &'c Console<'a, R>,
-) -> Result<Part<OpenedFile<'c, 'a, R>>, FileFault> {
+    console: &'c Console,
+) -> Result<Part<Counted<'c, R, Opened<R::Reader, R::File>>>, FileFault> {
     match reopened_input(rt, name, console) {
         Ok(input) => Part::open(alloc, input),
         Err(_) => Err(FileFault::Read),

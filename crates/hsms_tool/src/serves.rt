@@ -12,8 +12,7 @@ use hsms_ends::{Lent, Step};
 use hsms_frame::{Reader, Sink, Writer};
 use std::alloc::Global;
 use std::fs::Files;
-use std::io;
-use std::io::{Printer, Read, Write};
+use std::io::{Read, Write};
 use std::net::Net;
 use std::time::Clock;
 
@@ -203,12 +202,11 @@ fn log_of<'a, R: Eprint + Print>(
     rt: &'a R,
     service: &Service<'_>,
     is_verbose: bool,
-) -> Result<Lines<ExplainedLog<'a, Printer<'a, R>, R>>, ToolFault> {
-    let mut output = io::writer(rt);
+) -> Result<Lines<ExplainedLog<'a, R>>, ToolFault> {
+    let mut output = ExplainedLog::new(rt, is_verbose);
     if output.write(&[]).is_err() {
         return Err(ToolFault::Device("Log"));
     }
     let room = 2 * service.settings.max() as usize + LINE;
-    let output = ExplainedLog::new(output, rt, is_verbose);
     Ok(Lines::with_capacity(alloc, room, output, service.all_answered)?)
 }
