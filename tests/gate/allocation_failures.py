@@ -117,6 +117,8 @@ EXAMPLES = [
     (["capture", "--midstream", "--log", "host"], "tests/captures/joined-false-front.pcap"),
     (["capture", "--t3", "1000", "-", f"{TOP}/examples/late-reply.pcap"], "examples/late-reply.pcap"),
     (["capture", f"{TOP}/tests/captures/running.pcap", "-"], "examples/select.bin"),
+    (["capture", "--format", "json", "-", f"{TOP}/examples/late-reply.pcap"], "examples/late-reply.pcap"),
+    (["capture", "--format", "json"], "tests/captures/running.pcap"),
     (["capture", "--help"], "examples/select.bin"),
     (["serve", *NOBODY_THERE], "examples/session.txt"),
     (["serve", *NOBODY_THERE, "--send"], "examples/session.txt"),

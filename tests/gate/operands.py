@@ -213,6 +213,15 @@ def records(octets):
     return found
 
 
+def spread(found):
+    """The packets, each a millisecond or more later than the one before."""
+    later, last = [], 0
+    for time, octets, had in found:
+        last = max(time, last + 1000)
+        later.append((last, octets, had))
+    return later
+
+
 def in_form(found, form, link="raw"):
     """A capture file of these packets."""
     capture = Capture(form, link, any(octets[0] >> 4 == 6 for _, octets, _ in found))
@@ -259,9 +268,9 @@ def captures(room):
     # (the writer rounds times up to the milliseconds of one interface of `two`)
     forms = [form for form in MORE_FORMS if "two" not in form]
     for place, more in (("examples/late-reply.pcap", ["--t3", "1000"]), ("tests/captures/devices.pcap", ["--midstream"])):
-        octets = read(place)
-        found = records(octets)
-        whole, log = capture(*more, given=octets), capture(*more, "--log", "host", given=octets)
+        found = spread(records(read(place)))
+        whole = capture(*more, given=in_form(found, "pcap<"))
+        log = capture(*more, "--log", "host", given=in_form(found, "pcap<"))
         cuts = [0, len(found) // 3, len(found) // 3, 2 * len(found) // 3, len(found)]
         parts = [found[low:high] for low, high in zip(cuts, cuts[1:])]
         counts = [len(part) for part in parts]
@@ -283,12 +292,13 @@ def captures(room):
                 yield f"{place} {form}: - for {name}", capture(*more, *rest, "-", given=given), wanted
         yield f"{place}: missing", capture("0.0", "missing"), Answer(2, b"", b"hsms: Open file=missing\n")
         yield f"{place}: folder", capture("0.0", ".", "-v"), Answer(2, b"", b"hsms: Open file=.\n" + WHY_FOLDER)
-        # (times are compared in milliseconds)
         names = [put(f"{at}.one", in_form([packet], "pcap<")) for at, packet in enumerate(found)]
-        order = sorted(range(len(found))[::-1], key=lambda at: found[at][0] // 1000)
-        told = capture(*more, given=in_form([found[at] for at in order], "pcap<"))
-        wanted = in_series(told, [names[at] for at in order], [1] * len(found))
+        wanted = in_series(whole, names, [1] * len(found))
         yield f"{place}: a file for each packet", capture(*more, *names[::-1]), wanted
+        # (times are compared in milliseconds, and files with equal ones stay as they are named)
+        equal = [put(f"{at}.equal", in_form([(found[0][0] + 999 - at, *packet[1:])], "pcap<")) for at, packet in enumerate(found)]
+        told = capture(*more, given=b"".join([in_form([], "pcap<"), *(in_form([(found[0][0], *it[1:])], "pcap<")[24:] for it in found)]))
+        yield f"{place}: equal times", capture(*more, *equal), in_series(told, equal, [1] * len(found))
         yield from broken(room, place, more, found, put, capture)
 
 
