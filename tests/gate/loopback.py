@@ -741,20 +741,22 @@ def reset():
 
 
 def end_is_explained():
-    """With `-v`, why a connection ended: the peer closed or reset it, or accepted nothing for T8; not that this end left."""
+    """With `-v`, why a connection ended: the peer closed, separated or reset it, or accepted nothing for T8."""
     ended = "hsms: the connection ended: the peer {}\n"
+    short = "hsms: {}: times are in milliseconds\n"
     peers = Listening()
     serving = Serving("host", "active", peers.port, "-v", "--reconnect", "--connections", "3", "--t5", "50")
     for _ in range(3):
         peer = peers.next_one()
         peer.wants(SELECT)
         peer.close()
-    same(serving.ended()[::2], (0, 3 * ended.format("closed it")))
+    same(serving.ended()[::2], (0, short.format("--t5 50") + 3 * ended.format("closed it")))
     peers.listener.close()
     serving, peer = equipment("-v")
     peer.send(SELECT + control(9, 2))
     same(peer.rest(), SELECTED)
-    same(serving.ended()[::2], (0, f"hsms: listening on {HERE}:{serving.port}\n"))
+    separated = ended.format("sent Separate.req")
+    same(serving.ended()[::2], (0, f"hsms: listening on {HERE}:{serving.port}\n{separated}"))
     long = b'S10F1 <A "' + 60000 * b"x" + b'"> .'
     for options, talk, why in (
         ([], lambda peer: peer.reset(), "reset it"),
@@ -766,7 +768,8 @@ def end_is_explained():
         peer.wants(SELECT)
         talk(peer)
         status, _, told = serving.ended()
-        same((status, told.split("hsms: Link\n")[0]), (3, ended.format(why)))
+        doubt = short.format(" ".join(options)) if options else ""
+        same((status, told.split("hsms: Link\n")[0]), (3, doubt + ended.format(why)))
         peer.close()
 
 
@@ -890,7 +893,8 @@ def port_is_any_free():
                 peer.send(SELECT + control(9, 2))
                 same(peer.rest(), SELECTED)
             status, log, told = serving.ended()
-            same((status, told), (0, f"hsms: listening on {HERE}:{serving.port}\n" if verbose else ""))
+            separated = "hsms: the connection ended: the peer sent Separate.req\n"
+            same((status, told), (0, f"hsms: listening on {HERE}:{serving.port}\n{separated}" if verbose else ""))
             same((log.count("up"), open(file, encoding="ascii").read()), (2 if again else 1, text))
             os.remove(file)
         port = free_port()
@@ -1255,6 +1259,7 @@ def failed_attempts_are_told_once():
     same(
         told.splitlines(),
         [
+            "hsms: --t5 50: times are in milliseconds",
             f"hsms: it tries again: {refused_by}or check --address and --port",
             "hsms: it tries again: no file descriptor is left: close some, or raise the limit (ulimit -n)",
         ],

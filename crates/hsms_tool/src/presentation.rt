@@ -46,8 +46,12 @@ impl Presentation {
             Ok(value) => value.as_str() == "1",
             Err(_) => errors_are_at_terminal,
         };
-        let is_plain = env::var(rt, "NO_COLOR").is_ok_and(|value| !value.as_str().is_empty());
-        let is_dumb = env::var(rt, "TERM").is_ok_and(|value| value.as_str() == "dumb");
+        // (the environment is read only if it matters)
+        let has_terminal = output_is_terminal || errors_are_at_terminal;
+        let is_dumb = has_terminal
+            && env::var(rt, "TERM").is_ok_and(|name| name.as_str() == "dumb");
+        let is_plain = output_is_terminal
+            && env::var(rt, "NO_COLOR").is_ok_and(|value| !value.as_str().is_empty());
         Presentation {
             is_verbose,
             is_colored: output_is_terminal && !is_plain && !is_dumb,
