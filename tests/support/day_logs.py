@@ -2,6 +2,7 @@
 
 The messages are those of `two_ends`, with the traffic of a tool: event reports, polls, commands, alarms and linktests.
 Without the slip the log passes. A slip is what goes wrong between two implementations, or in the program that logs.
+None of them is a single time that is far ahead: the lines after it fail then, and it is not named.
 """
 from dataclasses import replace
 from typing import Callable, Dict, List, NamedTuple, Optional, Tuple, Union
