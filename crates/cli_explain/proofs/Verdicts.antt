@@ -62,7 +62,7 @@ pub checked_verdict : (known : Known) (entries : Summary) (lines : List (List �
     → waiting ≡ waiting_of known.repaired_session.tracker → length lines ≤ 2 ^ 63 → MatchOption first (Tracks known entries lines) (FailsFirst lines)
     → LinesAudited lines (verdict_by first entries waiting)
 checked_verdict known entries lines waiting (Some failed) waits small after = inl (fails_exact lines failed small after)
-checked_verdict known entries lines waiting None waits small (log, placed, encoded_bytes, has, number, so_far) =
+checked_verdict known entries lines waiting None waits small (log, placed, encoded_bytes, has, number, so_far, still) =
     let few = encoding_size lines known.settings log encoded_bytes in
     let open_is = waits ∙ waiting_is known.settings log known.repaired_session.tracker has.run in (
       known.settings,
