@@ -13,7 +13,7 @@
 //! [`ObjectLines`] takes the lines of `hsms capture`, and writes an object for each.
 #![tactic(auto)]
 
-mod capture_object;
+mod connection_object;
 mod json_object;
 mod object_audit;
 mod object_lines;
@@ -21,7 +21,6 @@ mod report;
 mod test_case;
 mod xml_text;
 
-pub use capture_object::capture_object;
 pub use json_object::{log_object, unopened_object};
 pub use object_audit::write_object;
 pub use object_lines::ObjectLines;

@@ -1,6 +1,6 @@
 //! A writer of JSON objects in the place of lines.
 
-use crate::capture_object::capture_object;
+use crate::connection_object::capture_object;
 use hsms_frame::{Sink, give_all};
 use std::alloc::{AllocError, Global};
 use std::io;

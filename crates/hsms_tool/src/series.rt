@@ -84,7 +84,7 @@ pub fn capture_files<R: Clock + Eprint + Files + Input + Print>(
         Painting::Nothing
     };
     let mut sink = Writer::new(console.output(alloc, rt, painting));
-    let done = capture_series(alloc, options, &mut series, &mut sink, has_port);
+    let done = series_by(alloc, options, &mut series, &mut sink, has_port);
     console.progress.erase(rt);
     match done {
         Ok(well) => Ok(exit_status(&Ok(well))),
@@ -96,7 +96,7 @@ pub fn capture_files<R: Clock + Eprint + Files + Input + Print>(
 }
 
 // Reads files as one capture, and writes its verdicts or a log in the requested format.
-fn capture_series<'n, P: Parts<'n> + Drop, W: Sink>(
+fn series_by<'n, P: Parts<'n> + Drop, W: Sink>(
     alloc: Global,
     options: Capturing,
     series: &mut Series<'n, P>,
