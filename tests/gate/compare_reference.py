@@ -9,7 +9,8 @@
   the other end sent, none is received that was never sent, and the entries are in some order: the graph in which an entry
   follows the one before it in its log, and a received message the sent one, has no cycle. That is compared for whole
   logs, and for logs with a line that is removed, changed, doubled or swapped with the next one.
-- `hsms compare` writes of each of these pairs what the reference says of the first connections, with its status. Of
+- `hsms compare` writes of each of these pairs, and of random histories with few system bytes, most of which fail the
+  audit, what the reference says of the first connections, with its status. Of
   orders it tells the first contradiction alone, and of failed requests none if the logs contradict each other, or if one
   is of version 2 and neither end received data. It runs what `rt ci` has built, or `--program P`. With `--alone` it runs
   no program.
@@ -268,6 +269,42 @@ def commands(command):
         yield f"command: {what}", command.is_right(texts)
 
 
+# Headers without their system bytes: primaries with W, replies, a control message, its response, Reject and Separate.
+HEADERS = (
+    "000081010000", "000081010000", "000082290000", "000001020000", "0000022a0000", "000001000000", "ffff00000001",
+    "ffff00000002", "ffff00000005", "ffff00000006", "ffff00000107", "ffff00000009",
+)
+OTHERS = ("t3 00000001", "t3 00000002", "cut t6", "cut t7")
+
+
+def history(chance):
+    """Returns the logs of both ends of a random history: of each message the one that sends it comes first."""
+    lines = {
+        HOST: ["hsms-log 1 host active 0 45000 6000 10000 5000 1048576 32\n", "0 up\n"],
+        EQUIPMENT: ["hsms-log 1 equipment passive 0 30000 5000 10000 5000 1048576 32\n", "0 up\n"],
+    }
+    coming, time = {HOST: [], EQUIPMENT: []}, {HOST: 0, EQUIPMENT: 0}
+    for _ in range(chance.randrange(1, 60)):
+        end = chance.one(*ENDS)
+        time[end] = max(0, time[end] + chance.one(0, 0, 1, 40, 4999, 5000, 5001, 30_000, 45_001, -7000))
+        if coming[end] and chance.happens(0.5):
+            event = f"{chance.one('<', '<', '<', '!')} {coming[end].pop(0)}"
+        elif chance.happens(0.05):
+            event = chance.one(*OTHERS)
+        else:
+            message = f"{chance.one(*HEADERS)}{chance.randrange(1, 4):08x}"
+            coming[OTHER[end]].append(message)
+            event = f"> {message}"
+        lines[end].append(f"{time[end]} {event}\n")
+    return tuple("".join([*lines[end], *chance.one(["9999999 down\n"], [])]).encode() for end in ENDS)
+
+
+def histories(count, command):
+    """Compares the command with the reference for random histories."""
+    for seed in range(count):
+        yield f"history {seed}", command.is_right(history(Chance(f"history {seed}")))
+
+
 def conversations(count, command):
     """Yields what was tried, and whether it is well."""
     for seed in range(count):
@@ -295,6 +332,14 @@ def conversations(count, command):
         yield f"{seed}: command", all(commanded)
 
 
+def tried(count, command):
+    """Yields all that is tried, and whether it is well."""
+    yield from worked_pairs()
+    yield from commands(command)
+    yield from histories(5 * count if command.program else 0, command)
+    yield from conversations(count, command)
+
+
 def main():
     parser = argparse.ArgumentParser(description=__doc__, formatter_class=argparse.RawDescriptionHelpFormatter)
     parser.add_argument("conversations", nargs="?", type=int, default=100)
@@ -304,7 +349,7 @@ def main():
     passed = failed = 0
     with tempfile.TemporaryDirectory() as folder:
         command = Command(None if given.alone else given.program, folder)
-        for what, is_well in [*worked_pairs(), *commands(command), *conversations(given.conversations, command)]:
+        for what, is_well in tried(given.conversations, command):
             passed, failed = passed + bool(is_well), failed + (not is_well)
             if not is_well:
                 print(f"failed: {what}")

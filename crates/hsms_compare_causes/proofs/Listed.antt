@@ -41,15 +41,15 @@ module _ (sent received : List ℕ) (more : Bool) where
       sym (append-nil found) ∙ ap (λ (xs : List Entry). found ++ counterparts_from sent received more n r xs) (sym (drop_all i own le)) ∙ so
 
 module _ (own other : TracedLog) (settings : Parameters) where
-  pub failures_step : (i : ℕ) (found next : List FailedRequest) (f : Option FailedRequest) (d : Entry) → i < length own.entries.items → IsFailureAt own other settings i f → next ≡ found ++ failure_list f → ((later : List FailedRequest) → AreFailures own other settings i (drop i own.entries.items) later → AreFailures own other settings 0 own.entries.items (found ++ later)) → (later : List FailedRequest) → AreFailures own other settings (i + 1) (drop (i + 1) own.entries.items) later → AreFailures own other settings 0 own.entries.items (next ++ later)
+  pub failures_step : (i : ℕ) (found next : List FailedRequest) (f : Option FailedRequest) (d : Entry) → i < length own.entries → IsFailureAt own other settings i f → next ≡ found ++ failure_list f → ((later : List FailedRequest) → AreFailures own other settings i (drop i own.entries) later → AreFailures own other settings 0 own.entries (found ++ later)) → (later : List FailedRequest) → AreFailures own other settings (i + 1) (drop (i + 1) own.entries) later → AreFailures own other settings 0 own.entries (next ++ later)
   failures_step i found next f d lt at is before later rest =
-      let P : List FailedRequest → Type 0 = λ xs. AreFailures own other settings 0 own.entries.items xs in
+      let P : List FailedRequest → Type 0 = λ xs. AreFailures own other settings 0 own.entries xs in
       let Q : List Entry → Type 0 = λ xs. AreFailures own other settings i xs (failure_list f ++ later) in
       subst P (sym (append_assoc found (failure_list f) later) ∙ ap (λ x. x ++ later) (sym is))
-      (before (failure_list f ++ later) (subst Q (sym (drop_more own.entries.items i d lt)) (f, later, at, rest, refl)))
+      (before (failure_list f ++ later) (subst Q (sym (drop_more own.entries i d lt)) (f, later, at, rest, refl)))
 
-  pub failures_end : (i : ℕ) (found : List FailedRequest) → length own.entries.items ≤ i → ((later : List FailedRequest) → AreFailures own other settings i (drop i own.entries.items) later → AreFailures own other settings 0 own.entries.items (found ++ later)) → AreFailures own other settings 0 own.entries.items found
+  pub failures_end : (i : ℕ) (found : List FailedRequest) → length own.entries ≤ i → ((later : List FailedRequest) → AreFailures own other settings i (drop i own.entries) later → AreFailures own other settings 0 own.entries (found ++ later)) → AreFailures own other settings 0 own.entries found
   failures_end i found le before =
-      let P : List FailedRequest → Type 0 = λ xs. AreFailures own other settings 0 own.entries.items xs in
+      let P : List FailedRequest → Type 0 = λ xs. AreFailures own other settings 0 own.entries xs in
       let Q : List Entry → Type 0 = λ xs. AreFailures own other settings i xs [] in
-      subst P (append-nil found) (before [] (subst Q (sym (drop_all i own.entries.items le)) refl))
+      subst P (append-nil found) (before [] (subst Q (sym (drop_all i own.entries le)) refl))

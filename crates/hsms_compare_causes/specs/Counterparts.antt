@@ -59,8 +59,7 @@ counterparts_of own other more = counterparts_from (sent_indexes other) (receive
 
 -- Holds if this is the own log, traced by the other one, which agrees with it.
 pub record IsTracedLog (own other : ConnectionLog) (log : TracedLog) : Type 0 where
-  pub entries_so : log.entries.items ≡ own.entries.items
+  pub entries_so : log.entries ≡ own.entries.items
   pub lines_so : log.lines.items ≡ own.lines.items
   pub counterparts_so : log.counterparts.items ≡ counterparts_of own.entries.items other.entries.items other.is_open
   pub open_so : log.is_open ≡ own.is_open
-  pub no_gap : log.has_gap ≡ false

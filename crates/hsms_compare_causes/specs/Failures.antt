@@ -67,11 +67,11 @@ times_of took after = record { took = took; after = after; between = time_after 
 abbrev pub times_by : (own other : TracedLog) → ℕ → OwnOutcome → RequestTrace → RequestTimes
 times_by own other j (Rejected k) shown = record { took = None; after = None; between = None }
 times_by own other j outcome shown =
-    times_of (span_of other.entries.items shown.received shown.answered) (span_of own.entries.items (Some j) shown.reply)
+    times_of (span_of other.entries shown.received shown.answered) (span_of own.entries (Some j) shown.reply)
 
 abbrev pub discards_at : TracedLog → Option ℕ → Bool
 discards_at log None = false
-discards_at log (Some k) = is_discarded (entry_at log.entries.items k).event
+discards_at log (Some k) = is_discarded (entry_at log.entries k).event
 
 abbrev pub sends_reject : Event → Bool
 sends_reject (Sent frame) = is_reject_kind (kind_of frame.header)
@@ -79,7 +79,7 @@ sends_reject event = false
 
 abbrev pub rejects_at : TracedLog → Option ℕ → Bool
 rejects_at log None = false
-rejects_at log (Some k) = sends_reject (entry_at log.entries.items k).event
+rejects_at log (Some k) = sends_reject (entry_at log.entries k).event
 
 abbrev pub failed_with : (own other : TracedLog) → ℕ → TracedRequest → RequestTrace → FailedRequest
 failed_with own other j traced shown = record {

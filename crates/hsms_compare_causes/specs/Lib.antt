@@ -2,6 +2,7 @@ pub mod Events
 pub mod Search
 pub mod OwnOutcome
 pub mod InnerSearch
+pub mod InnerGroups
 pub mod Trace
 pub mod Counterparts
 pub mod FailureCause

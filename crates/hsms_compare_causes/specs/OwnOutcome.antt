@@ -1,5 +1,6 @@
 -- The outcome of a request by the log of the endpoint that sent it.
-use Rattle.std.specs.Prelude.{◌≡◌, ◌+◌, ◌-◌, ◌&&◌, ℕ, Bool, true, List, Option, Some, None, nat_le, nat_lt, if◌then◌else◌}
+use Rattle.std.specs.Prelude.{◌≡◌, ◌+◌, ◌-◌, ◌&&◌, ℕ, Bool, true, false, List, [], ◌∷◌, Option, Some, None, drop, nat_le, nat_lt, if◌then◌else◌}
+use Rattle.std.specs.List.{list_any}
 use Rattle.hsms_frame.specs.Header.{kind_of}
 use Rattle.hsms_frame.specs.declared.header.Header.{Header}
 use Rattle.hsms_machine.specs.declared.entry.Entry.{Entry}
@@ -38,32 +39,28 @@ is_cut_after since limit entry = is_cut_by_t6 entry.event && nat_le limit (entry
 abbrev pub is_later : ℕ → ℕ → Entry → Bool
 is_later since limit entry = nat_lt limit (entry.time - since)
 
--- True if the session has not ended before the entry at this index.
-abbrev pub is_in_session : ℕ → Option ℕ → Bool
-is_in_session i None = true
-is_in_session i (Some end) = nat_le i end
+-- The entries of the session, up to the one that ends it.
+abbrev pub session_of : List Entry → List Entry
+session_of [] = []
+session_of (entry ∷ entries) = entry ∷ (if ends_session entry.event then [] else session_of entries)
 
--- The outcome of a request that no entry closes. `cut` is the first T6 cut in or after its time, `later` the first entry
--- after its time, and `end` where the session ends.
-abbrev pub unclosed_by : (more control : Bool) (cut later end : Option ℕ) → OwnOutcome
-unclosed_by more true (Some cut) later end = Expired
-unclosed_by more control cut (Some i) end = if is_in_session i end then Overdue else (if more then Open else Ended)
-unclosed_by more control cut None end = if more then Open else Ended
+-- The outcome of a request that no entry closes: `cut` if a T6 cut follows in or after its time, and `late` if an entry of
+-- the session follows after its time.
+abbrev pub unclosed_by : (more control cut late : Bool) → OwnOutcome
+unclosed_by more true true late = Expired
+unclosed_by more control cut true = Overdue
+unclosed_by more control cut false = if more then Open else Ended
 
-pub record IsUnclosed (log : List Entry) (more : Bool) (j : ℕ) (request : Header) (limit : ℕ) (outcome : OwnOutcome) : Type 0 where
-  pub cut : Option ℕ
-  pub later : Option ℕ
-  pub end : Option ℕ
-  pub cut_so : FirstFrom (is_cut_after (entry_at log j).time limit) log (j + 1) cut
-  pub later_so : FirstFrom (is_later (entry_at log j).time limit) log (j + 1) later
-  pub end_so : FirstFrom (λ entry. ends_session entry.event) log 0 end
-  pub outcome_so : outcome ≡ unclosed_by more (is_control_request request) cut later end
+abbrev pub unclosed : List Entry → Bool → ℕ → Header → ℕ → OwnOutcome
+unclosed log more j request limit =
+    unclosed_by more (is_control_request request) (list_any (is_cut_after (entry_at log j).time limit) (drop (j + 1) log))
+    (list_any (is_later (entry_at log j).time limit) (drop (j + 1) (session_of log)))
 
 -- ---- all
 
 abbrev pub IsClosedBy : List Entry → Bool → ℕ → Header → ℕ → OwnOutcome → Option ℕ → Type 0
 IsClosedBy log more j request limit outcome (Some k) = outcome ≡ closed_by limit k (time_between log j k) (entry_at log k).event
-IsClosedBy log more j request limit outcome None = IsUnclosed log more j request limit outcome
+IsClosedBy log more j request limit outcome None = outcome ≡ unclosed log more j request limit
 
 -- The outcome of the request that the entry at j sends, by the first entry that closes it. If `more`, the connection may
 -- have more entries.

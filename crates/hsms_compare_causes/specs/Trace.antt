@@ -24,19 +24,19 @@ index_of counterpart = None
 -- The first entry of the other log that sends an answer or a Reject, after the one at b that receives the request.
 abbrev pub IsConclusion : TracedLog → Header → (b m : Option ℕ) → Type 0
 IsConclusion other request None m = m ≡ None
-IsConclusion other request (Some b) m = FirstFrom (λ entry. closes_taken request entry.event) other.entries.items (b + 1) m
+IsConclusion other request (Some b) m = FirstFrom (λ entry. closes_taken request entry.event) other.entries (b + 1) m
 
 -- The own entry that receives what the other log's entry at m sends. If the other log sends no answer: the first own
 -- entry after the request that receives one.
 abbrev pub IsReply : (own other : TracedLog) → ℕ → Header → (m a : Option ℕ) → Type 0
 IsReply own other j request (Some m) a = a ≡ index_of (counterpart_at other m)
-IsReply own other j request None a = FirstFrom (λ entry. answers_by request entry.event) own.entries.items (j + 1) a
+IsReply own other j request None a = FirstFrom (λ entry. answers_by request entry.event) own.entries (j + 1) a
 
 -- The first entry of the other log after b that ends the session or the connection, if it sends no answer.
 abbrev pub IsConnectionEnd : TracedLog → (b m e : Option ℕ) → Type 0
 IsConnectionEnd other None m e = e ≡ None
 IsConnectionEnd other (Some b) (Some m) e = e ≡ None
-IsConnectionEnd other (Some b) None e = FirstFrom (λ entry. ends_connection entry.event) other.entries.items (b + 1) e
+IsConnectionEnd other (Some b) None e = FirstFrom (λ entry. ends_connection entry.event) other.entries (b + 1) e
 
 -- Holds if these entries belong to the request that the own entry at j sends.
 pub record IsTrace (own other : TracedLog) (j : ℕ) (request : Header) (trace : RequestTrace) : Type 0 where

@@ -1,7 +1,7 @@
 //! The cause of a failed request, by what both logs have of it.
 
 ghost use Rattle.std.specs.Prelude.{◌≡◌};
-ghost use Rattle.hsms_compare_causes.specs.FailureCause.{cause_by, cause_by_times, cause_of_trace, cause_without_answer, cause_without_reply, cause_without_request, cause_without_sender};
+ghost use Rattle.hsms_compare_causes.specs.FailureCause.{cause_by, cause_by_times, cause_of_trace, cause_without_answer, cause_without_reply, cause_without_request};
 
 use crate::failure_cause::FailureCause;
 use crate::own_outcome::OwnOutcome;
@@ -50,7 +50,7 @@ fn of_trace(
     }
     let Some(answered) = trace.answered else {
         return match trace.reply {
-            Some(reply) => without_sender(other.has_gap, own.matched(reply)),
+            Some(_) => FailureCause::Unknown,
             None => without_answer(other, limit, received, trace.ended),
         };
     };
@@ -67,26 +67,10 @@ fn without_request(request: Counterpart, reply: Option<usize>) -> FailureCause
 {
     match request {
         Counterpart::At(_) => FailureCause::Unknown,
-        Counterpart::Missing => FailureCause::RequestSkipped,
         Counterpart::NotReached => match reply {
             Some(_) => FailureCause::RequestSkipped,
             None => FailureCause::RequestMissing,
         },
-        Counterpart::Undecided => FailureCause::Unknown,
-    }
-}
-
-/// Returns the cause if the own log has an answer, but the other log sends none after the request.
-fn without_sender(has_gap: bool, reply: Counterpart) -> FailureCause
-    ensures { result ≡ cause_without_sender has_gap reply }
-{
-    if has_gap {
-        return FailureCause::Unknown;
-    }
-    match reply {
-        Counterpart::At(_) => FailureCause::Unknown,
-        Counterpart::Missing => FailureCause::ReplyUnsent,
-        Counterpart::NotReached => FailureCause::Unknown,
         Counterpart::Undecided => FailureCause::Unknown,
     }
 }
@@ -100,9 +84,6 @@ fn without_answer(
 ) -> FailureCause
     ensures { result ≡ cause_without_answer other.now limit received ended }
 {
-    if other.has_gap {
-        return FailureCause::Unknown;
-    }
     let entries = other.entries.as_slice();
     let last = match ended {
         Some(end) => end,
@@ -143,7 +124,6 @@ fn without_reply(limit: u64, took: u64, answer: Counterpart) -> FailureCause
     }
     match answer {
         Counterpart::At(_) => FailureCause::Unknown,
-        Counterpart::Missing => FailureCause::ReplySkipped,
         Counterpart::NotReached => FailureCause::ReplyMissing,
         Counterpart::Undecided => FailureCause::Unknown,
     }

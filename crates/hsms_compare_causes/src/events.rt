@@ -5,6 +5,7 @@ ghost use Rattle.hsms_frame.specs.Header.{kind_of};
 ghost use Rattle.hsms_machine.specs.Message.{is_data_request as opens_data_transaction, is_control_request as opens_control_transaction, is_request, is_reject_kind, separates as is_separation};
 ghost use Rattle.hsms_machine.specs.Session.{ends_session as is_session_end};
 ghost use Rattle.hsms_machine.specs.Transaction.{closes_sent as is_closing, closes_taken as is_conclusion};
+ghost use Rattle.hsms_compare_causes.specs.InnerGroups.{system_of as system_by};
 ghost use Rattle.hsms_compare_causes.specs.Events.{answers_by, is_answer as is_answer_to, ends_connection as is_connection_end, is_discarded as is_discarding, is_received as is_receipt, is_sent as is_sending, is_cut_by_t6 as is_t6, request_if, request_of};
 
 use hsms_frame::{Header, Kind, kind};
@@ -61,6 +62,21 @@ pub fn sent_request(event: &Event) -> Option<Header>
         Event::Discarded(_) => None,
         Event::Up => None,
         Event::T3(_) => None,
+        Event::Cut(_) => None,
+        Event::Down => None,
+    }
+}
+
+/// Returns the system bytes of an event.
+pub fn system_of(event: &Event) -> Option<u32>
+    ensures { result ≡ system_by event.now }
+{
+    match event {
+        Event::Sent(frame) => Some(frame.header.system),
+        Event::Taken(frame) => Some(frame.header.system),
+        Event::Discarded(frame) => Some(frame.header.system),
+        Event::Up => None,
+        Event::T3(system) => Some(*system),
         Event::Cut(_) => None,
         Event::Down => None,
     }

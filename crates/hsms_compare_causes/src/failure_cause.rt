@@ -5,14 +5,12 @@
 pub enum FailureCause {
     /// The other endpoint sent a Reject.
     Rejected,
-    /// The other log lacks the request, but has a later message, or the own log has an answer.
+    /// The other log lacks the request, but the own log has an answer.
     RequestSkipped,
     /// The other log has neither the request nor what was sent after it.
     RequestMissing,
     /// The other endpoint discarded the request.
     Discarded,
-    /// The own log has an answer that the other log does not send.
-    ReplyUnsent,
     /// The other endpoint ended the session or the connection before the limit.
     Ended,
     /// The other endpoint accepted the request and sent no answer.
@@ -25,8 +23,6 @@ pub enum FailureCause {
     Peer,
     /// The answer was received too late, and most of the time passed between both logs.
     Between,
-    /// The own log lacks the answer, but has a later message.
-    ReplySkipped,
     /// The own log has neither the answer nor what was sent after it.
     ReplyMissing,
     /// The logs do not decide it.

@@ -27,10 +27,10 @@ pub fn failures_of(
     other: &TracedLog,
     settings: &Settings,
 ) -> Result<Vec<FailedRequest>, AllocError>
-    ensures { IfOk result (λ found. AreFailures own.now other.now settings.now 0 own.now.entries.items found.items) }
+    ensures { IfOk result (λ found. AreFailures own.now other.now settings.now 0 own.now.entries found.items) }
 {
     let mut found = Vec::new(alloc);
-    for i in 0..own.entries.len() {
+    for i in 0..own.entries.as_slice().len() {
         push_some(&mut found, failure_at(own, other, i, settings))?;
     }
     Ok(found)
@@ -161,13 +161,11 @@ fn ended(cause: FailureCause, index: Option<usize>) -> Option<usize>
         FailureCause::RequestSkipped => None,
         FailureCause::RequestMissing => None,
         FailureCause::Discarded => None,
-        FailureCause::ReplyUnsent => None,
         FailureCause::Unanswered => None,
         FailureCause::InTime => None,
         FailureCause::AnsweredLate => None,
         FailureCause::Peer => None,
         FailureCause::Between => None,
-        FailureCause::ReplySkipped => None,
         FailureCause::ReplyMissing => None,
         FailureCause::Unknown => None,
     }

@@ -1,12 +1,13 @@
 //! The outcome of a request, by the entries after it.
 
-ghost use Rattle.std.specs.Prelude.{◌≡◌, ◌+◌, ◌<◌, length};
+ghost use Rattle.std.specs.Prelude.{◌≡◌, ◌-◌, is_some, nat_lt};
 ghost use Rattle.hsms_machine.specs.Entry.{entry_at};
-ghost use Rattle.hsms_compare_causes.specs.OwnOutcome.{IsOwnOutcome, IsUnclosed, answered_at, closed_by as is_closed_by, is_in_session as is_entry_in_session, limit_of as limit_by, unclosed_by};
+ghost use Rattle.hsms_compare_causes.specs.OwnOutcome.{IsOwnOutcome, answered_at, closed_by as is_closed_by, limit_of as limit_by, unclosed as is_unclosed, unclosed_by};
 
 use crate::events::{is_control_request, is_reject};
+use crate::indexed_log::IndexedLog;
 use crate::own_outcome::OwnOutcome;
-use crate::search::{first_after, first_from, time_at, time_from};
+use crate::search::{time_at, time_from};
 use crate::traced_log::TracedLog;
 use crate::wanted::Wanted;
 use hsms_frame::Header;
@@ -25,15 +26,15 @@ pub fn limit_of(settings: &Settings, request: Header) -> u64
 
 /// Returns the outcome of the request that the entry at an index sends.
 pub fn own_outcome(log: &TracedLog, index: usize, request: Header, limit: u64) -> OwnOutcome
-    ensures { IsOwnOutcome log.now.entries.items log.now.is_open index request limit result }
+    ensures { IsOwnOutcome log.now.entries log.now.is_open index request limit result }
 {
     let entries = log.entries.as_slice();
-    match first_after(entries, index, Wanted::Closing(request)) {
+    match log.entries.first_after(index, Wanted::Closing(request)) {
         Some(closing) => {
             let after = time_from(entries, index, closing);
             closed_by(limit, closing, after, &entries[closing].event)
         }
-        None => unclosed(entries, log.is_open, index, request, limit),
+        None => unclosed(&log.entries, log.is_open, index, request, limit),
     }
 }
 
@@ -68,53 +69,38 @@ fn answered(limit: u64, reply: usize, after: u64) -> OwnOutcome
 
 /// Returns the outcome of a request that no entry closes.
 fn unclosed(
-    entries: &[Entry],
+    entries: &IndexedLog,
     is_open: bool,
     index: usize,
     request: Header,
     limit: u64,
 ) -> OwnOutcome
-    ensures { IsUnclosed entries.now is_open index request limit result }
+    ensures { result ≡ is_unclosed entries.now is_open index request limit }
 {
-    let since = time_at(entries, index);
-    let cut = first_after(entries, index, Wanted::Cut { since, limit });
-    let later = first_after(entries, index, Wanted::Past { since, limit });
-    let end = first_from(entries, 0, Wanted::SessionEnd);
-    outcome_by(is_open, is_control_request(request), cut, later, end)
+    let since = time_at(entries.as_slice(), index);
+    let cut = entries.first_after(index, Wanted::Cut { since, limit });
+    let is_late = is_later(entries.latest_after(index), since, limit);
+    outcome_by(is_open, is_control_request(request), cut, is_late)
 }
 
-fn outcome_by(
-    is_open: bool,
-    is_control: bool,
-    cut: Option<usize>,
-    later: Option<usize>,
-    end: Option<usize>,
-) -> OwnOutcome
-    ensures { result ≡ unclosed_by is_open is_control cut later end }
+/// Returns whether a time is later than the limit after another one.
+fn is_later(time: u64, since: u64, limit: u64) -> bool
+    ensures { result ≡ nat_lt limit (time - since) }
+{
+    limit < time.saturating_sub(since)
+}
+
+fn outcome_by(is_open: bool, is_control: bool, cut: Option<usize>, is_late: bool) -> OwnOutcome
+    ensures { result ≡ unclosed_by is_open is_control (is_some cut) is_late }
 {
     if is_control && cut.is_some() {
         return OwnOutcome::Expired;
     }
-    match later {
-        Some(index) => {
-            if is_in_session(index, end) {
-                return OwnOutcome::Overdue;
-            }
-        }
-        None => {}
+    if is_late {
+        return OwnOutcome::Overdue;
     }
     if is_open {
         return OwnOutcome::Open;
     }
     OwnOutcome::Ended
-}
-
-/// Returns whether the session has not ended before the entry at an index.
-fn is_in_session(index: usize, end: Option<usize>) -> bool
-    ensures { result ≡ is_entry_in_session index end }
-{
-    match end {
-        Some(end) => index <= end,
-        None => true,
-    }
 }

@@ -1,14 +1,12 @@
 //! The log of one connection, and what the other log has of its frames.
 
-use hsms_machine::Entry;
+use crate::indexed_log::IndexedLog;
 
 /// What the other log has of the frame that an entry sends or receives.
 #[derive(Clone, Copy, Debug, PartialEq, Eq)]
 pub enum Counterpart {
     /// The frame is in the other log, at the entry with this index.
     At(usize),
-    /// The other log lacks the frame: it receives one that was sent later, or it never sends this one.
-    Missing,
     /// The connection of the other log has ended, and it receives neither the frame nor one that was sent later.
     NotReached,
     /// The logs do not decide it, or the entry has no frame.
@@ -25,7 +23,6 @@ impl Counterpart {
     {
         match self {
             Counterpart::At(index) => Some(index),
-            Counterpart::Missing => None,
             Counterpart::NotReached => None,
             Counterpart::Undecided => None,
         }
@@ -35,15 +32,13 @@ impl Counterpart {
 /// The entries that an endpoint logs of one connection, and what the other endpoint's log has of their frames.
 #[derive(Drop)]
 pub struct TracedLog {
-    pub entries: Vec<Entry>,
+    pub entries: IndexedLog,
     /// Of each entry, its line number.
     pub lines: Vec<u64>,
     /// Of each entry, the counterpart of its frame.
     pub counterparts: Vec<Counterpart>,
     /// Whether the connection may have more entries.
     pub is_open: bool,
-    /// Whether a part of the entries may be missing.
-    pub has_gap: bool,
 }
 
 impl TracedLog {

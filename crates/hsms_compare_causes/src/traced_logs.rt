@@ -1,8 +1,11 @@
 //! The logs of both endpoints of a connection, traced.
 
+ghost use Rattle.std.specs.Prelude.{◌≡◌, IfOk};
+
 use crate::connection_log::ConnectionLog;
 use crate::counterparts::counterparts;
-use crate::traced_log::TracedLog;
+use crate::indexed_log::IndexedLog;
+use crate::traced_log::{Counterpart, TracedLog};
 use std::alloc::{AllocError, Global};
 
 /// The logs of both endpoints of a connection, traced.
@@ -33,20 +36,33 @@ impl TracedLogs {
         let of_host = counterparts(alloc, &host, &equipment)?;
         let of_equipment = counterparts(alloc, &equipment, &host)?;
         Ok(TracedLogs {
-            host: TracedLog {
-                entries: host.entries,
-                lines: host.lines,
-                counterparts: of_host,
-                is_open: host.is_open,
-                has_gap: false,
-            },
-            equipment: TracedLog {
-                entries: equipment.entries,
-                lines: equipment.lines,
-                counterparts: of_equipment,
-                is_open: equipment.is_open,
-                has_gap: false,
-            },
+            host: traced(alloc, host, of_host)?,
+            equipment: traced(alloc, equipment, of_equipment)?,
         })
     }
+}
+
+/// Returns a log with these counterparts of its entries.
+fn traced(
+    alloc: Global,
+    log: ConnectionLog,
+    counterparts: Vec<Counterpart>,
+) -> Result<TracedLog, AllocError>
+    ensures entries { IfOk result (λ traced. traced.entries ≡ log.entries.items) }
+    ensures lines { IfOk result (λ traced. traced.lines.items ≡ log.lines.items) }
+    ensures counterparts { IfOk result (λ traced. traced.counterparts.items ≡ counterparts.items) }
+    ensures more { IfOk result (λ traced. traced.is_open ≡ log.is_open) }
+{
+    let ConnectionLog {
+        entries,
+        lines,
+        is_open,
+    } = log;
+    let entries = IndexedLog::of(alloc, entries)?;
+    Ok(TracedLog {
+        entries,
+        lines,
+        counterparts,
+        is_open,
+    })
 }

@@ -37,10 +37,11 @@ impl TracedRequest {
     ) -> Option<TracedRequest>
         ensures { MatchOption result (request_at own.now index ≡ None) (IsTraced own.now other.now index settings.now) }
     {
-        if index >= own.entries.len() {
+        let log = own.entries.as_slice();
+        if index >= log.len() {
             return None;
         }
-        let request = sent_request(&own.entries[index].event)?;
+        let request = sent_request(&log[index].event)?;
         let limit = limit_of(settings, request);
         let outcome = own_outcome(own, index, request, limit);
         let entries = trace(own, other, index, request);

@@ -7,7 +7,6 @@ ghost use Rattle.hsms_compare_causes.specs.Trace.{IsConclusion, IsConnectionEnd,
 
 use crate::events::is_discarded;
 use crate::request_trace::RequestTrace;
-use crate::search::first_after;
 use crate::traced_log::TracedLog;
 use crate::wanted::Wanted;
 use hsms_frame::Header;
@@ -32,7 +31,9 @@ fn conclusion(other: &TracedLog, received: Option<usize>, request: Header) -> Op
     ensures { IsConclusion other.now request received result }
 {
     match received {
-        Some(index) => first_after(other.entries.as_slice(), index, Wanted::Conclusion(request)),
+        Some(index) => other
+            .entries
+            .first_after(index, Wanted::Conclusion(request)),
         None => None,
     }
 }
@@ -49,7 +50,7 @@ fn reply(
 {
     match answered {
         Some(answer) => other.matched(answer).index(),
-        None => first_after(own.entries.as_slice(), index, Wanted::Reply(request)),
+        None => own.entries.first_after(index, Wanted::Reply(request)),
     }
 }
 
@@ -65,7 +66,7 @@ fn connection_end(
     match received {
         Some(index) => match answered {
             Some(_) => None,
-            None => first_after(other.entries.as_slice(), index, Wanted::ConnectionEnd),
+            None => other.entries.first_after(index, Wanted::ConnectionEnd),
         },
         None => None,
     }

@@ -20,7 +20,7 @@ of_entries block left max count ended down followed up kept verdict more found i
 
 pub log_of_entries : (block : List ℕ) (left : Option (List ℕ)) (max count : ℕ) (ended down followed : Bool) (up : Option ℕ) (kept : LogRecord) (more : Bool) (found : List Line)
     → more ≡ (not followed && not down) → ReadsEntries block left max count ended None down followed up kept found
-    → IsLogOf (connection_of found) (is_open_connection found) (record { entries = kept.entries.entries; lines = kept.entries.lines; is_open = more })
+    → IsLogOf (connection_of found) (is_open_connection found) (record { entries = kept.entries; lines = kept.lines; is_open = more })
 log_of_entries block left max count ended down followed up kept more found is (up_is, done, rest, e, f, (lines_is, more_is, others_is)) =
     let P : List Line → Type 0 = λ x. HasRecordOf x kept in
     let all = subst P (sym (e ∙ ap (λ l. done ++ l) lines_is ∙ append-nil done)) f in

@@ -22,8 +22,8 @@ pub record HaveFailures (host equipment : ConnectionLog) (s t : Parameters) (fai
   pub equipment_log : TracedLog
   pub host_so : IsTracedLog host equipment host_log
   pub equipment_so : IsTracedLog equipment host equipment_log
-  pub of_host_so : AreFailures host_log equipment_log s 0 host_log.entries.items failures.of_host.items
-  pub of_equipment_so : AreFailures equipment_log host_log t 0 equipment_log.entries.items failures.of_equipment.items
+  pub of_host_so : AreFailures host_log equipment_log s 0 host_log.entries failures.of_host.items
+  pub of_equipment_so : AreFailures equipment_log host_log t 0 equipment_log.entries failures.of_equipment.items
 
 -- Holds if these are the failed requests, or none if the logs do not decide it.
 abbrev pub AreFailuresIf : Bool → (host equipment : ConnectionLog) → (s t : Parameters) → PairFailures → Type 0

@@ -138,17 +138,16 @@ impl<R: Source + Drop> LogEntries<R> {
         } = log;
         drop(next);
         let verdict = reader.finish(alloc)?;
-        let LogRecord { frames, entries } = kept;
+        let LogRecord {
+            frames,
+            entries,
+            lines,
+        } = kept;
         let LogFrames {
             sent,
             received,
             is_open: _,
         } = frames;
-        let ConnectionLog {
-            entries,
-            lines,
-            is_open: _,
-        } = entries;
         let frames = LogFrames {
             sent,
             received,

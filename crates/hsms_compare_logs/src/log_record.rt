@@ -1,7 +1,6 @@
 //! What is kept of the entries of a connection.
 
 use hsms_compare::NumberedEntry;
-use hsms_compare_causes::ConnectionLog;
 use hsms_compare_repair::LogFrames;
 use hsms_frame::Frame;
 use hsms_machine::{Entry, Event};
@@ -11,7 +10,9 @@ use std::alloc::{AllocError, Global};
 #[derive(Drop)]
 pub struct LogRecord {
     pub frames: LogFrames,
-    pub entries: ConnectionLog,
+    pub entries: Vec<Entry>,
+    /// Of each entry, its line number.
+    pub lines: Vec<u64>,
 }
 
 impl LogRecord {
@@ -26,11 +27,8 @@ impl LogRecord {
     {
         LogRecord {
             frames: LogFrames::new(alloc, false),
-            entries: ConnectionLog {
-                entries: Vec::new(alloc),
-                lines: Vec::new(alloc),
-                is_open: false,
-            },
+            entries: Vec::new(alloc),
+            lines: Vec::new(alloc),
         }
     }
 
@@ -40,8 +38,8 @@ impl LogRecord {
             → HasRecordOf (lines ++ line_of next.now ∷ []) self.new) }
     {
         self.frames.add(alloc, next.position, &next.entry.event)?;
-        self.entries.entries.push(bare_entry(alloc, &next.entry))?;
-        self.entries.lines.push(next.position)?;
+        self.entries.push(bare_entry(alloc, &next.entry))?;
+        self.lines.push(next.position)?;
         Ok(())
     }
 }

@@ -8,7 +8,7 @@ returns c lines h =
     record {
       frames = c.in_ok-add.ensures.added lines c.args.next.now.entry.time h.frames;
       entries = record {
-        entries_so = entries_more lines line c.args.self.now.entries.entries.items _ c.bare_entry.result h.entries.entries_so c.in_ok-push.ensures.items c.bare_entry.ensures;
-        lines_so = lines_more lines line c.args.self.now.entries.lines.items _ h.entries.lines_so c.in_ok-push-2.ensures.items;
+        entries_so = entries_more lines line c.args.self.now.entries.items _ c.bare_entry.result h.entries.entries_so c.in_ok-push.ensures.items c.bare_entry.ensures;
+        lines_so = lines_more lines line c.args.self.now.lines.items _ h.entries.lines_so c.in_ok-push-2.ensures.items;
       };
     }
