@@ -1,21 +1,18 @@
 #!/usr/bin/env python3
-"""Runs commands at a pseudo-terminal: colors of failures and headings, and the line that shows the progress.
+"""Runs commands at a pseudo-terminal: colors of failures and headings.
 
 A colored line is the line without color between two sequences, by its first word; nothing else changes. In a pipe there
-is no color, unless `--color always` asks for it. The progress is shown after a second, and erased at the end, before an
-error, and before output to the same terminal; a run is stopped for a second so that it takes that long.
+is no color, unless `--color always` asks for it.
 
 It runs what `rt ci` has built, or the given program. The last line is `N passed, M failed`.
 """
 import os
 import pty
 import re
-import signal
 import subprocess
 import sys
 import tempfile
 import termios
-import time
 
 sys.dont_write_bytecode = True
 sys.path.insert(0, os.path.abspath(f"{__file__}/../../.."))
@@ -45,8 +42,8 @@ UNMARKED = [
 ]
 
 
-def run(words, more=(), env=None, out=True, err=False, is_stopped=False):
-    """The status of a run, and what it writes: a terminal is standard output, standard error, or both."""
+def run(words, more=(), env=None):
+    """The status of a run, and what it writes to standard output, which is a terminal."""
     terminal, end = pty.openpty()
     settings = termios.tcgetattr(end)
     settings[1] &= ~termios.OPOST
@@ -55,15 +52,9 @@ def run(words, more=(), env=None, out=True, err=False, is_stopped=False):
     changed = {name: value for name, value in {**os.environ, **plain, **(env or {})}.items() if value is not None}
     process = subprocess.Popen(
         [PROGRAM, *words, *more], cwd=TOP, stdin=subprocess.DEVNULL, env=changed,
-        stdout=end if out else subprocess.DEVNULL, stderr=end if err else subprocess.DEVNULL,
+        stdout=end, stderr=subprocess.DEVNULL,
     )
     os.close(end)
-    if is_stopped:
-        while process.poll() is None and octets_read(process.pid) < 60_000:
-            time.sleep(0.001)
-        process.send_signal(signal.SIGSTOP)
-        time.sleep(1.2)
-        process.send_signal(signal.SIGCONT)
     told = b""
     try:
         while part := os.read(terminal, 65536):
@@ -73,12 +64,6 @@ def run(words, more=(), env=None, out=True, err=False, is_stopped=False):
         pass
     os.close(terminal)
     return process.wait(LONGEST_RUN), told.decode()
-
-
-def octets_read(pid):
-    """How many bytes a process has read."""
-    with open(f"/proc/{pid}/io", encoding="ascii") as file:
-        return int(file.readline().split()[1])
 
 
 def piped(words, more=(), env=None):
@@ -143,63 +128,10 @@ def names(room):
     yield "a file named --color", (ran.returncode, ran.stderr), (2, b"hsms: Open file=--color\n")
 
 
-def long_log(path, megabytes):
-    """A log that passes, of about this size."""
-    pair = "%d > 000081010000%08x\n%d < 000001020000%08x\n"
-    with open(path, "w", encoding="ascii") as file:
-        file.write("hsms-log 1 host active 0 45000 6000 10000 5000 1048576 32\n0 up\n")
-        file.write("0 > ffff0000000100000001\n0 < ffff0000000200000001\n")
-        number = 2
-        while file.tell() < megabytes << 20:
-            block = [pair % (1, at, 1, at) for at in range(number, number + 10000)]
-            number += 10000
-            file.write("".join(block))
-
-
-SHOWN = r"\rhsms: \d+ %, \d+\.\d MB/s, \d+ s left\x1b\[K"
-
-
-def slowed(words, out=False, more=()):
-    """A run that is stopped for more than a second once it has begun, so that its work takes that long."""
-    return run(words, more, out=out, err=True, is_stopped=True)
-
-
-def progress(room):
-    log, short = f"{room}/long.log", f"{room}/short.log"
-    long_log(log, 256)
-    long_log(short, 4)
-    for words in (["audit", log], ["explain", log, "--only", "failures"], ["audit", "--format=json", log]):
-        told = slowed(words)[1]
-        called = " ".join(words[:2])
-        yield f"shown and erased: {called}", re.fullmatch(f"({SHOWN})+{re.escape(ERASED)}", told) is not None, True
-        shares = [int(it) for it in re.findall(r"(\d+) %", told)]
-        yield f"shares rise: {called}", (shares == sorted(shares), all(0 <= it <= 100 for it in shares)), (True, True)
-        yield f"off: {called}", re.search("MB/s", slowed(words, more=["--no-progress"])[1]), None
-    told = slowed(["audit", log], out=True)[1]
-    line = re.escape(BOLD) + "pass [^\n]*" + re.escape(PLAIN) + "\n"
-    yield "erased before output", re.fullmatch(f"({SHOWN})+{re.escape(ERASED)}{line}", told) is not None, True
-    told = slowed(["explain", short], out=True)[1]
-    between = re.split(f"(?:{SHOWN})+", told)
-    yield "erased before each output", all(it.startswith(ERASED) for it in between[1:]), True
-    plain = re.sub(re.escape(ERASED), "", "".join(between))
-    yield "output stays", plain == marked(["explain"], piped(["explain", short])[1]), True
-    cut = f"{room}/cut.bin"
-    with open(cut, "wb") as file:
-        file.write(10_000_000 * bytes.fromhex("0000000affff0000000500000001") + bytes(3))
-    status, told = slowed(["show", cut])
-    error = re.escape(f"{ERASED}hsms: CutOff file={cut}\nthe input ends inside a message\n")
-    yield "erased before an error", (status, re.fullmatch(f"({SHOWN})+{error}", told) is not None), (2, True)
-    yield "none in a pipe", subprocess.run(
-        [PROGRAM, "audit", log], capture_output=True, timeout=LONGEST_RUN
-    ).stderr, b""
-    yield "none for a short file", run(["audit", LATE], out=False, err=True), (1, "")
-
-
 def tries():
     yield from colors()
-    for part in (names, progress):
-        with tempfile.TemporaryDirectory() as room:
-            yield from part(room)
+    with tempfile.TemporaryDirectory() as room:
+        yield from names(room)
 
 
 if __name__ == "__main__":

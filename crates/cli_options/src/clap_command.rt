@@ -20,8 +20,7 @@ macro_rules! help {
     ($($text:literal)?) => {
         concat!(
             "  -v, --verbose  Explain errors: what happened, and what to do\n",
-            "  --color WHEN   Colors: auto (at a terminal, unless NO_COLOR is set), always or never [default: auto]\n",
-            "  --no-progress  Do not show at a terminal how much of a file is read"
+            "  --color WHEN   Colors: auto (at a terminal, unless NO_COLOR is set), always or never [default: auto]"
             $(, "\n\n", $text)?
         )
     };

@@ -12,11 +12,10 @@ use hsms_frame::{Reader, Sink, Writer, give_all};
 use std::alloc::Global;
 use std::fs::Files;
 use std::io::Read;
-use std::time::Clock;
 
 /// Audits logs, one after another. If there are several, each line has the name of its file, and the last line the
 /// counts. If only failing logs are written, the line of a file has its name. Returns the status.
-pub fn audit_each<R: Clock + Eprint + Files + Input + Print>(
+pub fn audit_each<R: Eprint + Files + Input + Print>(
     alloc: Global,
     rt: &R,
     files: &[&str],
@@ -37,7 +36,7 @@ pub fn audit_each<R: Clock + Eprint + Files + Input + Print>(
 }
 
 // Audits the log in a file. If the file cannot be opened, reports that, and counts it.
-fn audit_file<R: Clock + Eprint + Files + Input, W: Sink>(
+fn audit_file<R: Eprint + Files + Input, W: Sink>(
     alloc: Global,
     rt: &R,
     name: &str,
@@ -46,12 +45,10 @@ fn audit_file<R: Clock + Eprint + Files + Input, W: Sink>(
     sink: &mut W,
     console: &Console,
 ) -> Result<(), Failure> {
-    console.progress.begin(rt);
-    match open_input(alloc, rt, name, console) {
+    match open_input(alloc, rt, name, console.is_verbose) {
         Ok(input) => {
             let label = is_named.then_some(name);
             let done = audit_input(alloc, rt, label, input, report, sink, console);
-            console.progress.erase(rt);
             done.map_err(|failure| failure.of_file(alloc, name))
         }
         Err(failure) => {
@@ -66,7 +63,7 @@ fn audit_file<R: Clock + Eprint + Files + Input, W: Sink>(
 }
 
 // Audits the log in an input. If errors are explained and a line cannot be read, writes why.
-fn audit_input<R: Clock + Eprint, I: Read + Drop, W: Sink>(
+fn audit_input<R: Eprint, I: Read + Drop, W: Sink>(
     alloc: Global,
     rt: &R,
     label: Option<&str>,
@@ -82,7 +79,6 @@ fn audit_input<R: Clock + Eprint, I: Read + Drop, W: Sink>(
     }
     let mut lines = KeptLines::new(alloc, input);
     let verdict = report.audit(alloc, label, &mut Reader::new(&mut lines), sink)?;
-    console.progress.erase(rt);
     if let Some(words) = lines.words_for(alloc, verdict) {
         let _ = match label {
             Some(name) => eprintln!(rt; "{name}: {words}"),
@@ -93,7 +89,7 @@ fn audit_input<R: Clock + Eprint, I: Read + Drop, W: Sink>(
 }
 
 /// Writes a report on the logs in files, by default on the log on standard input. Returns the status.
-pub fn report_each<R: Clock + Eprint + Files + Input + Print>(
+pub fn report_each<R: Eprint + Files + Input + Print>(
     alloc: Global,
     rt: &R,
     form: ReportForm,
@@ -114,7 +110,7 @@ pub fn report_each<R: Clock + Eprint + Files + Input + Print>(
 }
 
 // Reports on the log in a file. If the file cannot be opened, reports that.
-fn report_file<R: Clock + Eprint + Files + Input, W: Sink>(
+fn report_file<R: Eprint + Files + Input, W: Sink>(
     alloc: Global,
     rt: &R,
     name: &str,
@@ -122,11 +118,9 @@ fn report_file<R: Clock + Eprint + Files + Input, W: Sink>(
     sink: &mut W,
     console: &Console,
 ) -> Result<(), Failure> {
-    console.progress.begin(rt);
-    match open_input(alloc, rt, name, console) {
+    match open_input(alloc, rt, name, console.is_verbose) {
         Ok(input) => {
             let done = report.audit(alloc, name, buffered(alloc, input)?, sink);
-            console.progress.erase(rt);
             done.map_err(|error| Failure::from(error).of_file(alloc, name))
         }
         Err(failure) => {

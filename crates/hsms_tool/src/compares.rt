@@ -10,7 +10,6 @@ use hsms_frame::{Reader, Sink, Writer};
 use std::alloc::Global;
 use std::fs::Files;
 use std::io::Read;
-use std::time::Clock;
 
 /// Compares the logs in two files, and writes the comparison. Returns the status.
 ///
@@ -18,7 +17,7 @@ use std::time::Clock;
 ///
 /// Returns the error of an invalid command line if there are not two files, or both are standard input, that of a file
 /// that cannot be opened, or that of the comparison.
-pub fn compare_files<R: Clock + Eprint + Files + Input + Print>(
+pub fn compare_files<R: Eprint + Files + Input + Print>(
     alloc: Global,
     rt: &R,
     files: &[&str],
@@ -32,12 +31,10 @@ pub fn compare_files<R: Clock + Eprint + Files + Input + Print>(
         return Err(Failure::from(no_request(alloc)));
     }
     check_standard(rt, files)?;
-    console.progress.begin(rt);
-    let one = open_input(alloc, rt, first, console)?;
-    let other = open_input(alloc, rt, second, console)?;
+    let one = open_input(alloc, rt, first, console.is_verbose)?;
+    let other = open_input(alloc, rt, second, console.is_verbose)?;
     let mut sink = Writer::new(console.output(alloc, rt, Painting::Verdicts));
     let agree = compare_inputs(alloc, one, other, &mut sink);
-    console.progress.erase(rt);
     Ok(exit_status(&Ok(agree?)))
 }
 

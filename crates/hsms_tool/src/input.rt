@@ -1,7 +1,5 @@
 //! The input of a command: standard input, or a file.
 
-use crate::presentation::Console;
-use crate::progress::Counted;
 use cli_advice::{Failure, open_words};
 use cli_options::{ToolFault, refusal};
 use std::alloc::Global;
@@ -29,17 +27,9 @@ impl<S, F: OpenFile> Opened<S, F> {
     pub fn is_regular(&self) -> bool {
         match self {
             Opened::Standard(_) => false,
-            Opened::File(file) => file.metadata().is_ok_and(|found| found.is_file()),
-        }
-    }
-
-    // Returns the number of bytes of a regular file, and 0 of others.
-    fn length(&self) -> u64 {
-        match self {
-            Opened::Standard(_) => 0,
             Opened::File(file) => match file.metadata() {
-                Ok(found) if found.is_file() => found.len(),
-                _ => 0,
+                Ok(metadata) => metadata.is_file(),
+                Err(_) => false,
             },
         }
     }
@@ -54,44 +44,25 @@ impl<S: Read, F: Read> Read for Opened<S, F> {
     }
 }
 
-/// Opens the file with this name. The name `-` is standard input. The progress counts the bytes that are read, and those
-/// of the file.
+/// Opens the file with this name. The name `-` is standard input.
 ///
 /// # Errors
 ///
 /// Returns the text `Open file=NAME` if the file cannot be opened or is a directory. If errors are explained, the
 /// failure has the reason.
-pub fn open_input<'c, R: Files + Input>(
+pub fn open_input<R: Files + Input>(
     alloc: Global,
-    rt: &'c R,
+    rt: &R,
     name: &str,
-    console: &'c Console,
-) -> Result<Counted<'c, R, Opened<R::Reader, R::File>>, Failure> {
-    match reopened_input(rt, name, console) {
-        Ok(opened) => {
-            console.progress.add_file(opened.input().length());
-            Ok(opened)
-        }
-        Err(error) => Err(open_failure(alloc, name, error.kind(), console.is_verbose)),
+    is_verbose: bool,
+) -> Result<Opened<R::Reader, R::File>, Failure> {
+    if name == STANDARD {
+        return Ok(Opened::Standard(rt.reader()));
     }
-}
-
-/// Opens the file with this name. The name `-` is standard input. The progress counts the bytes that are read.
-///
-/// # Errors
-///
-/// Returns an error if the file cannot be opened or is a directory.
-pub fn reopened_input<'c, R: Files + Input>(
-    rt: &'c R,
-    name: &str,
-    console: &'c Console,
-) -> io::Result<Counted<'c, R, Opened<R::Reader, R::File>>> {
-    let opened = if name == STANDARD {
-        Opened::Standard(rt.reader())
-    } else {
-        Opened::File(opened_file(rt, name)?)
-    };
-    Ok(Counted::new(opened, rt, &console.progress))
+    match opened_file(rt, name) {
+        Ok(file) => Ok(Opened::File(file)),
+        Err(error) => Err(open_failure(alloc, name, error.kind(), is_verbose)),
+    }
 }
 
 /// Checks that standard input is open if one of the names is `-`. If it is closed, the first file that is opened would take

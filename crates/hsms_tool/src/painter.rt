@@ -1,6 +1,5 @@
 //! Lines of the output in colours, for a terminal: failures are red, headings bold.
 
-use crate::progress::Progress;
 use std::alloc::{AllocError, Global};
 use std::io::{Printer, Write};
 use std::{io, str};
@@ -23,33 +22,23 @@ pub enum Painting {
     Explained,
 }
 
-/// Standard output, whose lines are marked by their first word. A line is marked if one slice has all of it. Before each write it
-/// erases the line of the progress.
+/// Standard output, whose lines are marked by their first word. A line is marked if one slice has all of it.
 #[derive(Drop)]
 pub struct Painter<'p, R: Print> {
     output: Printer<'p, R>,
     painting: Painting,
-    rt: &'p R,
-    progress: &'p Progress,
     // The lines of a slice, with their marks.
     marked: Vec<u8>,
     // True if the last slice ended inside a line.
     is_inside: bool,
 }
 
-impl<'p, R: Eprint + Print> Painter<'p, R> {
+impl<'p, R: Print> Painter<'p, R> {
     /// Creates a writer to standard output.
-    pub fn new(
-        alloc: Global,
-        rt: &'p R,
-        painting: Painting,
-        progress: &'p Progress,
-    ) -> Painter<'p, R> {
+    pub fn new(alloc: Global, rt: &'p R, painting: Painting) -> Painter<'p, R> {
         Painter {
             output: io::writer(rt),
             painting,
-            rt,
-            progress,
             marked: Vec::new(alloc),
             is_inside: false,
         }
@@ -83,12 +72,11 @@ impl<'p, R: Eprint + Print> Painter<'p, R> {
     }
 }
 
-impl<'p, R: Eprint + Print> Write for Painter<'p, R> {
+impl<'p, R: Print> Write for Painter<'p, R> {
     fn write(&mut self, octets: &[u8]) -> io::Result<usize> {
         if octets.is_empty() {
             return self.output.write(octets);
         }
-        self.progress.make_way(self.rt);
         if self.painting == Painting::Nothing || self.mark(octets).is_err() {
             return self.output.write(octets);
         }

@@ -1,42 +1,33 @@
 //! How results and errors are presented: by the terminal, the environment, and the options of every command.
 
 use crate::painter::{Painter, Painting};
-use crate::progress::Progress;
 use cli_advice::Failure;
 use cli_options::{ToolFault, no_request};
 use std::alloc::Global;
-use std::io::Printer;
+use std::env;
 use std::rt::Env;
-use std::time::Clock;
-use std::{env, io};
 
 /// How results and errors are presented.
 #[derive(Clone, Copy)]
 pub struct Presentation {
     /// True if errors are explained.
     pub is_verbose: bool,
-    /// True if failures and headings are in colours.
+    /// True if failures and headings are in colors.
     is_colored: bool,
-    /// True if standard error shows how much of a file is read.
-    has_progress: bool,
-    /// True if standard output is a terminal.
-    is_at_terminal: bool,
 }
 
 /// What results and errors are written to.
-#[derive(Drop)]
+#[derive(Clone, Copy)]
 pub struct Console {
     /// True if errors are explained.
     pub is_verbose: bool,
-    /// How much of a file is read.
-    pub progress: Progress,
     is_colored: bool,
 }
 
 impl Presentation {
     /// Returns how results and errors are presented without options. Standard output and standard error may each be a
     /// terminal. HSMS_VERBOSE decides by `1` or another value whether errors are explained; without it, they are if
-    /// standard error is a terminal. With NO_COLOR, unless it is empty, there are no colours.
+    /// standard error is a terminal. With NO_COLOR, unless it is empty, there are no colors.
     pub fn by_default<R: AllocGlobal + Env>(
         rt: &R,
         output_is_terminal: bool,
@@ -47,16 +38,12 @@ impl Presentation {
             Err(_) => errors_are_at_terminal,
         };
         // (the environment is read only if it matters)
-        let has_terminal = output_is_terminal || errors_are_at_terminal;
-        let is_dumb = has_terminal
-            && env::var(rt, "TERM").is_ok_and(|name| name.as_str() == "dumb");
-        let is_plain = output_is_terminal
-            && env::var(rt, "NO_COLOR").is_ok_and(|value| !value.as_str().is_empty());
+        let is_colored = output_is_terminal
+            && !env::var(rt, "TERM").is_ok_and(|name| name.as_str() == "dumb")
+            && !env::var(rt, "NO_COLOR").is_ok_and(|value| !value.as_str().is_empty());
         Presentation {
             is_verbose,
-            is_colored: output_is_terminal && !is_plain && !is_dumb,
-            has_progress: errors_are_at_terminal && !is_dumb,
-            is_at_terminal: output_is_terminal,
+            is_colored,
         }
     }
 
@@ -85,11 +72,7 @@ impl Presentation {
     fn follow_option(&mut self, alloc: Global, option: &str) -> Result<Place, Failure> {
         match option.split_once('=') {
             Some((_, value)) => self.color(alloc, value),
-            None if option == "--color" => Ok(Place::Color),
-            None => {
-                self.has_progress = self.has_progress && option != "--no-progress";
-                Ok(Place::Options)
-            }
+            None => Ok(Place::Color),
         }
     }
 
@@ -107,7 +90,6 @@ impl Presentation {
     pub fn console(self) -> Console {
         Console {
             is_verbose: self.is_verbose,
-            progress: Progress::new(self.has_progress, self.is_at_terminal),
             is_colored: self.is_colored,
         }
     }
@@ -170,8 +152,8 @@ impl WordsLeft {
 
 impl Console {
     /// Returns standard output, with colors if they are requested.
-    pub fn output<'p, R: Eprint + Print>(
-        &'p self,
+    pub fn output<'p, R: Print>(
+        self,
         alloc: Global,
         rt: &'p R,
         painting: Painting,
@@ -181,13 +163,13 @@ impl Console {
         } else {
             Painting::Nothing
         };
-        Painter::new(alloc, rt, painting, &self.progress)
+        Painter::new(alloc, rt, painting)
     }
 }
 
 // Checks whether a word of the command line is an option of every command, except for `-v`.
 fn is_option(word: &str) -> bool {
-    matches!(word, "--color" | "--no-progress") || word.starts_with("--color=")
+    word == "--color" || word.starts_with("--color=")
 }
 
 /// Checks whether one of these words requests explanations.

@@ -1,9 +1,8 @@
 //! `hsms capture` of several files, as those of a ring buffer.
 
-use crate::input::{Opened, STANDARD, check_standard, open_input, reopened_input};
+use crate::input::{Opened, STANDARD, check_standard, open_input};
 use crate::painter::Painting;
 use crate::presentation::Console;
-use crate::progress::Counted;
 use capture_errors::{CaptureError, Rejection, Shortfall};
 use capture_pcap::FileFault;
 use capture_series::{FailedPart, NextPart, Part, PartStart, Parts, Series};
@@ -15,7 +14,6 @@ use cli_reports::ObjectLines;
 use hsms_frame::{Reader, Sink, Writer, give_all};
 use std::alloc::{AllocError, Global};
 use std::fs::Files;
-use std::time::Clock;
 
 /// A file of the command line.
 #[derive(Drop)]
@@ -29,24 +27,23 @@ struct CaptureFile<'n, I> {
 
 /// Files in the order of their first packets. Regular files are opened again.
 #[derive(Drop)]
-struct CaptureFiles<'c, 'n, R: Clock + Eprint + Files + Input> {
+struct CaptureFiles<'a, 'n, R: Files + Input> {
     alloc: Global,
-    rt: &'c R,
-    console: &'c Console,
-    files: Vec<CaptureFile<'n, Counted<'c, R, Opened<R::Reader, R::File>>>>,
+    rt: &'a R,
+    files: Vec<CaptureFile<'n, Opened<R::Reader, R::File>>>,
     next: usize,
 }
 
-impl<'c, 'n, R: Clock + Eprint + Files + Input> Parts<'n> for CaptureFiles<'c, 'n, R> {
-    type Input = Counted<'c, R, Opened<R::Reader, R::File>>;
+impl<'a, 'n, R: Files + Input> Parts<'n> for CaptureFiles<'a, 'n, R> {
+    type Input = Opened<R::Reader, R::File>;
 
-    fn next_part(&mut self) -> Option<NextPart<'n, Counted<'c, R, Opened<R::Reader, R::File>>>> {
+    fn next_part(&mut self) -> Option<NextPart<'n, Opened<R::Reader, R::File>>> {
         let file = self.files.get_mut(self.next)?;
         self.next = self.next.saturating_add(1);
         let name = file.name;
         let part = match file.part.take() {
             Some(part) => part,
-            None => opened_again(self.alloc, self.rt, name, self.console),
+            None => opened_again(self.alloc, self.rt, name),
         };
         Some(NextPart { name, part })
     }
@@ -59,7 +56,7 @@ impl<'c, 'n, R: Clock + Eprint + Files + Input> Parts<'n> for CaptureFiles<'c, '
 ///
 /// Returns the error for a file that cannot be opened or is not a capture, before anything is judged, or that of
 /// `hsms capture` on the capture.
-pub fn capture_files<R: Clock + Eprint + Files + Input + Print>(
+pub fn capture_files<R: Eprint + Files + Input + Print>(
     alloc: Global,
     rt: &R,
     options: Capturing,
@@ -68,24 +65,17 @@ pub fn capture_files<R: Clock + Eprint + Files + Input + Print>(
     console: &Console,
 ) -> Result<u8, Failure> {
     check_standard(rt, names)?;
-    console.progress.begin(rt);
-    let files = in_order(alloc, rt, names, console)?;
+    let files = in_order(alloc, rt, names, console.is_verbose)?;
     let parts = CaptureFiles {
         alloc,
         rt,
-        console,
         files,
         next: 0,
     };
     let mut series = Series::new(alloc, parts)?;
-    let painting = if options.log.is_none() && !options.json {
-        Painting::Verdicts
-    } else {
-        Painting::Nothing
-    };
+    let painting = capture_painting(&options);
     let mut sink = Writer::new(console.output(alloc, rt, painting));
     let done = series_by(alloc, options, &mut series, &mut sink, has_port);
-    console.progress.erase(rt);
     match done {
         Ok(well) => Ok(exit_status(&Ok(well))),
         Err(error) => {
@@ -93,6 +83,14 @@ pub fn capture_files<R: Clock + Eprint + Files + Input + Print>(
             Err(Failure::from(error).of_file(alloc, named))
         }
     }
+}
+
+/// Returns which lines of the verdicts on a capture are in colors. A log and JSON have none.
+pub fn capture_painting(options: &Capturing) -> Painting {
+    if options.log.is_none() && !options.json {
+        return Painting::Verdicts;
+    }
+    Painting::Nothing
 }
 
 // Reads files as one capture, and writes its verdicts or a log in the requested format.
@@ -139,16 +137,16 @@ fn series_lines<'n, P: Parts<'n> + Drop, W: Sink>(
 }
 
 // Returns the files in the order of their first packets. Those without a time are the last.
-fn in_order<'c, 'n, R: Clock + Eprint + Files + Input>(
+fn in_order<'n, R: Files + Input>(
     alloc: Global,
-    rt: &'c R,
+    rt: &R,
     names: &[&'n str],
-    console: &'c Console,
-) -> Result<Vec<CaptureFile<'n, Counted<'c, R, Opened<R::Reader, R::File>>>>, Failure> {
+    is_verbose: bool,
+) -> Result<Vec<CaptureFile<'n, Opened<R::Reader, R::File>>>, Failure> {
     let mut files = Vec::new(alloc);
     for name in names {
-        let input = open_input(alloc, rt, name, console)?;
-        let is_regular = input.input().is_regular();
+        let input = open_input(alloc, rt, name, is_verbose)?;
+        let is_regular = input.is_regular();
         let file = match Part::open(alloc, input) {
             Ok(part) => CaptureFile {
                 name: *name,
@@ -173,13 +171,12 @@ fn in_order<'c, 'n, R: Clock + Eprint + Files + Input>(
 }
 
 // Opens a file again.
-fn opened_again<'c, R: Clock + Eprint + Files + Input>(
+fn opened_again<R: Files + Input>(
     alloc: Global,
-    rt: &'c R,
+    rt: &R,
     name: &str,
-    console: &'c Console,
-) -> Result<Part<Counted<'c, R, Opened<R::Reader, R::File>>>, FileFault> {
-    match reopened_input(rt, name, console) {
+) -> Result<Part<Opened<R::Reader, R::File>>, FileFault> {
+    match open_input(alloc, rt, name, false) {
         Ok(input) => Part::open(alloc, input),
         Err(_) => Err(FileFault::Read),
     }
