@@ -8,11 +8,9 @@ tried, since it takes 4,294,967,295 messages or reads; nor is `Full`, which take
 """
 import ctypes
 import os
-import pty
 import resource
 import subprocess
 import sys
-import termios
 import threading
 from dataclasses import dataclass, field
 from typing import List
@@ -25,6 +23,7 @@ from tests.support.command import TOP, program_given
 from tests.support.reference import reasons, session
 from tests.support.retry import is_held
 from tests.support.serve_peers import HERE, SELECT, SOON, Listening, free_port, same
+from tests.support.terminals import run_at_terminal
 
 PROGRAM = program_given()
 END = ["serve", "--role", "host", "--link", "active"]
@@ -336,22 +335,7 @@ def tell(case):
 
 def told_at_terminal(words, octets, env):
     """What a run writes to a terminal at standard error."""
-    terminal, end = pty.openpty()
-    settings = termios.tcgetattr(end)
-    settings[1] &= ~termios.OPOST
-    termios.tcsetattr(end, termios.TCSANOW, settings)
-    env = {name: value for name, value in {**os.environ, **env}.items() if value is not None}
-    run = subprocess.run([PROGRAM, *words], input=octets, stdout=subprocess.PIPE, stderr=end, timeout=SOON, env=env)
-    os.close(end)
-    told = b""
-    try:
-        while part := os.read(terminal, 65536):
-            told += part
-    except OSError:
-        # (Linux answers so once nothing is left and no other end is open)
-        pass
-    os.close(terminal)
-    return run.returncode, told.decode()
+    return run_at_terminal([PROGRAM, *words], "stderr", env, octets)
 
 
 def at_terminal():

@@ -7,18 +7,17 @@ is no color, unless `--color always` asks for it.
 It runs what `rt ci` has built, or the given program. The last line is `N passed, M failed`.
 """
 import os
-import pty
 import re
 import subprocess
 import sys
 import tempfile
-import termios
 
 sys.dont_write_bytecode = True
 sys.path.insert(0, os.path.abspath(f"{__file__}/../../.."))
 
 from tests.support.command import LONGEST_RUN, TOP, program_given
 from tests.support.comparisons import status_of
+from tests.support.terminals import run_at_terminal
 
 PROGRAM = program_given()
 RED, BOLD, PLAIN = "\x1b[31m", "\x1b[1m", "\x1b[0m"
@@ -44,26 +43,8 @@ UNMARKED = [
 
 def run(words, more=(), env=None):
     """The status of a run, and what it writes to standard output, which is a terminal."""
-    terminal, end = pty.openpty()
-    settings = termios.tcgetattr(end)
-    settings[1] &= ~termios.OPOST
-    termios.tcsetattr(end, termios.TCSANOW, settings)
     plain = {"TERM": "xterm", "NO_COLOR": None, "HSMS_VERBOSE": None}
-    changed = {name: value for name, value in {**os.environ, **plain, **(env or {})}.items() if value is not None}
-    process = subprocess.Popen(
-        [PROGRAM, *words, *more], cwd=TOP, stdin=subprocess.DEVNULL, env=changed,
-        stdout=end, stderr=subprocess.DEVNULL,
-    )
-    os.close(end)
-    told = b""
-    try:
-        while part := os.read(terminal, 65536):
-            told += part
-    except OSError:
-        # (Linux answers so once nothing is left and no other end is open)
-        pass
-    os.close(terminal)
-    return process.wait(LONGEST_RUN), told.decode()
+    return run_at_terminal([PROGRAM, *words, *more], "stdout", {**plain, **(env or {})}, cwd=TOP)
 
 
 def piped(words, more=(), env=None):
