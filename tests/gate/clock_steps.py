@@ -82,8 +82,9 @@ def check(seed: str) -> List[str]:
     chance = Chance(f"clock {seed}")
     entries, faults = entries_of(chance, 40), []
     plain = explained(entries)
-    # An odd position is that of a primary: nothing is open there.
-    at = chance.randrange(1, 38) * 2 + 1
+    # An odd position is that of a primary: nothing is open there. If its time is wrong, no wait for its reply is known, so
+    # its reply is in time.
+    at = chance.choice([at for at in range(3, 77, 2) if entries[at + 1][0] - entries[at][0] <= 45_000])
     ahead = moved(entries, at, at + 1, YEARS)
     faults.append(fault_of("ahead", ahead, plain, at, at + 2))
     hour = moved(entries, at, len(entries), -HOUR)

@@ -446,7 +446,8 @@ def what_is_missing_is_explained():
         (both, b"S1F1 W . S1F3 W .", [data(1, 2, 2), data(1, 4, 3)], own),
         (both, b"S1F1 W . S1F3 W .", [data(1, 0, 2), data(1, 0, 3)], f"{own}hsms: --all-answered: 2 {why}"),
         (both, b"S1F1 W . S1F3 W . S1F5 W .", [control(9, 7)],
-         f"{separate}hsms: --all-sent: 0 rejected, 2 not reached\nhsms: --all-answered: 1 {why}"),
+         # (two messages, and the Separate.req after them)
+         f"{separate}hsms: --all-sent: 0 rejected, 3 not reached\nhsms: --all-answered: 1 {why}"),
         (["--all-sent"], b"S1F2 . S1F1 W .", [data(1, 2, 2)], f"{own}hsms: --all-sent: 1 rejected, 0 not reached\n"),
         ([], b"S1F1 W . S1F3 W .", [control(9, 7)], separate),
     ):
