@@ -1,6 +1,6 @@
 //! `hsms compare`: the logs in two files.
 
-use crate::input::{STANDARD, buffered, check_standard, open_input};
+use crate::input::{buffered, check_named_once, check_standard, open_input};
 use crate::painter::Painting;
 use crate::presentation::Console;
 use cli_advice::Failure;
@@ -26,10 +26,7 @@ pub fn compare_files<R: Eprint + Files + Input + Print>(
     let [first, second] = files else {
         return Err(Failure::from(no_request(alloc)));
     };
-    // Standard input has one log.
-    if *first == STANDARD && *second == STANDARD {
-        return Err(Failure::from(no_request(alloc)));
-    }
+    check_named_once(alloc, files, console.is_verbose)?;
     check_standard(rt, files)?;
     let one = open_input(alloc, rt, first, console.is_verbose)?;
     let other = open_input(alloc, rt, second, console.is_verbose)?;

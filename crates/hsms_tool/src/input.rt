@@ -1,7 +1,7 @@
 //! The input of a command: standard input, or a file.
 
 use cli_advice::{Failure, open_words};
-use cli_options::{ToolFault, refusal};
+use cli_options::{ToolFault, no_request, refusal};
 use std::alloc::Global;
 use std::fs::{File, Files, OpenFile};
 use std::io;
@@ -79,6 +79,31 @@ pub fn check_standard<R: Input>(rt: &R, names: &[&str]) -> Result<(), ToolFault>
         };
     }
     Ok(())
+}
+
+/// Checks that standard input is named once at most, since it is read once.
+///
+/// # Errors
+///
+/// Returns the error of an invalid command line if it is named twice. If errors are explained, the failure has the reason.
+pub fn check_named_once(alloc: Global, names: &[&str], is_verbose: bool) -> Result<(), Failure> {
+    let mut is_named = false;
+    for name in names {
+        let is_standard = *name == STANDARD;
+        if is_named && is_standard {
+            return Err(named_twice(alloc, is_verbose));
+        }
+        is_named = is_named || is_standard;
+    }
+    Ok(())
+}
+
+fn named_twice(alloc: Global, is_verbose: bool) -> Failure {
+    if is_verbose {
+        let words = String::from_str(alloc, "standard input can be read once: name - once");
+        return Failure::said(no_request(alloc), words);
+    }
+    Failure::from(no_request(alloc))
 }
 
 // Opens a file that is no directory.

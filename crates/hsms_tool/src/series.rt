@@ -1,6 +1,6 @@
 //! `hsms capture` of several files, as those of a ring buffer.
 
-use crate::input::{Opened, STANDARD, check_standard, open_input};
+use crate::input::{Opened, STANDARD, check_named_once, check_standard, open_input};
 use crate::painter::Painting;
 use crate::presentation::Console;
 use capture_errors::{CaptureError, Rejection, Shortfall};
@@ -54,8 +54,8 @@ impl<'a, 'n, R: Files + Input> Parts<'n> for CaptureFiles<'a, 'n, R> {
 ///
 /// # Errors
 ///
-/// Returns the error for a file that cannot be opened or is not a capture, before anything is judged, or that of
-/// `hsms capture` on the capture.
+/// Returns the error of an invalid command line if standard input is named twice, that of a file that cannot be opened
+/// or is not a capture, before anything is judged, or that of `hsms capture` on the capture.
 pub fn capture_files<R: Eprint + Files + Input + Print>(
     alloc: Global,
     rt: &R,
@@ -64,6 +64,7 @@ pub fn capture_files<R: Eprint + Files + Input + Print>(
     has_port: bool,
     console: &Console,
 ) -> Result<u8, Failure> {
+    check_named_once(alloc, names, console.is_verbose)?;
     check_standard(rt, names)?;
     let files = in_order(alloc, rt, names, console.is_verbose)?;
     let parts = CaptureFiles {
