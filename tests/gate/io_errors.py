@@ -42,7 +42,7 @@ SMALL = [
     (["capture", "--log", "equipment"], "examples/late-reply.pcap"),
     (["capture", "--midstream", "--log", "host"], "tests/captures/joined-status-1.pcap"),
     (["capture"], "tests/captures/running.pcap"),
-    (["capture", "-", "-"], "examples/late-reply.pcap"),
+    (["capture", "-", "/dev/null"], "examples/late-reply.pcap"),
     (["capture", "--format", "json"], "tests/captures/running.pcap"),
     (["show"], "examples/cut-off.bin"),
 ]

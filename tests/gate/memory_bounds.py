@@ -116,6 +116,7 @@ def claims():
     lines = [f"10.0.0.1:40000 10.0.0.2:5000 {end}: incomplete packet=6 pass entries=3 {counts}" for end, counts in ends]
     gap = "".join(f"{line} discarded=0 expired=0 waiting=0\n" for line in lines)
     incomplete = Answer(2, gap.encode(), b"hsms: Lost packet=6\n")
+    series = Answer(2, b"# from packet 1: -\n", b"hsms: CutOff file=/dev/null\n")
     return [
         in_message("show --depth 100", "03ffffff" * 100),
         in_message("show --depth 100", "03ffffff"),
@@ -136,8 +137,8 @@ def claims():
         Claim("audit", f"{LOG}6 > {HEADER}{'03ffffff' * 100}\n".encode(), f"{LOG}6 > {HEADER}\n".encode(), verdict),
         Claim("audit", f"{LOG}6 > {HEADER}43ffffff41\n".encode(), f"{LOG}6 > {HEADER}\n".encode(), verdict),
         Claim("capture", far_ahead(67_000_000), far_ahead(1), incomplete),
-        Claim("capture - -", many_packets(3000), many_packets(1), Answer(2, b"# from packet 1: -\n", b"hsms: CutOff\n")),
-        Claim("capture - -", claiming_packet(0xFFFFFF), claiming_packet(1000), refused("CutOff")),
+        Claim("capture - /dev/null", many_packets(3000), many_packets(1), series),
+        Claim("capture - /dev/null", claiming_packet(0xFFFFFF), claiming_packet(1000), refused("CutOff")),
         Claim("audit", connections(), connections("< 000001020000{0:08x}"), waits),
         at_end(octets("ffffffff" + HEADER), octets("0000000b" + HEADER)),
         at_end(octets("02000000" + HEADER), octets("0000000b" + HEADER)),
