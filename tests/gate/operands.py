@@ -290,9 +290,9 @@ def captures(room):
                     given = file.read()
                 wanted = in_series(whole, ["-" if it == name else it for it in names], counts)
                 yield f"{place} {form}: - for {name}", capture(*more, *rest, "-", given=given), wanted
-        yield f"{place}: standard input twice", capture("0.0", "-", "-", given=octets), INVALID
+        yield f"{place}: standard input twice", capture("0.0", "-", "-"), INVALID
         once = Answer(2, b"", b"hsms: command line\nstandard input can be read once: name - once\n")
-        yield f"{place}: why not twice", capture("-", "0.0", "-", "-v", given=octets), once
+        yield f"{place}: why not twice", capture("-", "0.0", "-", "-v"), once
         yield f"{place}: missing", capture("0.0", "missing"), Answer(2, b"", b"hsms: Open file=missing\n")
         yield f"{place}: folder", capture("0.0", ".", "-v"), Answer(2, b"", b"hsms: Open file=.\n" + WHY_FOLDER)
         names = [put(f"{at}.one", in_form([packet], "pcap<")) for at, packet in enumerate(found)]
