@@ -11,7 +11,8 @@ _hsms() {
     --format) mapfile -t COMPREPLY < <(compgen -W 'text json html' -- "$word") && return ;;
     --role | --active | --log) mapfile -t COMPREPLY < <(compgen -W 'host equipment' -- "$word") && return ;;
     --link) mapfile -t COMPREPLY < <(compgen -W 'active passive' -- "$word") && return ;;
-    --max | --depth | --around | --from | --to | --port | --peer | --device | --t3 | --t6 | --t7 | --t8 | --system | --address | --port-file | --linktest | --first-system | --turns | --mdln | --softrev | --connections | --t5) return ;;
+    --failing) mapfile -t COMPREPLY < <(compgen -W 'Backwards NotUp Ended T3Overdue LinkOverdue NotDue TooLong PType SType ControlText Session Direction NotSelected WBit Text SystemInUse NoTransaction SelectStatus NoCause' -- "$word") && return ;;
+    --max | --depth | --around | --from | --to | --since | --until | --message | --system | --port | --peer | --device | --t3 | --t6 | --t7 | --t8 | --address | --port-file | --linktest | --first-system | --turns | --mdln | --softrev | --connections | --t5) return ;;
   esac
   if [ "$COMP_CWORD" = 1 ]; then
     words='show audit explain compare capture encode serve help --help --verbose --version'
@@ -22,7 +23,7 @@ _hsms() {
     case ${COMP_WORDS[1]} in
       show) words='--max --depth --hex --bare --help --verbose' ;;
       audit) words='--quiet --format --help --verbose' ;;
-      explain) words='--only --around --from --to --format --utc --lists --all --help --verbose' ;;
+      explain) words='--only --around --from --to --since --until --message --system --failing --format --utc --lists --all --help --verbose' ;;
       compare) words='--help --verbose' ;;
       capture) words='--port --peer --active --log --midstream --device --t3 --t6 --t7 --t8 --max --depth --help --verbose' ;;
       encode) words='--device --system --max --depth --hex --help --verbose' ;;

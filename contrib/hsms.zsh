@@ -43,6 +43,11 @@ _hsms() {
         '--around[With --only\: lines of context before and after each\: 0 to 1000 \[default\: 5\]]:N:' \
         '--from[First line shown (the audit starts at line 1) \[default\: 1\]]:N:' \
         '--to[Last line shown (the audit runs to the end) \[default\: the last one\]]:N:' \
+        '--since[Only entries from this time on\: ms, hh\:mm\:ss of each day (UTC), or 2026-11-25T19\:02\:03Z]:TIME:' \
+        '--until[Only entries up to this time]:TIME:' \
+        '--message[Only messages of this stream and function, as S2F41]:SxFy:' \
+        '--system[Only messages and t3 with these system bytes, as 00000e94]:HEX:' \
+        '--failing[Only lines that break this rule, as T3Overdue]:RULE:(Backwards NotUp Ended T3Overdue LinkOverdue NotDue TooLong PType SType ControlText Session Direction NotSelected WBit Text SystemInUse NoTransaction SelectStatus NoCause)' \
         '--format[Output format\: text, json (one object per line) or html (a page) \[default\: text\]]:FORMAT:(text json html)' \
         '--utc[Show times as UTC dates, if the log has ms since 1970]' \
         '--lists[List the ten slowest replies, and expired and unanswered primaries (at most 100 each)]' \

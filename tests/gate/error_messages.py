@@ -69,6 +69,17 @@ def cases_of_words():
         expected = f"--format {form}: expected text, json or html"
         yield Case(["explain", "--format", form], 2, "command line", [expected])
         yield Case(["explain", f"--format={form}", "--utc"], 2, "command line", [expected])
+    times, named = "ms, hh:mm:ss, or a date as 2026-11-25T19:02:03Z", "a stream and function, as S2F41"
+    wrong = {
+        "--since": (times, ["", "-1", "1e3", "24:00:00", "19:02:60:1", "2026-11-25", "2026-11-25T19:02:03", "1969-12-31T23:59:59Z"]),
+        "--until": (times, ["18446744073709551616", "now"]),
+        "--message": (named, ["", "S2", "F41", "S2F", "SF41", "S128F1", "S2F256", "s2f41", "S2F41 ", "S2F41F1", "S2-F4"]),
+        "--system": ("hexadecimal digits, as 00000e94", ["", "0x1", "100000000", "g"]),
+        "--failing": ("a rule, as T3Overdue", ["", "unreadable", "t3overdue", "T3"]),
+    }
+    for option, (expected, values) in wrong.items():
+        for value in values:
+            yield Case(["explain", f"{option}={value}"], 2, "command line", [f"{option} {value}: expected {expected}"])
     for option in ("--active", "--log"):
         yield Case(["capture", option, "both"], 2, "command line", [f"{option} both: expected host or equipment"])
     for address in ("", "10.0.0", "10.0.0.256", "010.0.0.1", "::1%lo", "[::1]", "10.0.0.1:5000", "localhost"):

@@ -12,10 +12,11 @@ with another output is printed in hexadecimal. The last line is `N passed, M fai
 import glob
 import json
 import os
+import re
 import sys
 import zlib
 from concurrent.futures import ProcessPoolExecutor
-from typing import List, Optional
+from typing import Any, Dict, List, Optional
 
 sys.dont_write_bytecode = True
 sys.path.insert(0, os.path.abspath(f"{__file__}/../../.."))
@@ -25,6 +26,7 @@ from tests.support.command import LONGEST_SHOWN, TOP, answer_of
 from tests.support.reference import edge_cases, explain, random_logs, reasons
 from tests.support.reference.explain import WHOLE, Excerpt
 from tests.support.reference.random_messages import Chance
+from tests.support.reference.session import RULES
 
 # The first line of a log.
 EMPTY = b"hsms-log 1 host active 0 45000 6000 10000 5000 1048576 32\n"
@@ -134,7 +136,32 @@ def excerpt_of(log: bytes) -> Excerpt:
     around = chance.one(0, 1, 2, 5) if chance.happens(0.75) else None
     first = chance.randint(1, lines) if chance.happens(0.5) else 1
     last = chance.randint(1, lines) if chance.happens(0.5) else None
-    return Excerpt(around, first, last, chance.happens(0.5), chance.happens(0.5), is_every=chance.happens(0.2))
+    excerpt = Excerpt(around, first, last, chance.happens(0.5), chance.happens(0.5), is_every=chance.happens(0.2))
+    return excerpt if chance.happens(0.6) else excerpt._replace(**asked_of(chance, log))
+
+
+def asked_of(chance: Chance, log: bytes) -> Dict[str, Any]:
+    """What the entries of an excerpt have: times and system bytes of the log, and rules."""
+    times = [int(it) for it in re.findall(rb"^(\d{1,19}) ", log, re.M)] or [0]
+    systems = [int(it, 16) for it in re.findall(rb"^\d+ [<>!] [0-9a-f]{12}([0-9a-f]{8})", log, re.M)] or [0]
+    names = [(int(one, 16) & 127, int(other, 16)) for one, other in re.findall(rb"^\d+ [<>!] [0-9a-f]{4}(..)(..)0000", log, re.M)]
+    asked = {
+        "since": bound_of(chance, chance.choice(times)),
+        "until": bound_of(chance, chance.choice(times)),
+        "message": chance.choice(names or [(1, 1)]),
+        "system": chance.choice(systems),
+        "failing": chance.choice(RULES),
+    }
+    return {name: value for name, value in asked.items() if chance.happens(0.4)}
+
+
+def bound_of(chance: Chance, time: int) -> str:
+    """A time as ms, as the time of day, or as a date."""
+    form = chance.one("ms", "ms", "of day", "date")
+    if form == "of day":
+        seconds = time // 1000 % 86_400
+        return f"{seconds // 3600:02}:{seconds // 60 % 60:02}:{seconds % 60:02}"
+    return explain.date_of(time) or str(time) if form == "date" else str(time)
 
 
 def difference(log: bytes) -> Optional[str]:

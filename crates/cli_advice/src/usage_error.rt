@@ -1,6 +1,6 @@
 //! What is wrong with a command line, in a sentence.
 
-use cli_options::command;
+use cli_options::{bound_named, command, message_named, rule_named, system_named};
 use std::alloc::{AllocError, Global};
 use std::net::IpAddr;
 
@@ -64,6 +64,18 @@ fn expected_value(option: &str, value: &str, is_audit: bool) -> Option<&'static 
             (!matches!(value, "text" | "json" | "junit")).then_some("text, json or junit")
         }
         "--format" => (!matches!(value, "text" | "json" | "html")).then_some("text, json or html"),
+        "--since" | "--until" => bound_named(value)
+            .is_none()
+            .then_some("ms, hh:mm:ss, or a date as 2026-11-25T19:02:03Z"),
+        "--message" => message_named(value)
+            .is_none()
+            .then_some("a stream and function, as S2F41"),
+        "--system" => system_named(value)
+            .is_none()
+            .then_some("hexadecimal digits, as 00000e94"),
+        "--failing" => rule_named(value)
+            .is_none()
+            .then_some("a rule, as T3Overdue"),
         "--peer" => value.parse::<IpAddr>().is_err().then_some("an IP address"),
         _ => None,
     }

@@ -10,7 +10,7 @@ use Rattle.hsms_log.specs.declared.verdict.Verdict.{Verdict}
 use Rattle.hsms_log.specs.declared.verdict.Verdict.TheVariants.{Fail}
 use Rattle.hsms_log.specs.declared.verdict.Summary.{Summary}
 use Rattle.hsms_log.specs.declared.verdict.Why.{Why}
-use Rattle.cli_options.specs.ExplainOptions.{is_between}
+use Rattle.cli_explain.specs.Selection.{is_selected}
 use Rattle.cli_options.specs.declared.explain_options.Excerpt.{Excerpt}
 use Rattle.cli_options.specs.declared.explain_options.Lines.{Lines}
 use Rattle.cli_options.specs.declared.explain_options.Lines.TheVariants.{All, Failures}
@@ -86,7 +86,7 @@ first_written excerpt tally notes grouped shown_line old new subsequent same tak
     let T : Bool → Type 0 = λ b. TakesLine b old new shown_line grouped in
     (grouped, whole, subst T (at_once excerpt.lines subsequent grouped failing whole) (takes is))
 
-pub none_emitted : (excerpt : Excerpt) (tally : Tally) (notes : List Note) (shown_line : ExplainedLine) (page : Page) → is_between excerpt shown_line.number ≡ false
+pub none_emitted : (excerpt : Excerpt) (tally : Tally) (notes : List Note) (shown_line : ExplainedLine) (page : Page) → is_selected excerpt shown_line notes ≡ false
     → WritesFirst excerpt tally notes shown_line page page
 none_emitted excerpt tally notes shown_line page outside = λ failing none is between first. absurd cc
 
@@ -165,7 +165,7 @@ at_end written text before words =
     ∙ sym (append-nil (written ++ (text ++ before) ++ words))
 
 -- The output is kept after lines without a counted failure, if a failure is annotated.
-emits_new : (old new : Report) (notes : List Note) (shown_line : ExplainedLine) (why : Why) (between : Bool) → is_between old.window.excerpt shown_line.number ≡ between
+emits_new : (old new : Report) (notes : List Note) (shown_line : ExplainedLine) (why : Why) (between : Bool) → is_selected old.window.excerpt shown_line notes ≡ between
     → first_why notes ≡ Some why → new.tally.first ≡ failed_at shown_line.number (Some why) → old.tally.first ≡ None
     → (NoneBefore old.tally old.groups → WritesFirst old.window.excerpt old.tally notes shown_line old.page new.page)
     → (old.window.excerpt.form ≡ Text → AddsSome old.page new.page) → (NoneBefore old.tally old.groups → NoneBefore new.tally new.groups)
@@ -192,14 +192,14 @@ emits_new old new notes shown_line why false between why_is first none emits som
     let text = shows.0 in
     let so_far = shows.1 in
     let more = some (ap (λ (e : Excerpt). e.form) so_far.asked ∙ is) in
-    let outside : is_between excerpt shown_line.number ≡ false = ap (λ (e : Excerpt). is_between e shown_line.number) (sym so_far.asked) ∙ between in
+    let outside : is_selected excerpt shown_line notes ≡ false = ap (λ (e : Excerpt). is_selected e shown_line notes) (sym so_far.asked) ∙ between in
     let F : Option Failed → Type 0 = λ f. IsFirstWritten excerpt f (written ++ (text ++ more.0)) in (
       text ++ more.0,
       record {
         asked = asked ∙ so_far.asked;
         groups = groups so_far.groups;
         page = more.1.grows text so_far.page;
-        first = subst F (sym first) (λ so. let no : true ≡ false = sym so ∙ outside in absurd cc);
+        first = subst F (sym first) (λ so. let no : true ≡ false = sym (so shown_line notes refl) ∙ outside in absurd cc);
       },
     )
 
@@ -222,7 +222,7 @@ emits_by : (old new : Report) (notes : List Note) (shown_line : ExplainedLine) (
     → new.window.excerpt ≡ old.window.excerpt → KeepsShown old new
 emits_by old new notes shown_line None None was why first emits some groups asked = emits_none old new first some groups asked
 emits_by old new notes shown_line None (Some reason) was why first emits some groups asked =
-    emits_new old new notes shown_line reason (is_between old.window.excerpt shown_line.number) refl why first was emits some groups asked
+    emits_new old new notes shown_line reason (is_selected old.window.excerpt shown_line notes) refl why first was emits some groups asked
 emits_by old new notes shown_line (Some failed) why_is was why first emits some groups asked = keeps_some old new asked groups (first ∙ sym was) some
 
 pub keeps_written : (old new : Report) (notes : List Note) (shown_line : ExplainedLine)

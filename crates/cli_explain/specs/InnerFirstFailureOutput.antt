@@ -3,7 +3,7 @@ use Rattle.std.specs.Prelude.{◌≡◌, ◌++◌, ℕ, List, [], true, Option, 
 use Rattle.hsms_frame.specs.Io.{IfRecorded}
 use Rattle.hsms_log.specs.declared.verdict.Verdict.{Verdict}
 use Rattle.hsms_log.specs.declared.verdict.Verdict.TheVariants.{Pass, Fail}
-use Rattle.cli_options.specs.ExplainOptions.{is_between}
+use Rattle.cli_explain.specs.Selection.{SelectsEach}
 use Rattle.cli_options.specs.declared.explain_options.Excerpt.{Excerpt}
 use Rattle.cli_options.specs.declared.explain_options.OutputFormat.TheVariants.{Text}
 use Rattle.cli_explain.specs.declared.report.Report.{Report}
@@ -17,7 +17,7 @@ use Rattle.cli_explain.specs.FirstFailureOutput.{WritesFailure}
 -- Holds if the words contain the first failure, if there is one and its line is within the selected range.
 abbrev pub IsFirstWritten : Excerpt → Option Failed → List ℕ → Type 0
 IsFirstWritten excerpt None all = Unit {0}
-IsFirstWritten excerpt (Some failed) all = is_between excerpt failed.line ≡ true → WritesFailure failed.line failed.why all
+IsFirstWritten excerpt (Some failed) all = SelectsEach excerpt failed.line → WritesFailure failed.line failed.why all
 
 -- ---- buffered and written
 

@@ -1,7 +1,7 @@
 -- Filter of log lines: which lines are written, and with what.
 use Rattle.std.specs.Prelude.{◌≡◌, ◌+◌, ◌-◌, ◌++◌, ◌||◌, ◌&&◌, not, ℕ, Bool, true, false, List, [], Some, None, nat_lt, nat_le, if◌then◌else◌}
 use Rattle.std.specs.List.{list_any}
-use Rattle.cli_options.specs.ExplainOptions.{is_between}
+use Rattle.cli_explain.specs.Selection.{is_selected}
 use Rattle.cli_options.specs.declared.explain_options.Excerpt.{Excerpt}
 use Rattle.cli_options.specs.declared.explain_options.Lines.{Lines}
 use Rattle.cli_options.specs.declared.explain_options.Lines.TheVariants.{All, Failures}
@@ -70,8 +70,8 @@ abbrev pub NoneBefore : Tally → Groups → Type 0
 NoneBefore tally groups = tally.first ≡ None → HasGroups [] groups.items
 
 -- Holds if the first failure of a line is written in full below the line, and the output ends with it. It requires a
--- line within the selected range, after lines without a counted failure.
+-- line that is selected, after lines without a counted failure.
 abbrev pub WritesFirst : Excerpt → Tally → List Note → ExplainedLine → Page → Page → Type 0
 WritesFirst excerpt tally notes shown_line old new =
-    (failing : Failing) → tally.first ≡ None → excerpt.form ≡ Text → is_between excerpt shown_line.number ≡ true → first_whole notes ≡ Some failing
+    (failing : Failing) → tally.first ≡ None → excerpt.form ≡ Text → is_selected excerpt shown_line notes ≡ true → first_whole notes ≡ Some failing
     → (whole : List Note) × (first_whole whole ≡ Some failing) × EndsWith old new shown_line whole

@@ -1,5 +1,6 @@
 pub mod Explain
 pub mod InnerExplain
+pub mod Selection
 pub mod FirstFailureOutput
 pub mod InnerFirstFailureOutput
 pub mod InnerLineFilter

@@ -1,7 +1,7 @@
 //! What `hsms explain` shows of the first failure of a log that another part reads.
 
 use crate::explainer::Explainer;
-use cli_options::{Excerpt, Lines, OutputFormat};
+use cli_options::{Excerpt, Lines, OutputFormat, Selection};
 use std::alloc::{AllocError, Global};
 use std::io;
 use std::io::Read;
@@ -12,6 +12,7 @@ const FAILING: Excerpt = Excerpt {
     around: 0,
     from: 1,
     to: u32::MAX,
+    selection: Selection::ALL,
     form: OutputFormat::Text,
     utc: false,
     lists: false,

@@ -16,6 +16,7 @@ mod first_failure;
 mod line_filter;
 mod log_line;
 mod report;
+mod selection;
 mod verdict_output;
 
 pub use command::explain_to;

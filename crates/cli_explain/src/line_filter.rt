@@ -1,5 +1,6 @@
 //! Filter of log lines: which lines are written, and when.
 
+use crate::selection::{breaks, has_asked};
 use cli_options::{Excerpt, Lines, OutputFormat};
 use explain_forms::{Emitter, Links, Page, Skipped};
 use explain_lines::{Carried, ExplainedLine, Gap, Jump, Note, carried_by, has_failure, is_named};
@@ -139,7 +140,7 @@ fn skipped_of(shown_line: ExplainedLine<'_, '_>) -> Skipped {
 impl Window {
     ghost use Rattle.std.specs.Prelude.{◌≡◌, ◌+◌, ◌-◌, ◌||◌, [], OnOk, nat_lt, if◌then◌else◌};
     ghost use Rattle.std.specs.List.{list_any};
-    ghost use Rattle.cli_options.specs.ExplainOptions.{is_between};
+    ghost use Rattle.cli_explain.specs.Selection.{is_selected};
     ghost use Rattle.cli_options.specs.declared.explain_options.OutputFormat.TheVariants.{Text};
     ghost use Rattle.explain_lines.specs.AnnotatedFailure.{is_whole};
     ghost use Rattle.explain_forms.specs.OutputBuffer.{Adds, AddsSome};
@@ -168,14 +169,16 @@ impl Window {
         Emitter::new(self.excerpt)
     }
 
-    /// Returns whether the line is within the selected range.
-    pub fn has_line(&self, number: u64) -> bool
-        ensures { result ≡ is_between self.now.excerpt number }
+    /// Returns whether the line, which these annotations belong to, may be shown.
+    pub fn selects(&self, shown_line: ExplainedLine<'_, '_>, notes: &[Note]) -> bool
+        ensures { result ≡ is_selected self.now.excerpt shown_line.entry notes.now }
     {
-        self.excerpt.has_line(number)
+        self.excerpt.has_line(shown_line.number)
+            && has_asked(self.excerpt.selection, shown_line.carried)
+            && breaks(self.excerpt.selection.rule, notes)
     }
 
-    /// Writes or buffers a line within the selected range. Frames of the log have at most `max` bytes.
+    /// Writes or buffers a line that may be shown. Frames of the log have at most `max` bytes.
     pub fn take(
         &mut self,
         alloc: Global,
@@ -375,6 +378,19 @@ impl Window {
         self.emitter().skip(&mut self.links, skipped, notes)
     }
 
+    // Records that the buffered lines are not written, and keeps those that a later failure may name. No line after them
+    // is written since it is near an earlier failure.
+    fn leave_held(&mut self, alloc: Global) -> Result<(), AllocError>
+        ensures excerpt { self.new.excerpt ≡ self.old.excerpt }
+    {
+        self.subsequent = 0;
+        while let Some(held) = self.held.pop_front() {
+            self.skip(held.skipped(), &held.notes)?;
+            self.keep_held(alloc, held)?;
+        }
+        Ok(())
+    }
+
     // Records that the buffered lines are not written, and empties the buffer.
     fn skip_held(&mut self) -> Result<(), AllocError>
         ensures subsequent { self.new.subsequent ≡ self.old.subsequent }
@@ -396,15 +412,18 @@ impl Window {
         }
     }
 
-    /// Records a line outside the selected range, which is not written, as the buffered lines.
+    /// Records a line that may not be shown. If it has an entry, the buffered lines are not written either.
     pub fn pass(
         &mut self,
+        alloc: Global,
         shown_line: ExplainedLine<'_, '_>,
         notes: &[Note],
     ) -> Result<(), AllocError>
         ensures excerpt { self.new.excerpt ≡ self.old.excerpt }
     {
-        self.skip_held()?;
+        if matches!(shown_line.carried, Carried::Entry(_, _)) {
+            self.leave_held(alloc)?;
+        }
         self.skip(skipped_of(shown_line), notes)
     }
 

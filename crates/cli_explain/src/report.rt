@@ -153,8 +153,8 @@ impl Report {
         ensures excerpt { self.new.window.excerpt ≡ self.old.window.excerpt }
     {
         self.tally.count_notes(shown_line.number, &self.notes)?;
-        if !self.window.has_line(shown_line.number) {
-            return self.window.pass(shown_line, &self.notes);
+        if !self.window.selects(shown_line, &self.notes) {
+            return self.window.pass(alloc, shown_line, &self.notes);
         }
         group_notes(
             &mut self.groups,

@@ -1,3 +1,4 @@
 pub mod RequestedOptions
 pub mod Described
 pub mod Ranges
+pub mod Selections

@@ -34,13 +34,13 @@ made_of n (Ok None) = n.left_out
 made_of n (Err e) = None
 
 -- A text that is a number.
-encoded_bytes : (least greatest v : ℕ) (t : Text) (b : Bool) → is_unsigned_in least greatest t ≡ b
-    → ParsesUnsigned {E = ℕ} 32 10 t (Ok v)
+pub encoded_bytes : (k least greatest v : ℕ) (t : Text) (b : Bool) → is_unsigned_in least greatest t ≡ b → 2 ^ k ≤ 2 ^ 64
+    → ParsesUnsigned {E = ℕ} k 10 t (Ok v)
     → (if nat_le least v && nat_le v greatest then Some v else None) ≡ (if b then Some (digits_value 10 (without_leading_plus t)) else None)
-encoded_bytes least greatest v t true is parses =
+encoded_bytes k least greatest v t true is bits parses =
     let a = accepts-Accepts false (Unsigned least greatest) t is in
     grind (arith, nat_tests, a.2, parses.1)
-encoded_bytes least greatest v t false is parses = go (nat_le least v && nat_le v greatest) refl
+encoded_bytes k least greatest v t false is bits parses = go (nat_le least v && nat_le v greatest) refl
   where
     go : (c : Bool) → (nat_le least v && nat_le v greatest) ≡ c → (if c then Some v else None) ≡ None
     go false tests = refl
@@ -48,23 +48,25 @@ encoded_bytes least greatest v t false is parses = go (nat_le least v && nat_le 
         let low : least ≤ digits_value 10 (without_leading_plus t) = grind (arith, nat_tests, tests, parses.1) in
         let high : digits_value 10 (without_leading_plus t) ≤ greatest = grind (arith, nat_tests, tests, parses.1) in
         let yes : is_unsigned_in least greatest t ≡ true =
-        Accepts-accepts false (Unsigned least greatest) t (parses.0.0, omega (arith, parses.0.1), low, high) in
+        Accepts-accepts false (Unsigned least greatest) t (parses.0.0, omega (arith, bits, parses.0.1), low, high) in
         absurd cc
 
 -- A text that is not a number.
-unspelled : {E : Type 0} (e : E) (least greatest : ℕ) (t : Text) (b : Bool) → is_unsigned_in least greatest t ≡ b → greatest < 2 ^ 32
-    → ParsesUnsigned {E = E} 32 10 t (Err e) → ◌≡◌ {A = Option ℕ} None (if b then Some (digits_value 10 (without_leading_plus t)) else None)
-unspelled e least greatest t false is few parses = refl
-unspelled e least greatest t true is few parses =
+pub unspelled : {E : Type 0} (e : E) (k least greatest : ℕ) (t : Text) (b : Bool) → is_unsigned_in least greatest t ≡ b → greatest < 2 ^ k
+    → ParsesUnsigned {E = E} k 10 t (Err e) → ◌≡◌ {A = Option ℕ} None (if b then Some (digits_value 10 (without_leading_plus t)) else None)
+unspelled e k least greatest t false is few parses = refl
+unspelled e k least greatest t true is few parses =
     let a = accepts-Accepts false (Unsigned least greatest) t is in
     absurd (parses (a.0, omega (arith, a.3, few)))
 
 tried : {E : Type 0} (gives : List ℕ → Result ℕ E → Type 0) (n : Number) (t : Text) (r : Result (Option ℕ) E)
     → ((u : List ℕ) (y : Result ℕ E) → gives u y → ParsesUnsigned 32 10 u y) → n.greatest < 2 ^ 32 → TriesOne gives t r
     → made_of n r ≡ number_between n.least n.greatest t
-tried gives n t (Ok (Some v)) parses few given = encoded_bytes n.least n.greatest v t (is_unsigned_in n.least n.greatest t) refl (parses t (Ok v) given)
+tried gives n t (Ok (Some v)) parses few given =
+    encoded_bytes 32 n.least n.greatest v t (is_unsigned_in n.least n.greatest t) refl (omega arith) (parses t (Ok v) given)
 tried gives n t (Ok None) parses few given = absurd given
-tried gives n t (Err e) parses few given = unspelled e n.least n.greatest t (is_unsigned_in n.least n.greatest t) refl few (parses t (Err e) given)
+tried gives n t (Err e) parses few given =
+    unspelled e 32 n.least n.greatest t (is_unsigned_in n.least n.greatest t) refl few (parses t (Err e) given)
 
 -- The number of an option.
 pub number_read : {E : Type 0} (gives : List ℕ → Result ℕ E → Type 0) (n : Number) (found : Found) (r : Result (Option ℕ) E)

@@ -6,6 +6,7 @@ use Rattle.cli_options.specs.declared.explain_options.Lines.{Lines}
 use Rattle.cli_options.specs.declared.explain_options.Lines.TheVariants.{All, Failures}
 use Rattle.cli_options.specs.declared.explain_options.OutputFormat.{OutputFormat}
 use Rattle.cli_options.specs.declared.explain_options.OutputFormat.TheVariants.{Text as TextForm, Json, Html}
+use Rattle.cli_options.specs.Selection.{HasSelection}
 use Rattle.cli_options.specs.OptionValues.{IsFlag, Number, flag_option, number_in, operand, option_of, text_option}
 
 -- The number of lines that are shown around a failing one.
@@ -23,6 +24,7 @@ to_number = record { name = codes "to"; least = 1; greatest = 4294967295; left_o
 abbrev pub explain_rules : List Rule
 explain_rules =
     operand (codes "FILE") ∷ text_option (codes "only") ∷ option_of around_number ∷ option_of from_number ∷ option_of to_number
+    ∷ text_option (codes "since") ∷ text_option (codes "until") ∷ text_option (codes "message") ∷ text_option (codes "system") ∷ text_option (codes "failing")
     ∷ text_option (codes "format") ∷ flag_option (codes "utc") ∷ flag_option (codes "lists") ∷ flag_option (codes "all") ∷ []
 
 -- The text of the option `only`, if any, that requests these lines.
@@ -45,7 +47,7 @@ abbrev pub HasExcerpt : List Row → Excerpt → Type 0
 HasExcerpt rows excerpt =
     (first_of (codes "only") rows ≡ only_word excerpt.lines) × (number_in around_number rows ≡ Some excerpt.around)
     × (number_in from_number rows ≡ Some excerpt.from) × (number_in to_number rows ≡ Some excerpt.to)
-    × HasFormat rows excerpt.form × IsFlag (codes "utc") rows excerpt.utc × IsFlag (codes "lists") rows excerpt.lists
+    × HasSelection rows excerpt.selection × HasFormat rows excerpt.form × IsFlag (codes "utc") rows excerpt.utc × IsFlag (codes "lists") rows excerpt.lists
     × IsFlag (codes "all") rows excerpt.every
 
 -- True if the line with this number is between the first and the last one that may be shown. The maximum number is no

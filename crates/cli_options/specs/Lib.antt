@@ -1,6 +1,7 @@
 pub mod OptionValues
 pub mod AuditOptions
 pub mod InnerOptionValues
+pub mod Selection
 pub mod ExplainOptions
 pub mod CaptureOptions
 pub mod CompareOptions

@@ -9,6 +9,7 @@ ghost use Rattle.cli_options.specs.declared.explain_options.OutputFormat.{Output
 
 use crate::option_tables::{AROUND, FROM, LAST_LINE, TO};
 use crate::option_values::{flag_of, number_of, text_of, text_or};
+use crate::selection::{Selection, selection_of};
 use clap::ArgMatches;
 
 /// Which kind of lines is shown.
@@ -42,6 +43,8 @@ pub struct Excerpt {
     pub from: u32,
     /// The number of the last line that may be shown; 4,294,967,295 represents the last one of the log.
     pub to: u32,
+    /// Which of these lines are shown, by what their entries have.
+    pub selection: Selection,
     /// The output format.
     pub form: OutputFormat,
     /// True if times, which are milliseconds since 1970, are shown as dates in UTC.
@@ -75,6 +78,7 @@ pub fn excerpt_of(options: &ArgMatches<'_>) -> Option<Excerpt>
         around: number_of(options, AROUND)?,
         from: number_of(options, FROM)?,
         to: number_of(options, TO)?,
+        selection: selection_of(options)?,
         form: output_format_named(text_or(options, "format", "text"))?,
         utc: flag_of(options, "utc"),
         lists: flag_of(options, "lists"),

@@ -20,6 +20,7 @@ mod option_tables;
 mod option_values;
 mod request;
 mod rule_texts;
+mod selection;
 mod serve_options;
 
 pub use audit_options::ReportForm;
@@ -29,4 +30,5 @@ pub use explain_options::{Excerpt, Lines, OutputFormat};
 pub use fault::{ToolFault, exit_status, no_request, refusal, refused};
 pub use request::{CommandLine, Encoding, Form, Request, Showing, Task, parse};
 pub use rule_texts::sentence;
+pub use selection::{Bound, Selection, bound_named, message_named, rule_named, system_named};
 pub use serve_options::{Repeat, Service};

@@ -134,12 +134,17 @@ pub fn audit_options() -> &'static [Described]
     &AUDIT_OPTIONS
 }
 
-static EXPLAIN_OPTIONS: [Described; 9] = options![
+static EXPLAIN_OPTIONS: [Described; 14] = options![
     File(FILE) => FILE_HELP,
     Word("only", "failures") => "Show only failing lines and their context",
     Number(AROUND, "N") => "With --only: lines of context before and after each: 0 to 1000 [default: 5]",
     Number(FROM, "N") => "First line shown (the audit starts at line 1) [default: 1]",
     Number(TO, "N") => "Last line shown (the audit runs to the end) [default: the last one]",
+    Word("since", "TIME") => "Only entries from this time on: ms, hh:mm:ss of each day (UTC), or 2026-11-25T19:02:03Z",
+    Word("until", "TIME") => "Only entries up to this time",
+    Word("message", "SxFy") => "Only messages of this stream and function, as S2F41",
+    Word("system", "HEX") => "Only messages and t3 with these system bytes, as 00000e94",
+    Word("failing", "RULE") => "Only lines that break this rule, as T3Overdue",
     Word("format", "FORMAT") => "Output format: text, json (one object per line) or html (a page) [default: text]",
     Flag("utc") => "Show times as UTC dates, if the log has ms since 1970",
     Flag("lists") => "List the ten slowest replies, and expired and unanswered primaries (at most 100 each)",

@@ -46,6 +46,9 @@ DOTS = b"       ..\n"
 EPOCH = datetime(1970, 1, 1, tzinfo=timezone.utc)
 LAST_DATE = 253402207200999
 
+# The ms of a day.
+DAY = 86_400_000
+
 # What a later failure may name.
 NAMEABLE = ("primary", "select.req", "linktest.req", "separate", "up", "cut")
 
@@ -230,7 +233,7 @@ class Line:
     def __init__(self, number: int, entry: Optional[Entry], said: bytes, is_utc: bool):
         date = date_of(entry.time) if entry and is_utc else None
         time = (date or str(entry.time)) if entry else ""
-        self.number, self.notes = number, []
+        self.number, self.entry, self.notes = number, entry, []
         # Whether its entry, as repaired, opens a transaction, and whether it starts a connection.
         self.opens = self.starts = False
         # Whether a later failure may name it, and it is kept for that.
@@ -414,6 +417,12 @@ class Writer:
             if len(self.held) > self.around:
                 self.leave(self.held.pop(0))
 
+    def pass_over(self):
+        """An entry is not written, whatever fails near it, nor is an earlier one that waits for a failure."""
+        for told in self.held:
+            self.leave(told)
+        self.held, self.after = [], 0
+
     def leave(self, told: Told):
         self.kept += [told] * told.line.is_kept
         del self.kept[:-KEPT_LINES]
@@ -445,9 +454,20 @@ class Writer:
         self.shown += [Gap(self.last + 1, count)] * (count > self.last)
 
 
+def value_of(bound: str, time: int) -> Tuple[int, int]:
+    """A time of the log as it is compared with a first or last time, and that time: ms, the time of day, or a date."""
+    if bound.isdigit():
+        return time, int(bound)
+    if re.fullmatch(r"\d\d:\d\d:\d\d", bound):
+        hours, minutes, seconds = map(int, bound.split(":"))
+        return time % DAY, ((hours * 60 + minutes) * 60 + seconds) * 1000
+    return time, (datetime.fromisoformat(bound.replace("Z", "+00:00")) - EPOCH) // timedelta(milliseconds=1)
+
+
 class Excerpt(NamedTuple):
     """The filter of lines, with `around` those that fail, with that many before and after them; whether their times are
-    written as dates; whether primaries are listed; and of a page whether it has every line."""
+    written as dates; whether primaries are listed; of a page whether it has every line; and what the entries have: the
+    first and the last time, stream and function, system bytes, and a rule that the line breaks."""
 
     around: Optional[int] = None
     first: int = 1
@@ -456,13 +476,22 @@ class Excerpt(NamedTuple):
     has_lists: bool = False
     is_page: bool = False
     is_every: bool = False
+    since: Optional[str] = None
+    until: Optional[str] = None
+    message: Optional[Tuple[int, int]] = None
+    system: Optional[int] = None
+    failing: Optional[str] = None
 
     def words(self) -> List[str]:
         only = [] if self.around is None else ["--only", "failures", "--around", str(self.around)]
         first = [] if self.first == 1 else ["--from", str(self.first)]
         last = [] if self.last is None else ["--to", str(self.last)]
         flags = (("--utc", self.is_utc), ("--lists", self.has_lists), ("--all", self.is_every))
-        return [*only, *first, *last, *(name for name, is_set in flags if is_set)]
+        system = None if self.system is None else f"{self.system:08x}"
+        message = None if self.message is None else "S{}F{}".format(*self.message)
+        asked = (("--since", self.since), ("--until", self.until), ("--message", message), ("--system", system), ("--failing", self.failing))
+        values = [word for name, value in asked if value is not None for word in (name, value)]
+        return [*only, *first, *last, *values, *(name for name, is_set in flags if is_set)]
 
     def shortened(self, count: int) -> Optional[int]:
         """The first line from which on a page of a log of so many lines has only failures although it could have all."""
@@ -473,13 +502,30 @@ class Excerpt(NamedTuple):
     def has(self, number: int) -> bool:
         return number >= self.first and (self.last is None or number <= self.last)
 
+    def selects(self, line: Line) -> bool:
+        """Whether a line may be shown."""
+        entry = line.entry
+        data = entry.frame if entry is not None and entry.frame is not None and entry.frame.is_data else None
+        system = None if entry is None else entry.frame.system if entry.frame else entry.system if entry.event == "t3" else None
+        return (
+            self.has(line.number)
+            and (self.since is None or entry is not None and int.__ge__(*value_of(self.since, entry.time)))
+            and (self.until is None or entry is not None and int.__le__(*value_of(self.until, entry.time)))
+            and (self.message is None or data is not None and self.message == (data.stream, data.function))
+            and (self.system is None or self.system == system)
+            and (self.failing is None or any(note.rule == self.failing for note in line.notes))
+        )
+
     def shown(self, lines: List[Line]) -> Tuple[List[Shown], List[Rest]]:
         """The lines that are written, with the gaps between them, before and after them, and the failures that are not
         written whole.
         """
         groups, writer, cut = Groups(), Writer(5 if self.around is None else self.around), self.shortened(len(lines))
         for line in lines:
-            if self.has(line.number):
+            if not self.selects(line):
+                if line.entry is not None:
+                    writer.pass_over()
+            else:
                 is_whole = self.around is None and (cut is None or line.number < cut)
                 writer.tell(Told(line, groups.told(line)), is_whole)
         writer.end(len(lines))

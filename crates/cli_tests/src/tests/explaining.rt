@@ -1,6 +1,6 @@
 use super::{Outcome, WANT_OF_MEMORY, assert_so, feed_of, judge, store_of};
 use cli_explain::explain_to;
-use cli_options::{Excerpt, Lines, OutputFormat};
+use cli_options::{Selection, Excerpt, Lines, OutputFormat};
 use hsms_frame::Store;
 use std::alloc::{AllocError, Global};
 use std::fmt::InlineText;
@@ -12,6 +12,7 @@ const WHOLE: Excerpt = Excerpt {
     around: 5,
     from: 1,
     to: u32::MAX,
+    selection: Selection::ALL,
     form: OutputFormat::Text,
     utc: false,
     lists: false,
@@ -151,6 +152,7 @@ const FAILURES: Excerpt = Excerpt {
     around: 1,
     from: 1,
     to: u32::MAX,
+    selection: Selection::ALL,
     form: OutputFormat::Text,
     utc: false,
     lists: false,
@@ -177,6 +179,7 @@ const FRONT: Excerpt = Excerpt {
     around: 5,
     from: 2,
     to: 4,
+    selection: Selection::ALL,
     form: OutputFormat::Text,
     utc: false,
     lists: false,
@@ -276,6 +279,7 @@ const FROM_SEVEN: Excerpt = Excerpt {
     around: 5,
     from: 7,
     to: u32::MAX,
+    selection: Selection::ALL,
     form: OutputFormat::Text,
     utc: false,
     lists: false,
@@ -288,6 +292,7 @@ const BARE_FAILURES: Excerpt = Excerpt {
     around: 0,
     from: 1,
     to: u32::MAX,
+    selection: Selection::ALL,
     form: OutputFormat::Text,
     utc: false,
     lists: false,
@@ -354,6 +359,7 @@ const LAST: Excerpt = Excerpt {
     around: 5,
     from: 15,
     to: u32::MAX,
+    selection: Selection::ALL,
     form: OutputFormat::Text,
     utc: false,
     lists: false,
