@@ -53,6 +53,7 @@ impl<D: TurnDesk> End<D> {
     ghost use Rattle.hsms_machine.specs.View.{own_open_of};
     ghost use Rattle.hsms_endpoint.specs.EndState.{initial_state, initial_since};
     ghost use Rattle.hsms_endpoint.specs.NextDue.{next_due, test_due};
+    ghost use Rattle.hsms_endpoint.specs.PrimaryCounts.{name_of, times};
     ghost use Rattle.hsms_endpoint.specs.Drive.{input_event};
     ghost use Rattle.hsms_endpoint.specs.End.{Answers};
     ghost use Rattle.secs_text.specs.View.{content};
@@ -114,6 +115,14 @@ impl<D: TurnDesk> End<D> {
         ensures { result ≡ own_open_of self.now.known.view }
     {
         self.state.tracker.own_open()
+    }
+
+    /// Returns the number of primaries with this stream and function that were passed to the message handler. Allocates no
+    /// memory.
+    pub fn times_asked(&self, stream: u8, function: u8) -> u64
+        ensures { result ≡ times (name_of stream function) self.now.known.asked }
+    {
+        self.state.asked.times(stream, function)
     }
 
     /// Returns the received bytes that belong to no complete message yet. Allocates no memory.

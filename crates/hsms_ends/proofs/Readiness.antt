@@ -25,8 +25,8 @@ use Rattle.hsms_endpoint.specs.EndState.{EndOf, initial_since}
 use Rattle.hsms_endpoint.specs.Turn.{InputEvent as Input}
 use Rattle.hsms_endpoint.specs.End.{Accepts}
 use Rattle.hsms_ends.specs.InnerOutput.{FitsLengthField, AllFitLengthField}
-use Rattle.hsms_ends.specs.declared.step.Step.{Step}
 use Rattle.hsms_ends.specs.Link.{LinkState, LinkInput}
+use Rattle.hsms_ends.specs.Turns.{Remaining}
 use Rattle.hsms_ends.specs.InnerServeSteps.{IsReady, Handed, TurnTaken}
 use Rattle.hsms_ends.proofs.TurnPrefixes.{along_turn}
 
@@ -115,7 +115,7 @@ module _ {D : Type 0} (answers : D → ℕ → Content → Answered) where
       subst P (sym h.leads) (ready_after end h.end' input h.entries ready h.takes)
 
   -- The endpoint is ready after a complete turn.
-  pub ready_turned : (pause : Option ℕ) (end new : EndOf D) (script script' : List Step) (log log' : SinkState) (link link' : LinkState) (n n' refused refused' : ℕ) → IsReady end
+  pub ready_turned : (pause : Option ℕ) (end new : EndOf D) (script script' : Remaining) (log log' : SinkState) (link link' : LinkState) (n n' refused refused' : ℕ) → IsReady end
       → TurnTaken answers pause (Ok tt) end new script script' log log' link link' n n' refused refused' → IsReady new
   ready_turned pause end new script script' log log' link link' n n' refused refused' ready t =
       let P : EndOf D → Type 0 = λ e. IsReady e in

@@ -13,7 +13,7 @@ use Rattle.hsms_ends.specs.declared.step.Step.{Step}
 use Rattle.hsms_ends.specs.declared.output.Stop.{Stop}
 use Rattle.hsms_ends.specs.declared.output.Stop.TheVariants.{Link, Log, Memory}
 use Rattle.hsms_ends.specs.Link.{LinkState, both, processed_time}
-use Rattle.hsms_ends.specs.Turns.{Rest, Nothing, Stepped, Declined, Tested, Quiet, Octets, Closed, Turn, Untaken, Ticks, Continues, IsTurn, AreTurns, entries_turns, last_turns, processed_turns, steps_rest, steps_turn, steps_turns}
+use Rattle.hsms_ends.specs.Turns.{Remaining, Rest, Nothing, Stepped, Declined, Tested, Quiet, Octets, Closed, Turn, Untaken, Ticks, Continues, IsTurn, AreTurns, all_of, entries_turns, last_turns, processed_turns, steps_rest, steps_turn, steps_turns}
 use Rattle.hsms_ends.specs.Serving.{count_after, entries_cut, last_cut, last_call, processed_cut, Unstarted, Started, IsCutTurn, entries_of, reception_of, refused_of, steps_cut}
 use Rattle.hsms_ends.specs.Output.{IsEnding}
 use Rattle.hsms_ends.specs.InnerServeSteps.{is_cut, Counts, Handed, IsCut, TurnsTaken, StartedBy, Ran}
@@ -38,50 +38,54 @@ stored a b k none h =
 -- ---- the number of remaining steps
 
 module _ {D : Type 0} (answers : D → ℕ → Content → Answered) (pause : Option ℕ) where
-  steps_in_rest : (is_cut : Bool) (end : EndOf D) (script : List Step) (rest : Rest) (end' : EndOf D) (script' : List Step) → Continues answers pause is_cut end script rest end' script'
-      → length script' + steps_rest rest ≡ length script
-  steps_in_rest is_cut end script Nothing end' script' h = omega (arith, ap length h.2)
+  steps_in_rest : (is_cut : Bool) (end : EndOf D) (script : Remaining) (rest : Rest) (end' : EndOf D) (script' : Remaining) → Continues answers pause is_cut end script rest end' script'
+      → length script'.steps + steps_rest rest ≡ length script.steps
+  steps_in_rest is_cut end script Nothing end' script' h = omega (arith, ap (λ (s : Remaining). length s.steps) h.2)
   steps_in_rest is_cut end script (Stepped entries) end' script' h = omega (arith, ap length h.1.2)
   steps_in_rest is_cut end script Declined end' script' h = omega (arith, ap length h.2.2)
-  steps_in_rest is_cut end script (Tested entries) end' script' h = omega (arith, ap length h.0.script_stays)
-  steps_in_rest is_cut end script Quiet end' script' h = omega (arith, ap length h.0.script_stays)
-  steps_in_rest is_cut end script (Octets octets after) end' script' h = omega (arith, ap length h.0.script_stays)
-  steps_in_rest is_cut end script (Closed after) end' script' h = omega (arith, ap length h.0.script_stays)
+  steps_in_rest is_cut end script (Tested entries) end' script' h = omega (arith, ap (λ (s : Remaining). length s.steps) h.0.script_stays)
+  steps_in_rest is_cut end script Quiet end' script' h = omega (arith, ap (λ (s : Remaining). length s.steps) h.0.script_stays)
+  steps_in_rest is_cut end script (Octets octets after) end' script' h = omega (arith, ap (λ (s : Remaining). length s.steps) h.0.script_stays)
+  steps_in_rest is_cut end script (Closed after) end' script' h = omega (arith, ap (λ (s : Remaining). length s.steps) h.0.script_stays)
 
-  steps_in_turn : (end : EndOf D) (script : List Step) (turn : Turn) (end' : EndOf D) (script' : List Step) → IsTurn answers pause false end script turn end' script'
-      → length script' + steps_turn turn ≡ length script
-  steps_in_turn end script (Untaken now) end' script' h = omega (arith, ap length h.3)
+  steps_in_turn : (end : EndOf D) (script : Remaining) (turn : Turn) (end' : EndOf D) (script' : Remaining) → IsTurn answers pause false end script turn end' script'
+      → length script'.steps + steps_turn turn ≡ length script.steps
+  steps_in_turn end script (Untaken now) end' script' h = omega (arith, ap (λ (s : Remaining). length s.steps) h.3)
   steps_in_turn end script (Ticks now ticked rest) end' script' h = steps_in_rest false h.1.0 script rest end' script' h.1.2
 
-  steps_in_turns : (end : EndOf D) (script : List Step) (turns : List Turn) (end' : EndOf D) (script' : List Step) → AreTurns answers pause end script turns end' script'
-      → length script' + steps_turns turns ≡ length script
-  steps_in_turns end script [] end' script' h = omega (arith, ap length h.1)
+  steps_in_turns : (end : EndOf D) (script : Remaining) (turns : List Turn) (end' : EndOf D) (script' : Remaining) → AreTurns answers pause end script turns end' script'
+      → length script'.steps + steps_turns turns ≡ length script.steps
+  steps_in_turns end script [] end' script' h = omega (arith, ap (λ (s : Remaining). length s.steps) h.1)
   steps_in_turns end script (turn ∷ turns) end' script' h =
       omega (arith, steps_in_turn end script turn h.0 h.1 h.2, steps_in_turns h.0 h.1 turns end' script' h.3)
 
-  steps_uncut : (r : Result (Unit {0}) Stop) (end late : EndOf D) (script script' : List Step) (cut : Option Turn) → IsCut answers pause r end script cut late script' → is_cut r ≡ false
-      → (steps_cut cut ≡ 0) × (length script' ≡ length script)
-  steps_uncut r end late script script' None h whole = (refl, ap length h.1)
+  steps_uncut : (r : Result (Unit {0}) Stop) (end late : EndOf D) (script script' : Remaining) (cut : Option Turn) → IsCut answers pause r end script cut late script' → is_cut r ≡ false
+      → (steps_cut cut ≡ 0) × (length script'.steps ≡ length script.steps)
+  steps_uncut r end late script script' None h whole = (refl, ap (λ (s : Remaining). length s.steps) h.1)
   steps_uncut r end late script script' (Some turn) h whole = absurd (let e : true ≡ false = sym h.0 ∙ whole in cc)
 
 module _ {D : Type 0} (answers : D → ℕ → Content → Answered) (pause : Option ℕ) where
-  is_cut_turn : (r : Result (Unit {0}) Stop) (end late : EndOf D) (script script' : List Step) (cut : Option Turn) → IsCut answers pause r end script cut late script' → IsCutTurn answers pause end script cut late
+  is_cut_turn : (r : Result (Unit {0}) Stop) (end late : EndOf D) (script script' : Remaining) (cut : Option Turn) → IsCut answers pause r end script cut late script' → IsCutTurn answers pause end script cut late
   is_cut_turn r end late script script' None h = h.0
   is_cut_turn r end late script script' (Some turn) h = (script', h.1)
 
-  cut_is_none : (r : Result (Unit {0}) Stop) (end late : EndOf D) (script script' : List Step) (cut : Option Turn) → IsCut answers pause r end script cut late script' → is_cut r ≡ false → cut ≡ None
+  cut_is_none : (r : Result (Unit {0}) Stop) (end late : EndOf D) (script script' : Remaining) (cut : Option Turn) → IsCut answers pause r end script cut late script' → is_cut r ≡ false → cut ≡ None
   cut_is_none r end late script script' None h whole = refl
   cut_is_none r end late script script' (Some turn) h whole = absurd (let e : true ≡ false = sym h.0 ∙ whole in cc)
 
-  pub ran_turns : (r : Result (Unit {0}) Stop) (now limit : ℕ) (new begun end : EndOf D) (script : List Step) (i j : ℕ) (log between log' : SinkState) (link midway link' : LinkState) (n m n' refused refused' : ℕ)
-      → i ≡ 0 → n ≡ 0 → refused ≡ 0
+  pub ran_turns : (r : Result (Unit {0}) Stop) (now limit : ℕ) (new begun end : EndOf D) (script : List Step) (i since : ℕ) (last : Remaining) (log between log' : SinkState) (link midway link' : LinkState) (n m n' refused refused' : ℕ)
+      → i ≡ 0 → n ≡ 0 → refused ≡ 0 → since ≡ begun.known.moment
       → Handed answers (Ok tt) new (start now) begun log between link midway (processed_time now) n m
-      → TurnsTaken answers pause r limit begun end (drop i script) (drop j script) between log' midway link' m n' refused refused'
-      → Ran answers pause r limit new end script (drop j script) log log' link link' n' refused'
-  ran_turns r now limit new begun end script i j log between log' link midway link' n m n' refused refused' at_first none none_refused h t =
+      → TurnsTaken answers pause r limit begun end (record { since = since; steps = drop i script }) last between log' midway link' m n' refused refused'
+      → Ran answers pause r limit new end script last.steps log log' link link' n' refused'
+  ran_turns r now limit new begun end script i since last log between log' link midway link' n m n' refused refused' at_first none none_refused since_is h t =
       let front : drop i script ≡ script = ap (λ k. drop k script) at_first in
-      let P : EndOf D → Type 0 = λ e. AreTurns answers pause e (drop i script) t.turns t.mid t.left in
-      let Q : List Step → Type 0 = λ l. AreTurns answers pause h.end' l t.turns t.mid t.left in
+      let make : ℕ → List Step → Remaining = λ k l. record { since = k; steps = l } in
+      let first : Remaining = make since (drop i script) in
+      let all_are : first ≡ all_of h.end' script =
+      ap (λ k. make k (drop i script)) (since_is ∙ ap (λ (e : EndOf D). e.known.moment) h.leads) ∙ ap (λ l. make h.end'.known.moment l) front in
+      let P : EndOf D → Type 0 = λ e. AreTurns answers pause e first t.turns t.mid t.left in
+      let Q : Remaining → Type 0 = λ l. AreTurns answers pause h.end' l t.turns t.mid t.left in
       let story = Started now h.entries t.turns t.cut None in
       let all = yields_then r log between log' link midway link' n m n' h.entries (entries_turns t.turns ++ entries_cut t.cut) h.entries (last_cut t.cut []) (processed_time now) (both (processed_turns t.turns) (processed_cut t.cut)) h.yields t.yields in
       let same : h.entries ++ (entries_turns t.turns ++ entries_cut t.cut) ≡ entries_of story = ap (λ l. h.entries ++ (entries_turns t.turns ++ l)) (sym (append-nil (entries_cut t.cut))) in
@@ -90,14 +94,14 @@ module _ {D : Type 0} (answers : D → ℕ → Content → Answered) (pause : Op
       record {
         story = story;
         end' = t.end';
-        is_story = (h.end', t.mid, t.left, t.end', h.takes, subst Q front (subst P h.leads t.are_turns), is_cut_turn r t.mid t.end' t.left (drop j script) t.cut t.is_last, refl);
+        is_story = (h.end', t.mid, t.left, t.end', h.takes, subst Q all_are (subst P h.leads t.are_turns), is_cut_turn r t.mid t.end' t.left last t.cut t.is_last, refl);
         bound = t.bound;
-        whole = λ uncut. (cut_is_none r t.mid t.end' t.left (drop j script) t.cut t.is_last uncut, refl);
+        whole = λ uncut. (cut_is_none r t.mid t.end' t.left last t.cut t.is_last uncut, refl);
         enough = t.enough;
         not_lost = refl;
         steps = λ uncut.
-            let none = steps_uncut answers pause r t.mid t.end' t.left (drop j script) t.cut t.is_last uncut in
-            let turned = steps_in_turns answers pause begun (drop i script) t.turns t.mid t.left t.are_turns in
+            let none = steps_uncut answers pause r t.mid t.end' t.left last t.cut t.is_last uncut in
+            let turned = steps_in_turns answers pause begun first t.turns t.mid t.left t.are_turns in
             omega (arith, none.0, none.1, turned, ap length front);
         started = started_by r now h.entries t.turns t.cut;
         leads = t.leads;
@@ -118,7 +122,7 @@ module _ {D : Type 0} (answers : D → ℕ → Content → Answered) (pause : Op
       record {
         story = story;
         end' = h.end';
-        is_story = (h.end', h.end', script, h.end', turns, (refl, refl), refl, refl);
+        is_story = (h.end', h.end', all_of h.end' script, h.end', turns, (refl, refl), refl, refl);
         bound = omega arith;
         whole = λ uncut. absurd (cc);
         enough = λ uncut. absurd (cc);

@@ -6,9 +6,8 @@ use Rattle.secs_text.specs.Content.{Content}
 use Rattle.hsms_endpoint.specs.Answer.{Answered}
 use Rattle.hsms_endpoint.specs.EndState.{EndOf}
 use Rattle.hsms_ends.specs.declared.step.Step.{Step}
-use Rattle.hsms_ends.specs.declared.step.Step.TheVariants.{Separate}
 use Rattle.hsms_ends.specs.Link.{LinkInput, later, both, processed_nothing}
-use Rattle.hsms_ends.specs.Turns.{is_idle, is_step_due, Turn, IsTurn, AreTurns, entries_turn, entries_turns, processed_turn, processed_turns, refused_turn, refused_turns}
+use Rattle.hsms_ends.specs.Turns.{Remaining, is_due, is_first_due, Turn, IsTurn, AreTurns, entries_turn, entries_turns, processed_turn, processed_turns, refused_turn, refused_turns}
 use Rattle.hsms_ends.proofs.ReceivedBytes.{both_nothing}
 
 later_assoc : (a b c : Option Bool) → later (later a b) c ≡ later a (later b c)
@@ -59,14 +58,14 @@ pub drop_next : (xs : List Step) (i : ℕ) (d : Step) → i < length xs → drop
 drop_next xs i d below = rw (add-one, drop-cons xs i d)
 
 module _ {D : Type 0} where
-  pub due_at : (end : EndOf D) (xs : List Step) (i : ℕ) → i < length xs → is_step_due end (drop i xs) ≡ is_idle end
-  due_at end xs i below = let P : List Step → Type 0 = λ l. is_step_due end l ≡ is_idle end in subst P (sym (drop_next xs i Separate below)) refl
+  pub due_at : (end : EndOf D) (since : ℕ) (xs : List Step) (i : ℕ) (d : Step) → i < length xs → is_first_due end since (drop i xs) ≡ is_due end since (get_or xs i d)
+  due_at end since xs i d below = let P : List Step → Type 0 = λ l. is_first_due end since l ≡ is_due end since (get_or xs i d) in subst P (sym (drop_next xs i d below)) refl
 
 module _ {D : Type 0} (answers : D → ℕ → Content → Answered) (pause : Option ℕ) where
-  pub turns_snoc : (a b c : EndOf D) (s t u : List Step) (turns : List Turn) (turn : Turn) → AreTurns answers pause a s turns b t → IsTurn answers pause false b t turn c u → AreTurns answers pause a s (turns ++ turn ∷ []) c u
+  pub turns_snoc : (a b c : EndOf D) (s t u : Remaining) (turns : List Turn) (turn : Turn) → AreTurns answers pause a s turns b t → IsTurn answers pause false b t turn c u → AreTurns answers pause a s (turns ++ turn ∷ []) c u
   turns_snoc a b c s t u [] turn h k =
-      let P : EndOf D → List Step → Type 0 = λ x y. IsTurn answers pause false x y turn c u in
+      let P : EndOf D → Remaining → Type 0 = λ x y. IsTurn answers pause false x y turn c u in
       let Q : EndOf D → Type 0 = λ x. P x s in
-      let R : List Step → Type 0 = λ y. P b y in
+      let R : Remaining → Type 0 = λ y. P b y in
       (c, u, subst Q h.0 (subst R h.1 k), (refl, refl))
   turns_snoc a b c s t u (x ∷ turns) turn h k = (h.0, h.1, h.2, turns_snoc h.0 b c h.1 t u turns turn h.3 k)

@@ -1,5 +1,5 @@
 -- The effects of the parts of a turn.
-use Rattle.std.proofs.Common.{◌≡◌, ◌≤◌, ◌<◌, ◌+◌, ◌++◌, ℕ, List, [], ◌∷◌, take, drop, Some, None, Ok, Err, true, false, inl, inr, refl, sym, ap, ◌∙◌, subst, arith}
+use Rattle.std.proofs.Common.{◌≡◌, ◌≤◌, ◌<◌, ◌+◌, ◌++◌, ℕ, List, [], ◌∷◌, take, Some, None, Ok, Err, true, false, inl, inr, refl, sym, ap, ◌∙◌, subst, arith}
 use Rattle.std.specs.Prelude.{Option, Result}
 use Rattle.std.proofs.lemmas.List.{append-nil}
 use Rattle.secs_text.specs.Content.{Content}
@@ -19,7 +19,7 @@ use Rattle.hsms_ends.specs.declared.link.Got.TheVariants as got
 use Rattle.hsms_ends.specs.declared.output.Stop.{Stop}
 use Rattle.hsms_ends.specs.declared.output.Stop.TheVariants.{Link, Log, Memory}
 use Rattle.hsms_ends.specs.Link.{LinkState, LinkInput, ProcessesInput, Asks, both, processed_nothing, processed_time, processed_octets, processed_quiet, processed_close, processed_got}
-use Rattle.hsms_ends.specs.Turns.{Refused, Ticked, Done, Rest, Nothing, Stepped, Declined, Tested, Quiet, Octets, Closed, Untaken, Ticks, HasNotGone, has_gone, is_step_due, MustWait, MustTest, Continues, IsTurn, entries_after, entries_rest, entries_turn, entries_turns, last_after, last_rest, last_turn, moment_after, processed_rest, processed_turn, processed_turns, refused_turn, refused_turns, input_of}
+use Rattle.hsms_ends.specs.Turns.{Refused, Ticked, Done, Rest, Nothing, Stepped, Declined, Tested, Quiet, Octets, Closed, Untaken, Ticks, HasNotGone, has_gone, Remaining, IsNext, MustWait, MustTest, Continues, IsTurn, entries_after, entries_rest, entries_turn, entries_turns, last_after, last_rest, last_turn, moment_after, processed_rest, processed_turn, processed_turns, refused_turn, refused_turns, input_of}
 use Rattle.hsms_ends.specs.Output.{IsEnding}
 use Rattle.hsms_ends.specs.InnerServeSteps.{is_cut, Leads, Takes, Counts, Yields, Handed, Followed, Heeded, Continued, TurnTaken, TurnsSoFar, TurnsTaken}
 use Rattle.hsms_ends.proofs.ReceivedBytes.{both_nothing}
@@ -150,7 +150,7 @@ module _ {D : Type 0} (answers : D → ℕ → Content → Answered) where
 
 module _ {D : Type 0} (answers : D → ℕ → Content → Answered) (pause : Option ℕ) where
   -- The first tick ended the connection.
-  pub continued_gone : (end : EndOf D) (script : List Step) (log : SinkState) (link : LinkState) (n refused : ℕ) → has_gone end ≡ true
+  pub continued_gone : (end : EndOf D) (script : Remaining) (log : SinkState) (link : LinkState) (n refused : ℕ) → has_gone end ≡ true
       → Continued answers pause (Ok tt) end end script script log log link link n n refused refused
   continued_gone end script log link n refused gone = record {
     rest = Nothing;
@@ -162,7 +162,7 @@ module _ {D : Type 0} (answers : D → ℕ → Content → Answered) (pause : Op
   }
 
   -- An allocation failed in a step.
-  pub continued_memory : (end new : EndOf D) (script : List Step) (log : SinkState) (link : LinkState) (n refused : ℕ)
+  pub continued_memory : (end new : EndOf D) (script : Remaining) (log : SinkState) (link : LinkState) (n refused : ℕ)
       → Continued answers pause (Err Memory) end new script script log log link link n n refused refused
   continued_memory end new script log link n refused = record {
     rest = Nothing;
@@ -174,7 +174,7 @@ module _ {D : Type 0} (answers : D → ℕ → Content → Answered) (pause : Op
   }
 
   -- The wait failed.
-  pub continued_fault : (end : EndOf D) (script : List Step) (log : SinkState) (link link' : LinkState) (n refused : ℕ)
+  pub continued_fault : (end : EndOf D) (script : Remaining) (log : SinkState) (link link' : LinkState) (n refused : ℕ)
       → ProcessesInput link link' processed_nothing → Stays link.taken link'.taken → link'.failures ≡ next_count link.failures
       → Continued answers pause (Err Link) end end script script log log link link' n n refused refused
   unfolding puts_fault
@@ -193,7 +193,7 @@ module _ {D : Type 0} (answers : D → ℕ → Content → Answered) (pause : Op
   }
 
   -- The wait returned.
-  pub continued_got : (r : Result (Unit {0}) Stop) (into : List ℕ) (g : Got) (end end_new : EndOf D) (script : List Step) (log log' : SinkState) (link mid link' : LinkState) (n n' refused : ℕ)
+  pub continued_got : (r : Result (Unit {0}) Stop) (into : List ℕ) (g : Got) (end end_new : EndOf D) (script : Remaining) (log log' : SinkState) (link mid link' : LinkState) (n n' refused : ℕ)
       → ProcessesInput link mid (processed_got into g) → Stays link.taken mid.taken → mid.failures ≡ link.failures
       → Heeded answers r into g end end_new log log' mid link' n n' → MustWait pause end script script
       → Continued answers pause r end end_new script script log log' link link' n n' refused refused
@@ -224,7 +224,7 @@ module _ {D : Type 0} (answers : D → ℕ → Content → Answered) (pause : Op
     refusals = counts_none refused;
   }
 
-  tested_by : (r : Result (Unit {0}) Stop) (end new : EndOf D) (script : List Step) (log log' : SinkState) (link link' : LinkState) (n n' refused : ℕ) → MustTest pause end script script
+  tested_by : (r : Result (Unit {0}) Stop) (end new : EndOf D) (script : Remaining) (log log' : SinkState) (link link' : LinkState) (n n' refused : ℕ) → MustTest pause end script script
       → (h : Handed answers r end linktest new log log' link link' processed_nothing n n') → Accepts answers end linktest h.entries h.end'
       → Continued answers pause r end new script script log log' link link' n n' refused refused
   tested_by r end new script log log' link link' n n' refused must h turns = record {
@@ -237,7 +237,7 @@ module _ {D : Type 0} (answers : D → ℕ → Content → Answered) (pause : Op
   }
 
   -- The link was tested.
-  pub continued_tested : (r : Result (Unit {0}) Stop) (end new : EndOf D) (script : List Step) (log log' : SinkState) (link link' : LinkState) (n n' refused : ℕ) → MustTest pause end script script
+  pub continued_tested : (r : Result (Unit {0}) Stop) (end new : EndOf D) (script : Remaining) (log log' : SinkState) (link link' : LinkState) (n n' refused : ℕ) → MustTest pause end script script
       → Handed answers r end linktest new log log' link link' processed_nothing n n' → Continued answers pause r end new script script log log' link link' n n' refused refused
   continued_tested (Ok u) end new script log log' link link' n n' refused must h = tested_by (Ok u) end new script log log' link link' n n' refused must h h.takes
   continued_tested (Err Link) end new script log log' link link' n n' refused must h = tested_by (Err Link) end new script log log' link link' n n' refused must h h.takes
@@ -256,7 +256,7 @@ module _ {D : Type 0} (answers : D → ℕ → Content → Answered) (pause : Op
       ]
 
   -- The tick, and the rest of the turn.
-  pub turn_whole : (r : Result (Unit {0}) Stop) (now : ℕ) (end mid new : EndOf D) (script script' : List Step) (log between log' : SinkState) (link midway link' : LinkState) (n m n' refused refused' : ℕ)
+  pub turn_whole : (r : Result (Unit {0}) Stop) (now : ℕ) (end mid new : EndOf D) (script script' : Remaining) (log between log' : SinkState) (link midway link' : LinkState) (n m n' refused refused' : ℕ)
       → HasNotGone end → Handed answers (Ok tt) end (tick now) mid log between link midway (processed_time now) n m
       → Continued answers pause r mid new script script' between log' midway link' m n' refused refused'
       → TurnTaken answers pause r end new script script' log log' link link' n n' refused refused'
@@ -273,7 +273,7 @@ module _ {D : Type 0} (answers : D → ℕ → Content → Answered) (pause : Op
       }
 
   -- The turn was cut short after the entries of its tick.
-  turn_ticked : (stop : Stop) (now : ℕ) (end mid : EndOf D) (script : List Step) (log log' : SinkState) (link link' : LinkState) (n n' refused : ℕ)
+  turn_ticked : (stop : Stop) (now : ℕ) (end mid : EndOf D) (script : Remaining) (log log' : SinkState) (link link' : LinkState) (n n' refused : ℕ)
       → HasNotGone end → (h : Handed answers (Err stop) end (tick now) mid log log' link link' (processed_time now) n n') → Accepts answers end (tick now) h.entries h.end'
       → TurnTaken answers pause (Err stop) end mid script script log log' link link' n n' refused refused
   turn_ticked stop now end mid script log log' link link' n n' refused up h turns = record {
@@ -285,7 +285,7 @@ module _ {D : Type 0} (answers : D → ℕ → Content → Answered) (pause : Op
     refusals = counts_none refused;
   }
 
-  pub turn_cut : (stop : Stop) (now : ℕ) (end mid : EndOf D) (script : List Step) (log log' : SinkState) (link link' : LinkState) (n n' refused : ℕ)
+  pub turn_cut : (stop : Stop) (now : ℕ) (end mid : EndOf D) (script : Remaining) (log log' : SinkState) (link link' : LinkState) (n n' refused : ℕ)
       → HasNotGone end → Handed answers (Err stop) end (tick now) mid log log' link link' (processed_time now) n n'
       → TurnTaken answers pause (Err stop) end mid script script log log' link link' n n' refused refused
   turn_cut Link now end mid script log log' link link' n n' refused up h = turn_ticked Link now end mid script log log' link link' n n' refused up h h.takes
@@ -304,34 +304,34 @@ module _ {D : Type 0} (answers : D → ℕ → Content → Answered) (pause : Op
       ]
 
   -- A step was taken.
-  pub stepped : (r : Result (Unit {0}) Stop) (end new : EndOf D) (xs : List Step) (i : ℕ) (step : Step) (log log' : SinkState) (link link' : LinkState) (n n' refused : ℕ) (entries : List Entry)
-      → HasNotGone end → is_step_due end (drop i xs) ≡ true → drop i xs ≡ step ∷ drop (i + 1) xs → Accepts answers end (input_of step) entries new
+  pub stepped : (r : Result (Unit {0}) Stop) (end new : EndOf D) (script script' : Remaining) (step : Step) (log log' : SinkState) (link link' : LinkState) (n n' refused : ℕ) (entries : List Entry)
+      → IsNext end script step script' → Accepts answers end (input_of step) entries new
       → Yields r log log' link link' n n' entries entries processed_nothing
-      → Continued answers pause r end new (drop i xs) (drop (i + 1) xs) log log' link link' n n' refused refused
-  stepped r end new xs i step log log' link link' n n' refused entries up due next turns yields = record {
+      → Continued answers pause r end new script script' log log' link link' n n' refused refused
+  stepped r end new script script' step log log' link link' n n' refused entries next turns yields = record {
     rest = Stepped entries;
     end' = new;
-    continues = (step, (up, due, next), turns);
+    continues = (step, next, turns);
     leads = leads_itself r new;
     yields = yields;
     refusals = counts_none refused;
   }
 
   -- The endpoint rejected a step.
-  pub declined : (end new : EndOf D) (xs : List Step) (i : ℕ) (step : Step) (reason : EndFault) (log : SinkState) (link : LinkState) (n refused refused' : ℕ)
-      → HasNotGone end → is_step_due end (drop i xs) ≡ true → drop i xs ≡ step ∷ drop (i + 1) xs → Encounters end.known (input_of step) (Some reason) → new ≡ end
+  pub declined : (end new : EndOf D) (script script' : Remaining) (step : Step) (reason : EndFault) (log : SinkState) (link : LinkState) (n refused refused' : ℕ)
+      → IsNext end script step script' → Encounters end.known (input_of step) (Some reason) → new ≡ end
       → Counts refused refused' 1
-      → Continued answers pause (Ok tt) end new (drop i xs) (drop (i + 1) xs) log log link link n n refused refused'
-  declined end new xs i step reason log link n refused refused' up due next encounters same more = record {
+      → Continued answers pause (Ok tt) end new script script' log log link link n n refused refused'
+  declined end new script script' step reason log link n refused refused' next encounters same more = record {
     rest = Declined;
     end' = end;
-    continues = (step, reason, (up, due, next), encounters, refl);
+    continues = (step, reason, next, encounters, refl);
     leads = same;
     yields = yields_nothing log link n;
     refusals = more;
   }
 
-  pub none_so_far : (end : EndOf D) (script : List Step) (log : SinkState) (link : LinkState) (n refused : ℕ) → TurnsSoFar answers pause end end script script log log link link n n refused refused 0
+  pub none_so_far : (end : EndOf D) (script : Remaining) (log : SinkState) (link : LinkState) (n refused : ℕ) → TurnsSoFar answers pause end end script script log log link link n n refused refused 0
   none_so_far end script log link n refused = record {
     turns = [];
     are_turns = (refl, refl);
@@ -340,7 +340,7 @@ module _ {D : Type 0} (answers : D → ℕ → Content → Answered) (pause : Op
     refusals = counts_none refused;
   }
 
-  pub one_more : (end mid new : EndOf D) (script left script' : List Step) (log between log' : SinkState) (link midway link' : LinkState) (n m n' refused between_refused refused' done : ℕ)
+  pub one_more : (end mid new : EndOf D) (script left script' : Remaining) (log between log' : SinkState) (link midway link' : LinkState) (n m n' refused between_refused refused' done : ℕ)
       → TurnsSoFar answers pause end mid script left log between link midway n m refused between_refused done
       → TurnTaken answers pause (Ok tt) mid new left script' between log' midway link' m n' between_refused refused'
       → TurnsSoFar answers pause end new script script' log log' link link' n n' refused refused' (done + 1)
@@ -361,7 +361,7 @@ module _ {D : Type 0} (answers : D → ℕ → Content → Answered) (pause : Op
       }
 
   -- All turns were taken, or the connection was closed.
-  pub taken_whole : (limit : ℕ) (end new : EndOf D) (script script' : List Step) (log log' : SinkState) (link link' : LinkState) (n n' refused refused' done : ℕ)
+  pub taken_whole : (limit : ℕ) (end new : EndOf D) (script script' : Remaining) (log log' : SinkState) (link link' : LinkState) (n n' refused refused' done : ℕ)
       → TurnsSoFar answers pause end new script script' log log' link link' n n' refused refused' done → done ≤ limit → (has_gone new ≡ false → done ≡ limit)
       → TurnsTaken answers pause (Ok tt) limit end new script script' log log' link link' n n' refused refused'
   taken_whole limit end new script script' log log' link link' n n' refused refused' done s within enough =
@@ -384,7 +384,7 @@ module _ {D : Type 0} (answers : D → ℕ → Content → Answered) (pause : Op
       }
 
   -- An error cut the last turn short.
-  pub taken_cut : (stop : Stop) (limit : ℕ) (end mid new : EndOf D) (script left script' : List Step) (log between log' : SinkState) (link midway link' : LinkState) (n m n' refused between_refused refused' done : ℕ)
+  pub taken_cut : (stop : Stop) (limit : ℕ) (end mid new : EndOf D) (script left script' : Remaining) (log between log' : SinkState) (link midway link' : LinkState) (n m n' refused between_refused refused' done : ℕ)
       → TurnsSoFar answers pause end mid script left log between link midway n m refused between_refused done → done < limit
       → TurnTaken answers pause (Err stop) mid new left script' between log' midway link' m n' between_refused refused'
       → TurnsTaken answers pause (Err stop) limit end new script script' log log' link link' n n' refused refused'

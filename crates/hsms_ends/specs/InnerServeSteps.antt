@@ -1,5 +1,5 @@
 -- The effects of the parts of serving. Only private functions use this.
-use Rattle.std.specs.Prelude.{◌≡◌, ◌≤◌, ◌<◌, ◌+◌, ◌^◌, ◌++◌, ◌⊎◌, ℕ, Bool, true, false, List, [], length, take, Option, Some, None, Result, Ok, Err, All}
+use Rattle.std.specs.Prelude.{◌≡◌, ◌≤◌, ◌<◌, ◌+◌, ◌^◌, ◌++◌, ◌⊎◌, ℕ, Bool, true, false, List, [], length, take, drop, Option, Some, None, Result, Ok, Err, All}
 use Rattle.secs_text.specs.Content.{Content}
 use Rattle.hsms_frame.specs.Io.{SinkState}
 use Rattle.hsms_machine.specs.declared.entry.Entry.{Entry}
@@ -13,6 +13,7 @@ use Rattle.hsms_endpoint.specs.End.{Accepts}
 use Rattle.hsms_ends.specs.declared.endpoint_call.Call.{Call}
 use Rattle.hsms_ends.specs.declared.endpoint_call.Call.TheVariants.{Start, Tick, Bytes, Linktest, Lost}
 use Rattle.hsms_ends.specs.declared.step.Step.{Step}
+use Rattle.hsms_ends.specs.declared.turns.Progress.{Progress}
 use Rattle.hsms_ends.specs.declared.link.Got.{Got}
 use Rattle.hsms_ends.specs.declared.link.Got.TheVariants.{Octets, Quiet, Closed}
 use Rattle.hsms_ends.specs.declared.output.Stop.{Stop}
@@ -23,7 +24,7 @@ use Rattle.hsms_ends.specs.declared.fault.ServeFault.TheVariants as serve
 use Rattle.hsms_ends.specs.Link.{LinkState, LinkInput, both, ProcessesInput, processed_nothing, processed_time}
 use Rattle.hsms_ends.specs.Output.{LogGrows, LogStops, IsEnding, sent_octets}
 use Rattle.hsms_ends.specs.InnerOutput.{PutsOut, LogFailsIn, log_lines}
-use Rattle.hsms_ends.specs.Turns.{After, Rest, Turn, has_gone, Heeds, Continues, IsTurn, AreTurns, entries_after, entries_rest, entries_turn, entries_turns, last_after, last_rest, last_turn, moment_after, processed_rest, processed_turn, processed_turns, refused_rest, refused_turn, refused_turns}
+use Rattle.hsms_ends.specs.Turns.{After, Remaining, Rest, Turn, has_gone, Heeds, Continues, IsTurn, AreTurns, entries_after, entries_rest, entries_turn, entries_turns, last_after, last_rest, last_turn, moment_after, processed_rest, processed_turn, processed_turns, refused_rest, refused_turn, refused_turns}
 use Rattle.hsms_ends.specs.Serving.{Story, IsStory, IsLost, IsWhole, IsStarted, has_lost, entries_of, reception_of, refused_of, turns_begun, whole_turns, entries_cut, processed_cut, refused_cut, begun_cut, lost_entries, last_cut, last_call, count_after, steps_of, LeavesSteps, MayHaveFailed, LinkTook, failures_after}
 
 -- The input that a call passes to the endpoint.
@@ -33,6 +34,10 @@ called (Tick now) = tick now
 called (Bytes octets) = bytes octets.now
 called Linktest = linktest
 called Lost = lost
+
+-- The steps of a script that remain after this progress.
+abbrev pub remaining : Progress → List Step → Remaining
+remaining progress script = record { since = progress.since; steps = drop progress.place script }
 
 -- Holds if some log is a run that has the endpoint's view, and the settings are within their limits.
 pub record IsReady {D : Type 0} (end : EndOf D) : Type 0 where
@@ -98,7 +103,7 @@ Heeded answers result into Closed end end_new log log' link link' count count' =
     Followed answers result end lost end_new log log' link link' count count'
 
 -- Holds if the rest of a turn took place.
-pub record Continued {D : Type 0} (answers : D → ℕ → Content → Answered) (pause : Option ℕ) (result : Result (Unit {0}) Stop) (end end_new : EndOf D) (script script' : List Step) (log log' : SinkState) (link link' : LinkState) (count count' refused refused' : ℕ) : Type 0 where
+pub record Continued {D : Type 0} (answers : D → ℕ → Content → Answered) (pause : Option ℕ) (result : Result (Unit {0}) Stop) (end end_new : EndOf D) (script script' : Remaining) (log log' : SinkState) (link link' : LinkState) (count count' refused refused' : ℕ) : Type 0 where
   pub rest : Rest
   pub end' : EndOf D
   pub continues : Continues answers pause (is_cut result) end script rest end' script'
@@ -107,7 +112,7 @@ pub record Continued {D : Type 0} (answers : D → ℕ → Content → Answered)
   pub refusals : Counts refused refused' (refused_rest rest)
 
 -- Holds if a turn took place.
-pub record TurnTaken {D : Type 0} (answers : D → ℕ → Content → Answered) (pause : Option ℕ) (result : Result (Unit {0}) Stop) (end end_new : EndOf D) (script script' : List Step) (log log' : SinkState) (link link' : LinkState) (count count' refused refused' : ℕ) : Type 0 where
+pub record TurnTaken {D : Type 0} (answers : D → ℕ → Content → Answered) (pause : Option ℕ) (result : Result (Unit {0}) Stop) (end end_new : EndOf D) (script script' : Remaining) (log log' : SinkState) (link link' : LinkState) (count count' refused refused' : ℕ) : Type 0 where
   pub turn : Turn
   pub end' : EndOf D
   pub is_turn : IsTurn answers pause (is_cut result) end script turn end' script'
@@ -116,25 +121,25 @@ pub record TurnTaken {D : Type 0} (answers : D → ℕ → Content → Answered)
   pub refusals : Counts refused refused' (refused_turn turn)
 
 -- Holds if only complete turns took place so far.
-pub record TurnsSoFar {D : Type 0} (answers : D → ℕ → Content → Answered) (pause : Option ℕ) (end now_end : EndOf D) (script script' : List Step) (log log' : SinkState) (link link' : LinkState) (count count' refused refused' done : ℕ) : Type 0 where
+pub record TurnsSoFar {D : Type 0} (answers : D → ℕ → Content → Answered) (pause : Option ℕ) (end now_end : EndOf D) (script script' : Remaining) (log log' : SinkState) (link link' : LinkState) (count count' refused refused' done : ℕ) : Type 0 where
   pub turns : List Turn
   pub are_turns : AreTurns answers pause end script turns now_end script'
   pub long : length turns ≡ done
   pub yields : Yields (Ok tt) log log' link link' count count' (entries_turns turns) [] (processed_turns turns)
   pub refusals : Counts refused refused' (refused_turns turns)
 
-abbrev pub IsCut : {D : Type 0} → (D → ℕ → Content → Answered) → Option ℕ → Result (Unit {0}) Stop → EndOf D → List Step → Option Turn → EndOf D → List Step → Type 0
+abbrev pub IsCut : {D : Type 0} → (D → ℕ → Content → Answered) → Option ℕ → Result (Unit {0}) Stop → EndOf D → Remaining → Option Turn → EndOf D → Remaining → Type 0
 IsCut answers pause result end script None end' script' = (end' ≡ end) × (script' ≡ script)
 IsCut answers pause result end script (Some turn) end' script' =
     (is_cut result ≡ true) × IsTurn answers pause true end script turn end' script'
 
 -- Holds if at most `limit` turns took place. There are fewer only if the connection was closed or an error cut the
 -- last turn short.
-pub record TurnsTaken {D : Type 0} (answers : D → ℕ → Content → Answered) (pause : Option ℕ) (result : Result (Unit {0}) Stop) (limit : ℕ) (end end_new : EndOf D) (script script' : List Step) (log log' : SinkState) (link link' : LinkState) (count count' refused refused' : ℕ) : Type 0 where
+pub record TurnsTaken {D : Type 0} (answers : D → ℕ → Content → Answered) (pause : Option ℕ) (result : Result (Unit {0}) Stop) (limit : ℕ) (end end_new : EndOf D) (script script' : Remaining) (log log' : SinkState) (link link' : LinkState) (count count' refused refused' : ℕ) : Type 0 where
   pub turns : List Turn
   pub cut : Option Turn
   pub mid : EndOf D
-  pub left : List Step
+  pub left : Remaining
   pub end' : EndOf D
   pub are_turns : AreTurns answers pause end script turns mid left
   pub is_last : IsCut answers pause result mid left cut end' script'

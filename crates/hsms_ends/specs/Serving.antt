@@ -22,7 +22,7 @@ use Rattle.hsms_ends.specs.declared.fault.ServeFault.{ServeFault}
 use Rattle.hsms_ends.specs.declared.fault.ServeFault.TheVariants as serve
 use Rattle.hsms_ends.specs.Link.{LinkState, LinkInput, both, ProcessesInput, processed_nothing, processed_time}
 use Rattle.hsms_ends.specs.Output.{GrowsByPart, LogGrows, LogFails, LogStops, IsEnding, sent_octets}
-use Rattle.hsms_ends.specs.Turns.{Turn, HasNotGone, IsTurn, AreTurns, entries_turn, entries_turns, last_turn, last_turns, processed_turn, processed_turns, refused_turn, refused_turns, steps_turn, steps_turns}
+use Rattle.hsms_ends.specs.Turns.{Remaining, Turn, all_of, HasNotGone, IsTurn, AreTurns, entries_turn, entries_turns, last_turn, last_turns, processed_turn, processed_turns, refused_turn, refused_turns, steps_turn, steps_turns}
 
 -- The course of a connection. The settings line was not written; or `start` at this time failed to allocate; or the
 -- endpoint was started. A start has a time and entries, then complete turns, then possibly one that an error cut
@@ -34,9 +34,9 @@ pub data Story : Type 0 where
 
 -- ---- the story of an endpoint
 
-abbrev pub IsCutTurn : {D : Type 0} → (D → ℕ → Content → Answered) → Option ℕ → EndOf D → List Step → Option Turn → EndOf D → Type 0
+abbrev pub IsCutTurn : {D : Type 0} → (D → ℕ → Content → Answered) → Option ℕ → EndOf D → Remaining → Option Turn → EndOf D → Type 0
 IsCutTurn answers pause end script None end' = end' ≡ end
-IsCutTurn answers pause end script (Some turn) end' = (left : List Step) × IsTurn answers pause true end script turn end' left
+IsCutTurn answers pause end script (Some turn) end' = (left : Remaining) × IsTurn answers pause true end script turn end' left
 
 abbrev pub IsLost : {D : Type 0} → (D → ℕ → Content → Answered) → EndOf D → Option (List Entry) → EndOf D → Type 0
 IsLost answers end None end' = end' ≡ end
@@ -47,8 +47,8 @@ abbrev pub IsStory : {D : Type 0} → (D → ℕ → Content → Answered) → O
 IsStory answers pause new script Unopened end' = end' ≡ new
 IsStory answers pause new script (Unstarted now) end' = end' ≡ new
 IsStory {D} answers pause new script (Started now started turns cut loss) end' =
-    (begun : EndOf D) × (mid : EndOf D) × (left : List Step) × (late : EndOf D)
-    × Accepts answers new (start now) started begun × AreTurns answers pause begun script turns mid left
+    (begun : EndOf D) × (mid : EndOf D) × (left : Remaining) × (late : EndOf D)
+    × Accepts answers new (start now) started begun × AreTurns answers pause begun (all_of begun script) turns mid left
     × IsCutTurn answers pause mid left cut late × IsLost answers late loss end'
 
 -- ---- sums over a story

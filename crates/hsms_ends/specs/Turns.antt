@@ -1,6 +1,6 @@
 -- The turns of a served connection (project-specific): the inputs of the endpoint between two reads of the clock, and
 -- the results of the link.
-use Rattle.std.specs.Prelude.{◌≡◌, ◌+◌, ◌++◌, ◌&&◌, ◌==◌, ◌⊎◌, ℕ, nat_le, Bool, true, false, List, [], ◌∷◌, Option, Some, None}
+use Rattle.std.specs.Prelude.{◌≡◌, ◌+◌, ◌-◌, ◌++◌, ◌&&◌, ◌==◌, ◌⊎◌, ℕ, nat_le, Bool, true, false, List, [], ◌∷◌, Option, Some, None}
 use Rattle.secs_text.specs.Content.{Content}
 use Rattle.secs_text.specs.View.{content}
 use Rattle.hsms_machine.specs.declared.entry.Entry.{Entry}
@@ -9,19 +9,23 @@ use Rattle.hsms_machine.specs.View.{own_open_of}
 use Rattle.hsms_endpoint.specs.declared.fault.EndFault.{EndFault}
 use Rattle.hsms_endpoint.specs.Answer.{Answered}
 use Rattle.hsms_endpoint.specs.NextDue.{test_due}
+use Rattle.hsms_endpoint.specs.PrimaryCounts.{name_of, times}
 use Rattle.hsms_endpoint.specs.EndState.{EndOf}
 use Rattle.hsms_endpoint.specs.Turn.{InputEvent as Input, tick, bytes, send, linktest, separate, lost}
 use Rattle.hsms_endpoint.specs.Fault.{Encounters}
 use Rattle.hsms_endpoint.specs.End.{Accepts}
 use Rattle.hsms_ends.specs.declared.step.Step.{Step}
-use Rattle.hsms_ends.specs.declared.step.Step.TheVariants.{Send, Linktest, Separate}
+use Rattle.hsms_ends.specs.declared.step.Awaited.{Awaited}
+use Rattle.hsms_ends.specs.declared.step.Step.TheVariants.{Send, Linktest, Separate, Pause, Await}
 use Rattle.hsms_ends.specs.Link.{LinkInput, both, processed_nothing, processed_time, processed_octets, processed_quiet, processed_close}
 
--- The input that a step passes to the endpoint.
+-- The input that a step passes to the endpoint. A wait that has ended passes no later time.
 abbrev pub input_of : Step → Input
 input_of (Send message) = send (content message)
 input_of Linktest = linktest
 input_of Separate = separate
+input_of (Pause time) = tick 0
+input_of (Await awaited) = tick 0
 
 -- True if the endpoint's connection was closed.
 abbrev pub has_gone : {D : Type 0} → EndOf D → Bool
@@ -75,10 +79,35 @@ pub data Turn : Type 0 where
 abbrev pub MayStop : {D : Type 0} → Bool → EndOf D → Type 0
 MayStop is_cut end = (is_cut ≡ true) ⊎ (has_gone end ≡ true)
 
--- True if a step remains, and the endpoint is idle.
-abbrev pub is_step_due : {D : Type 0} → EndOf D → List Step → Bool
-is_step_due end [] = false
-is_step_due end (step ∷ script) = is_idle end
+-- The steps that remain, and the time of the step before them, or of the start.
+pub record Remaining : Type 0 where
+  pub since : ℕ
+  pub steps : List Step
+
+-- The steps of a script that remain at the start.
+abbrev pub all_of : {D : Type 0} → EndOf D → List Step → Remaining
+all_of end script = record { since = end.known.moment; steps = script }
+
+-- True if the peer has sent these primaries.
+abbrev pub has_sent : {D : Type 0} → EndOf D → Awaited → Bool
+has_sent end awaited = nat_le awaited.count (times (name_of awaited.stream awaited.function) end.known.asked)
+
+-- True if a step is due that follows a step of this time. What the endpoint sends is due if it is idle. A wait has ended
+-- if the endpoint is selected, and the time has passed or the peer has sent what is awaited.
+abbrev pub is_due : {D : Type 0} → EndOf D → ℕ → Step → Bool
+is_due end since (Send message) = is_idle end
+is_due end since Linktest = is_idle end
+is_due end since Separate = is_idle end
+is_due end since (Pause time) = is_selected end.known.view.phase && nat_le time (end.known.moment - since)
+is_due end since (Await awaited) = is_selected end.known.view.phase && has_sent end awaited
+
+abbrev pub is_first_due : {D : Type 0} → EndOf D → ℕ → List Step → Bool
+is_first_due end since [] = false
+is_first_due end since (step ∷ steps) = is_due end since step
+
+-- True if a step remains, and the next one is due.
+abbrev pub is_step_due : {D : Type 0} → EndOf D → Remaining → Bool
+is_step_due end script = is_first_due end script.since script.steps
 
 -- The tick and, unless it ended the connection, the input that the result leads to.
 abbrev pub Heeds : {D : Type 0} → (D → ℕ → Content → Answered) → Bool → EndOf D → Input → After → EndOf D → Type 0
@@ -88,27 +117,28 @@ Heeds {D} answers is_cut end input (Done now ticked entries) end' =
     (mid : EndOf D) × Accepts answers end (tick now) ticked mid × HasNotGone mid × Accepts answers mid input entries end'
 
 -- Holds if no step and no test of the link is due, so the endpoint waits.
-pub record MustWait {D : Type 0} (pause : Option ℕ) (end : EndOf D) (script script' : List Step) : Type 0 where
+pub record MustWait {D : Type 0} (pause : Option ℕ) (end : EndOf D) (script script' : Remaining) : Type 0 where
   pub up : HasNotGone end
   pub no_step : is_step_due end script ≡ false
   pub no_test : is_test_due pause end ≡ false
   pub script_stays : script' ≡ script
 
 -- Holds if no step is due, and the link is to be tested.
-pub record MustTest {D : Type 0} (pause : Option ℕ) (end : EndOf D) (script script' : List Step) : Type 0 where
+pub record MustTest {D : Type 0} (pause : Option ℕ) (end : EndOf D) (script script' : Remaining) : Type 0 where
   pub up : HasNotGone end
   pub no_step : is_step_due end script ≡ false
   pub due : is_test_due pause end ≡ true
   pub script_stays : script' ≡ script
 
--- Holds if the next step of the script was due.
-abbrev pub IsNext : {D : Type 0} → EndOf D → List Step → Step → List Step → Type 0
-IsNext end script step script' = HasNotGone end × (is_step_due end script ≡ true) × (script ≡ step ∷ script')
+-- Holds if the next step of the script was due. The step after it follows at the endpoint's current time.
+abbrev pub IsNext : {D : Type 0} → EndOf D → Remaining → Step → Remaining → Type 0
+IsNext end script step script' =
+    HasNotGone end × (is_step_due end script ≡ true) × (script.steps ≡ step ∷ script'.steps) × (script'.since ≡ end.known.moment)
 
 -- What follows the first tick. If and only if a step is due, it is the next step. Otherwise, if and only if the link
 -- is to be tested, it is the test. Otherwise it is a result of `wait`. A step that the endpoint rejected has an
 -- error, and leaves the endpoint unchanged.
-abbrev pub Continues : {D : Type 0} → (D → ℕ → Content → Answered) → Option ℕ → Bool → EndOf D → List Step → Rest → EndOf D → List Step → Type 0
+abbrev pub Continues : {D : Type 0} → (D → ℕ → Content → Answered) → Option ℕ → Bool → EndOf D → Remaining → Rest → EndOf D → Remaining → Type 0
 Continues answers pause is_cut end script Nothing end' script' = MayStop is_cut end × (end' ≡ end) × (script' ≡ script)
 Continues answers pause is_cut end script (Stepped entries) end' script' =
     (step : Step) × IsNext end script step script' × Accepts answers end (input_of step) entries end'
@@ -125,7 +155,7 @@ Continues answers pause is_cut end script (Closed after) end' script' =
 
 -- Holds for a turn of an endpoint that is not down, with the remaining steps. The turn is complete or cut short by an
 -- error.
-abbrev pub IsTurn : {D : Type 0} → (D → ℕ → Content → Answered) → Option ℕ → Bool → EndOf D → List Step → Turn → EndOf D → List Step → Type 0
+abbrev pub IsTurn : {D : Type 0} → (D → ℕ → Content → Answered) → Option ℕ → Bool → EndOf D → Remaining → Turn → EndOf D → Remaining → Type 0
 IsTurn answers pause is_cut end script (Untaken now) end' script' =
     HasNotGone end × (is_cut ≡ true) × (end' ≡ end) × (script' ≡ script)
 IsTurn {D} answers pause is_cut end script (Ticks now ticked rest) end' script' =
@@ -133,10 +163,10 @@ IsTurn {D} answers pause is_cut end script (Ticks now ticked rest) end' script' 
     × ((mid : EndOf D) × Accepts answers end (tick now) ticked mid × Continues answers pause is_cut mid script rest end' script')
 
 -- Holds for consecutive complete turns.
-abbrev pub AreTurns : {D : Type 0} → (D → ℕ → Content → Answered) → Option ℕ → EndOf D → List Step → List Turn → EndOf D → List Step → Type 0
+abbrev pub AreTurns : {D : Type 0} → (D → ℕ → Content → Answered) → Option ℕ → EndOf D → Remaining → List Turn → EndOf D → Remaining → Type 0
 AreTurns answers pause end script [] end' script' = (end' ≡ end) × (script' ≡ script)
 AreTurns {D} answers pause end script (turn ∷ turns) end' script' =
-    (mid : EndOf D) × (left : List Step) × IsTurn answers pause false end script turn mid left
+    (mid : EndOf D) × (left : Remaining) × IsTurn answers pause false end script turn mid left
     × AreTurns answers pause mid left turns end' script'
 
 -- ---- the new entries

@@ -40,4 +40,4 @@ pub use scripted::Scripted;
 pub use scripted_desk::ScriptedDesk;
 pub use serve_options::{ServeAgainOptions, ServeOptions};
 pub use serving::{Served, ServedScript, serve, serve_testing};
-pub use step::Step;
+pub use step::{Awaited, Step};

@@ -139,6 +139,7 @@ pub fn serve_end<L: Link, W: Sink, D: TurnDesk>(
 {
     let mut progress = Progress {
         place: 0,
+        since: 0,
         entries: 0,
         refused: 0,
     };

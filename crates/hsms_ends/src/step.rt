@@ -2,7 +2,7 @@
 
 use secs_text::Message;
 
-/// An input of an endpoint that is selected and has no open own transaction.
+/// An input of an endpoint that is selected and has no open own transaction, or a wait of one that is selected.
 #[derive(Debug, Drop)]
 pub enum Step {
     /// Send this message.
@@ -11,4 +11,17 @@ pub enum Step {
     Linktest,
     /// End the session and the connection.
     Separate,
+    /// Wait until this many milliseconds have passed since the step before, or since the start.
+    Pause(u64),
+    /// Wait until the peer has sent these primaries.
+    Await(Awaited),
+}
+
+/// Primaries that the peer has to send: that many with this stream and function, since the start. Those count that the
+/// endpoint passes to its message handler.
+#[derive(Clone, Copy, Debug, PartialEq, Eq)]
+pub struct Awaited {
+    pub stream: u8,
+    pub function: u8,
+    pub count: u64,
 }

@@ -1,18 +1,19 @@
 //! The turns of a served connection.
 
-ghost use Rattle.std.specs.Prelude.{◌≡◌, ◌<◌, ℕ, List, Option, drop, length, true, MatchResult};
+ghost use Rattle.std.specs.Prelude.{◌≡◌, ◌<◌, ℕ, Option, drop, length, true, MatchResult};
 ghost use Rattle.hsms_endpoint.specs.Turn.{tick as ticks};
 ghost use Rattle.hsms_endpoint.specs.End.{Accepts, Refuses};
 ghost use Rattle.hsms_ends.specs.Link.{Asks, processed_time, processed_nothing};
 ghost use Rattle.hsms_ends.specs.InnerOutput.{AllFitLengthField};
-ghost use Rattle.hsms_ends.specs.Turns.{HasNotGone, MustWait, has_gone as is_down, is_idle as is_free, is_step_due as step_due, input_of, is_test_due as test_due, test_moment as moment_of_test};
-ghost use Rattle.hsms_ends.specs.InnerServeSteps.{called, IsReady, Yields, Handed, Followed, Continued, TurnTaken, Ran};
+ghost use Rattle.hsms_machine.specs.ViewRules.{is_selected as has_selected};
+ghost use Rattle.hsms_ends.specs.Turns.{HasNotGone, MustWait, Remaining, has_gone as is_down, is_idle as is_free, has_sent as has_sent_all, is_due as due_after, is_step_due as step_due, input_of, is_test_due as test_due, test_moment as moment_of_test};
+ghost use Rattle.hsms_ends.specs.InnerServeSteps.{called, remaining, IsReady, Yields, Handed, Followed, Continued, TurnTaken, Ran};
 
 use crate::endpoint_call::Call;
 use crate::link::{Got, Link};
 use crate::output::{Stop, entries_are_in_range, put_out};
 use crate::serve_options::ServeOptions;
-use crate::step::Step;
+use crate::step::{Awaited, Step};
 use hsms_endpoint::{End, EndFault, TurnDesk};
 use hsms_frame::Sink;
 use hsms_machine::{Entry, Phase, earlier};
@@ -22,6 +23,8 @@ use hsms_machine::{Entry, Phase, earlier};
 pub struct Progress {
     /// The number of steps taken or rejected.
     pub place: usize,
+    /// The time of the last of them, or of the start.
+    pub since: u64,
     /// The number of entries.
     pub entries: u64,
     /// The number of steps that the endpoint rejected.
@@ -35,11 +38,18 @@ pub fn has_gone<D: TurnDesk>(end: &End<D>) -> bool
     matches!(end.phase(), Phase::Gone)
 }
 
+/// Returns whether the endpoint is selected.
+fn is_selected<D: TurnDesk>(end: &End<D>) -> bool
+    ensures { result ≡ has_selected end.now.known.view.phase }
+{
+    matches!(end.phase(), Phase::Selected)
+}
+
 /// Returns whether the endpoint is selected and has no open own transaction.
 fn is_idle<D: TurnDesk>(end: &End<D>) -> bool
     ensures { result ≡ is_free end.now }
 {
-    matches!(end.phase(), Phase::Selected) && end.own_open() == 0
+    is_selected(end) && end.own_open() == 0
 }
 
 /// Counts the entries of a call, and writes them.
@@ -124,6 +134,7 @@ fn submit<D: TurnDesk>(end: &mut End<D>, step: &Step) -> Result<Vec<Entry>, EndF
         Step::Send(message) => end.send(message),
         Step::Linktest => end.linktest(),
         Step::Separate => end.separate(),
+        Step::Pause(_) | Step::Await(_) => end.tick(0),
     }
 }
 
@@ -137,18 +148,20 @@ fn take_step<L: Link, W: Sink, D: TurnDesk>(
 ) -> Result<(), Stop>
     requires ready { IsReady end.old }
     requires up { HasNotGone end.old }
-    requires due { step_due end.old (drop progress.old.place script.now) ≡ true }
+    requires due { step_due end.old (remaining progress.old script.now) ≡ true }
     requires within { progress.old.place < length script.now }
     ensures { (pause : Option ℕ) → Continued D.answers_after pause result end.old end.new
-        (drop progress.old.place script.now) (drop progress.new.place script.now)
+        (remaining progress.old script.now) (remaining progress.new script.now)
         (W.state log.old) (W.state log.new) (L.link_state link.old) (L.link_state link.new)
         progress.old.entries progress.new.entries progress.old.refused progress.new.refused }
 {
     let place = progress.place;
+    let now = end.moment();
     let answer = submit(end, &script[place]);
     match answer {
         Ok(entries) => {
             progress.place += 1;
+            progress.since = now;
             deliver(link, log, &entries, &mut progress.entries)
         }
         Err(fault) => {
@@ -156,6 +169,7 @@ fn take_step<L: Link, W: Sink, D: TurnDesk>(
                 Err(Stop::Memory)
             } else {
                 progress.place += 1;
+                progress.since = now;
                 progress.refused = progress.refused.saturating_add(1);
                 Ok(())
             }
@@ -187,26 +201,27 @@ fn process_input<L: Link, W: Sink, D: TurnDesk>(
     }
 }
 
-/// Waits once, into a slice that is not empty, and passes the result to the endpoint.
+/// Waits once, at most until a time if one is given, into a slice that is not empty. Passes the result to the endpoint.
 fn wait_once<L: Link, W: Sink, D: TurnDesk>(
     link: &mut L,
     log: &mut W,
     end: &mut End<D>,
     pause: Option<u64>,
+    until: Option<u64>,
     into: &mut [u8],
     count: &mut u64,
 ) -> Result<(), Stop>
     requires ready { IsReady end.old }
     requires room { 0 < length into.old }
-    ensures continued { (script : List Step) (refused : ℕ) → MustWait pause end.old script script
+    ensures continued { (script : Remaining) (refused : ℕ) → MustWait pause end.old script script
         → Continued D.answers_after pause result end.old end.new script script (W.state log.old) (W.state log.new)
         (L.link_state link.old) (L.link_state link.new) count.old count.new refused refused }
     ensures len { length into.new ≡ length into.old }
 {
     // One past the time at which the next timer is due, since it has expired only then.
     let expiry = end.next_due().and_then(|due| due.checked_add(1));
-    let until = earlier(expiry, test_moment(end, pause));
-    match link.wait(until, into) {
+    let due = earlier(expiry, test_moment(end, pause));
+    match link.wait(earlier(due, until), into) {
         Ok(got) => match got {
             Got::Quiet => Ok(()),
             Got::Octets(length) => process_input(
@@ -237,7 +252,7 @@ fn turn<L: Link, W: Sink, D: TurnDesk>(
     requires up { HasNotGone end.old }
     requires room { 0 < length into.old }
     ensures taken { TurnTaken D.answers_after pause result end.old end.new
-        (drop progress.old.place script.now) (drop progress.new.place script.now)
+        (remaining progress.old script.now) (remaining progress.new script.now)
         (W.state log.old) (W.state log.new) (L.link_state link.old) (L.link_state link.new)
         progress.old.entries progress.new.entries progress.old.refused progress.new.refused }
     ensures len { length into.new ≡ length into.old }
@@ -246,12 +261,21 @@ fn turn<L: Link, W: Sink, D: TurnDesk>(
         Ok(()) => {
             if has_gone(end) {
                 Ok(())
-            } else if step_is_due(end, script, progress.place) {
+            } else if step_is_due(end, script, progress) {
                 take_step(link, log, end, script, progress)
             } else if test_is_due(end, pause) {
                 hand(link, log, end, Call::Linktest, &mut progress.entries)
             } else {
-                wait_once(link, log, end, pause, into, &mut progress.entries)
+                let until = pause_end(end, script, progress);
+                wait_once(
+                    link,
+                    log,
+                    end,
+                    pause,
+                    until,
+                    into,
+                    &mut progress.entries,
+                )
             }
         }
         Err(stop) => Err(stop),
@@ -259,11 +283,38 @@ fn turn<L: Link, W: Sink, D: TurnDesk>(
 }
 
 /// Returns whether the next step is due now.
-fn step_is_due<D: TurnDesk>(end: &End<D>, script: &[Step], place: usize) -> bool
-    ensures due { result ≡ step_due end.now (drop place script.now) }
-    ensures within { result ≡ true → place < length script.now }
+fn step_is_due<D: TurnDesk>(end: &End<D>, script: &[Step], progress: &Progress) -> bool
+    ensures due { result ≡ step_due end.now (remaining progress.now script.now) }
+    ensures within { result ≡ true → progress.now.place < length script.now }
 {
-    place < script.len() && is_idle(end)
+    let place = progress.place;
+    place < script.len() && is_due(end, progress.since, &script[place])
+}
+
+/// Returns whether a step is due now that follows a step of this time.
+fn is_due<D: TurnDesk>(end: &End<D>, since: u64, step: &Step) -> bool
+    ensures { result ≡ due_after end.now since step.now }
+{
+    match step {
+        Step::Send(_) | Step::Linktest | Step::Separate => is_idle(end),
+        Step::Pause(time) => is_selected(end) && *time <= end.moment().saturating_sub(since),
+        Step::Await(awaited) => is_selected(end) && has_sent(end, *awaited),
+    }
+}
+
+/// Returns whether the peer has sent these primaries.
+fn has_sent<D: TurnDesk>(end: &End<D>, awaited: Awaited) -> bool
+    ensures { result ≡ has_sent_all end.now awaited }
+{
+    awaited.count <= end.times_asked(awaited.stream, awaited.function)
+}
+
+/// Returns the time at which a pause of a selected endpoint ends, if it is the next step.
+fn pause_end<D: TurnDesk>(end: &End<D>, script: &[Step], progress: &Progress) -> Option<u64> {
+    match script.get(progress.place)? {
+        Step::Pause(time) if is_selected(end) => progress.since.checked_add(*time),
+        _ => None,
+    }
 }
 
 /// Returns whether the link is to be tested now, after a pause of this length.
@@ -291,7 +342,7 @@ pub fn run<L: Link, W: Sink, D: TurnDesk>(
     into: &mut [u8],
 ) -> Result<(), Stop>
     requires ready { IsReady end.old }
-    requires none { progress.old ≡ record { place = 0; entries = 0; refused = 0 } }
+    requires none { progress.old ≡ record { place = 0; since = 0; entries = 0; refused = 0 } }
     requires room { 0 < length into.old }
     ensures { Ran D.answers_after options.now.linktest result options.now.turns end.old end.new
         options.now.script.now (drop progress.new.place options.now.script.now)
@@ -300,7 +351,7 @@ pub fn run<L: Link, W: Sink, D: TurnDesk>(
 {
     let start = now(link);
     match hand(link, log, end, Call::Start(start), &mut progress.entries) {
-        Ok(()) => {}
+        Ok(()) => progress.since = end.moment(),
         Err(stop) => return Err(stop),
     }
     let turns = options.turns;

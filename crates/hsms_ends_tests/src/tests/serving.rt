@@ -5,8 +5,10 @@ ghost use Rattle.std.specs.Prelude.{◌<◌};
 use super::connection::{
     EQUIPMENT_LINE, HOST_LINE, answer_of, audited, link_of, log_of, settings_of,
 };
-use super::{Abort, Global, Role, Stop, Store, assert_octets, assert_so, octets_of_all};
-use hsms_ends::{Scripted, ServeFault, Served, Step};
+use super::{
+    Abort, Global, Role, Stop, Store, assert_octets, assert_so, number_of, octets_of_all,
+};
+use hsms_ends::{Awaited, Scripted, ServeFault, Served, Step};
 use secs_text::read;
 
 /// A connection: what the peer sends, and the expected result.
@@ -21,7 +23,7 @@ struct Connection {
     fuse: u64,
     /// The capacity of the log, in bytes.
     room: usize,
-    /// Lines of messages in notation, or `separate`.
+    /// Lines of messages in notation, `separate`, `pause N`, or `await N` and the name of a message.
     script: &'static str,
     turns: u64,
     answer: Result<Served, ServeFault>,
@@ -126,6 +128,66 @@ const CONNECTIONS: &[Connection] = &[
         ..PASSIVE
     },
     Connection {
+        name: "a host pauses for a second",
+        moments: &[0, 0, 0, 0, 999, 1000],
+        waits: "ffff0000000200000001\nquiet\nquiet\n",
+        script: "pause 1000\nseparate",
+        answer: Ok(Served {
+            entries: 5,
+            refused: 0,
+        }),
+        until: Some(1000),
+        log: "0 up
+0 > ffff0000000100000001
+0 < ffff0000000200000001
+1000 > ffff0000000900000002
+1000 down
+",
+        sent: "ffff0000000100000001 ffff0000000900000002",
+        ..ACTIVE
+    },
+    Connection {
+        name: "a host pauses after each step, and not before it is selected",
+        moments: &[0, 5000, 5000, 5000, 5000, 5000, 5010],
+        waits: "ffff0000000200000001\nquiet\n",
+        script: "pause 5000\nS1F1 .\npause 10\nseparate",
+        turns: 100,
+        answer: Ok(Served {
+            entries: 6,
+            refused: 0,
+        }),
+        until: Some(5010),
+        log: "0 up
+0 > ffff0000000100000001
+5000 < ffff0000000200000001
+5000 > 00000101000000000002
+5010 > ffff0000000900000003
+5010 down
+",
+        sent: "ffff0000000100000001 00000101000000000002 ffff0000000900000003",
+        ..ACTIVE
+    },
+    Connection {
+        name: "a host awaits two reports",
+        waits: "ffff0000000200000001\n0000060b0000000000aa\n0000060b0000000000ab\n",
+        script: "await 2 S6F11 .\nseparate",
+        answer: Ok(Served {
+            entries: 7,
+            refused: 0,
+        }),
+        until: None,
+        log: "0 up
+0 > ffff0000000100000001
+0 < ffff0000000200000001
+0 < 0000060b0000000000aa
+0 < 0000060b0000000000ab
+0 > ffff0000000900000002
+0 down
+",
+        sent: "ffff0000000100000001 ffff0000000900000002",
+        ..ACTIVE
+    },
+    Connection {
         name: "nobody selects",
         moments: &[0, 0, 10001],
         waits: "quiet\n",
@@ -219,10 +281,23 @@ const CONNECTIONS: &[Connection] = &[
 ];
 
 fn step_of(alloc: Global, text: &str) -> Result<Step, Stop> {
-    match text {
+    let (word, rest) = text.split_once(' ').unwrap_or((text, ""));
+    match word {
         "separate" => Ok(Step::Separate),
+        "pause" => Ok(Step::Pause(number_of(rest)?)),
+        "await" => Ok(Step::Await(awaited_of(alloc, rest)?)),
         _ => Ok(Step::Send(read(alloc, text.as_bytes(), 100)?)),
     }
+}
+
+fn awaited_of(alloc: Global, text: &str) -> Result<Awaited, Stop> {
+    let (count, name) = text.split_once(' ').ok_or(Stop::Line)?;
+    let message = read(alloc, name.as_bytes(), 100)?;
+    Ok(Awaited {
+        stream: message.stream(),
+        function: message.function(),
+        count: number_of(count)?,
+    })
 }
 
 fn script_of(alloc: Global, lines: &str) -> Result<Vec<Step>, Stop> {

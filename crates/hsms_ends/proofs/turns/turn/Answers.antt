@@ -1,6 +1,7 @@
-use Rattle.std.proofs.Common.{drop, Ok, refl, sym, ◌∙◌}
+use Rattle.std.proofs.Common.{Ok, refl, sym, ◌∙◌}
 use Rattle.hsms_frame.specs.Io.{SinkState}
 use Rattle.hsms_endpoint.specs.Turn.{tick as ticks}
+use Rattle.hsms_ends.specs.InnerServeSteps.{remaining}
 use Rattle.hsms_ends.proofs.Readiness.{ready_handed}
 use Rattle.hsms_ends.proofs.TurnSteps.{continued_gone, continued_tested, turn_whole, turn_cut}
 use Rattle.hsms_ends.proofs.turns.turn.Goals as goal
@@ -31,9 +32,9 @@ returns-then-has_gone-clause-taken g c =
     let log' : SinkState = g.W.Sink.state c.tick.new.log in
     let script = c.args.script.now in
     let before = c.args.progress.now in
-    turn_whole g.D.TurnDesk.answers_after c.args.pause (Ok tt) c.in-Ok.ensures.0 c.args.end.now c.tick.new.end c.tick.new.end (drop before.place script) (drop before.place script) log mid log' (link_state c.args.link.now) (link_state c.tick.new.link) (link_state c.tick.new.link)
+    turn_whole g.D.TurnDesk.answers_after c.args.pause (Ok tt) c.in-Ok.ensures.0 c.args.end.now c.tick.new.end c.tick.new.end (remaining before script) (remaining before script) log mid log' (link_state c.args.link.now) (link_state c.tick.new.link) (link_state c.tick.new.link)
     before.entries c.tick.new.count c.tick.new.count before.refused before.refused c.requires.up c.in-Ok.ensures.1
-    (continued_gone g.D.TurnDesk.answers_after c.args.pause c.tick.new.end (drop before.place script) mid (link_state c.tick.new.link) c.tick.new.count before.refused (sym c.has_gone.ensures ∙ c.if-has_gone.true))
+    (continued_gone g.D.TurnDesk.answers_after c.args.pause c.tick.new.end (remaining before script) mid (link_state c.tick.new.link) c.tick.new.count before.refused (sym c.has_gone.ensures ∙ c.if-has_gone.true))
 
 pub returns-then-step_is_due-clause-taken : goal.returns-then-step_is_due-clause-taken
 returns-then-step_is_due-clause-taken g c =
@@ -43,7 +44,7 @@ returns-then-step_is_due-clause-taken g c =
     let log' : SinkState = g.W.Sink.state c.take_step.new.log in
     let script = c.args.script.now in
     let before = c.args.progress.now in
-    turn_whole g.D.TurnDesk.answers_after c.args.pause c.take_step.result c.in-Ok.ensures.0 c.args.end.now c.tick.new.end c.take_step.new.end (drop before.place script) (drop c.take_step.new.progress.place script) log mid log' (link_state c.args.link.now) (link_state c.tick.new.link) (link_state c.take_step.new.link)
+    turn_whole g.D.TurnDesk.answers_after c.args.pause c.take_step.result c.in-Ok.ensures.0 c.args.end.now c.tick.new.end c.take_step.new.end (remaining before script) (remaining c.take_step.new.progress script) log mid log' (link_state c.args.link.now) (link_state c.tick.new.link) (link_state c.take_step.new.link)
     before.entries c.tick.new.count c.take_step.new.progress.entries before.refused c.take_step.new.progress.refused c.requires.up c.in-Ok.ensures.1
     (c.take_step.ensures c.args.pause)
 
@@ -55,9 +56,9 @@ returns-then-test_is_due-clause-taken g c =
     let log' : SinkState = g.W.Sink.state c.hand.new.log in
     let script = c.args.script.now in
     let before = c.args.progress.now in
-    turn_whole g.D.TurnDesk.answers_after c.args.pause c.hand.result c.in-Ok.ensures.0 c.args.end.now c.tick.new.end c.hand.new.end (drop before.place script) (drop before.place script) log mid log' (link_state c.args.link.now) (link_state c.tick.new.link) (link_state c.hand.new.link)
+    turn_whole g.D.TurnDesk.answers_after c.args.pause c.hand.result c.in-Ok.ensures.0 c.args.end.now c.tick.new.end c.hand.new.end (remaining before script) (remaining before script) log mid log' (link_state c.args.link.now) (link_state c.tick.new.link) (link_state c.hand.new.link)
     before.entries c.tick.new.count c.hand.new.count before.refused before.refused c.requires.up c.in-Ok.ensures.1
-    (continued_tested g.D.TurnDesk.answers_after c.args.pause c.hand.result c.tick.new.end c.hand.new.end (drop before.place script) mid log' (link_state c.tick.new.link) (link_state c.hand.new.link) c.tick.new.count c.hand.new.count before.refused
+    (continued_tested g.D.TurnDesk.answers_after c.args.pause c.hand.result c.tick.new.end c.hand.new.end (remaining before script) mid log' (link_state c.tick.new.link) (link_state c.hand.new.link) c.tick.new.count c.hand.new.count before.refused
     (record {
       up = sym c.has_gone.ensures ∙ c.if-has_gone.false;
       no_step = sym c.step_is_due.ensures.due ∙ c.if-step_is_due.false;
@@ -73,9 +74,9 @@ returns-else-test_is_due-clause-taken g c =
     let log' : SinkState = g.W.Sink.state c.wait_once.new.log in
     let script = c.args.script.now in
     let before = c.args.progress.now in
-    turn_whole g.D.TurnDesk.answers_after c.args.pause c.wait_once.result c.in-Ok.ensures.0 c.args.end.now c.tick.new.end c.wait_once.new.end (drop before.place script) (drop before.place script) log mid log' (link_state c.args.link.now) (link_state c.tick.new.link) (link_state c.wait_once.new.link)
+    turn_whole g.D.TurnDesk.answers_after c.args.pause c.wait_once.result c.in-Ok.ensures.0 c.args.end.now c.tick.new.end c.wait_once.new.end (remaining before script) (remaining before script) log mid log' (link_state c.args.link.now) (link_state c.tick.new.link) (link_state c.wait_once.new.link)
     before.entries c.tick.new.count c.wait_once.new.count before.refused before.refused c.requires.up c.in-Ok.ensures.1
-    (c.wait_once.ensures.continued (drop before.place script) before.refused
+    (c.wait_once.ensures.continued (remaining before script) before.refused
     (record {
       up = sym c.has_gone.ensures ∙ c.if-has_gone.false;
       no_step = sym c.step_is_due.ensures.due ∙ c.if-step_is_due.false;
@@ -89,5 +90,5 @@ returns-in-Err-clause-taken g c =
     let log : SinkState = g.W.Sink.state c.args.log.now in
     let log' : SinkState = g.W.Sink.state c.tick.new.log in
     let before = c.args.progress.now in
-    turn_cut g.D.TurnDesk.answers_after c.args.pause c.in-Err.stop c.in-Err.ensures.0 c.args.end.now c.tick.new.end (drop before.place c.args.script.now) log log' (link_state c.args.link.now) (link_state c.tick.new.link) before.entries c.tick.new.count before.refused
+    turn_cut g.D.TurnDesk.answers_after c.args.pause c.in-Err.stop c.in-Err.ensures.0 c.args.end.now c.tick.new.end (remaining before c.args.script.now) log log' (link_state c.args.link.now) (link_state c.tick.new.link) before.entries c.tick.new.count before.refused
     c.requires.up c.in-Err.ensures.1
