@@ -101,7 +101,7 @@ module _ {D : Type 0} (answers : D → ℕ → Content → Answered) (pause : Op
         not_lost = refl;
         steps = λ uncut.
             let none = steps_uncut answers pause r t.mid t.end' t.left last t.cut t.is_last uncut in
-            let turned = steps_in_turns answers pause begun first t.turns t.mid t.left t.are_turns in
+            let turned : length t.left.steps + steps_turns t.turns ≡ length (drop i script) = steps_in_turns answers pause begun first t.turns t.mid t.left t.are_turns in
             omega (arith, none.0, none.1, turned, ap length front);
         started = started_by r now h.entries t.turns t.cut;
         leads = t.leads;

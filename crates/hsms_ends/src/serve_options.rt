@@ -10,7 +10,7 @@ pub struct ServeOptions<'a> {
     pub settings: Settings,
     /// The system bytes of the endpoint's first own message.
     pub first_system: u32,
-    /// The script: one step is taken whenever the endpoint is selected and has no open own transaction.
+    /// The script: each step is taken in its turn, once it is due.
     pub script: &'a [Step],
     /// The idle time in milliseconds after which the endpoint sends Linktest.req, or `None` if it never does.
     pub linktest: Option<u64>,

@@ -53,10 +53,10 @@ impl ServedScript {
 /// Serves one connection, as the endpoint that the settings name, in at most `turns` turns.
 ///
 /// The settings line is written to the log, and the endpoint is started at the link's time. Each turn first passes
-/// the time to the endpoint. Then, if the endpoint is selected and has no open own transaction, the next step of the
-/// script is taken. Otherwise the link is waited for until a timer expires, and the endpoint processes what was
-/// received. The entries of each call of the endpoint are written at once. Each entry's line goes to the log, then
-/// the bytes of a sent message to the link (SEMI E37, section 8, message format).
+/// the time to the endpoint. Then, if the next step of the script is due ([`Step`]), it is taken. Otherwise the link is
+/// waited for until a timer or a pause of the script expires, and the endpoint processes what was received. The entries
+/// of each call of the endpoint are written at once. Each entry's line goes to the log, then the bytes of a sent message
+/// to the link (SEMI E37, section 8, message format).
 ///
 /// **The log is the text of a run of the session machine, so that `audit` passes it** (`Serves`;
 /// `laws::served_log_passes`). In this statement:

@@ -2,7 +2,8 @@
 
 use secs_text::Message;
 
-/// An input of an endpoint that is selected and has no open own transaction, or a wait of one that is selected.
+/// A step of a script. Each is taken in its turn, once it is due and the endpoint is selected: an input of the endpoint
+/// once it has no open own transaction, and a wait once it has ended.
 #[derive(Debug, Drop)]
 pub enum Step {
     /// Send this message.
