@@ -598,6 +598,32 @@ def steps_stand_between_replies():
         )
 
 
+def script_waits():
+    """`after N` is a pause after the step before, or after the selection; `await SxFy` waits for one more primary."""
+    script = b"after 200\nS6F11 .\nafter 100\nawait S2F41\nS6F13 .\n  await S2F41  # the next\nS6F15 .\nafter 300"
+    serving, peer = equipment("--answer", "--all-sent", script=script + b"\nS2F42 <B 0x00> .")
+    time.sleep(A_WHILE)
+    peer.send(SELECT)
+    peer.wants(SELECTED, data(6, 11, 1))
+    time.sleep(A_WHILE)
+    peer.send(data(2, 41, 2, wait=True))
+    peer.wants(data(2, 42, 2, ACCEPTED), data(6, 13, 2))
+    peer.send(data(2, 41, 3, wait=True))
+    peer.wants(data(2, 42, 3, ACCEPTED), data(6, 15, 3))
+    same(peer.rest(), control(9, 4))
+    status, log, told = serving.ended()
+    same((status, told), (0, ""))
+    passes(log)
+    at = dict(zip(events(log), times(log)))
+    selected, first = at["> " + SELECTED[4:].hex()], at["> " + data(6, 11, 1)[4:].hex()]
+    in_time(first - selected, 200, 250)
+    asked = [time for event, time in zip(events(log), times(log)) if event[2:] in (data(2, 41, s, wait=True)[4:].hex() for s in (2, 3))]
+    sent = [at["> " + data(6, f, s)[4:].hex()] for f, s in ((13, 2), (15, 3))]
+    for came, went in zip(asked, sent):
+        in_time(went - came, 0, 20)
+    in_time(at["down"] - sent[1], 300, 350)
+
+
 def flood_of_octets():
     serving, peer = equipment()
     try:
@@ -1283,6 +1309,7 @@ TESTS = [
     equipment_answers_by_its_script,
     random_replies_are_those_of_the_reference,
     steps_stand_between_replies,
+    script_waits,
     flood_of_octets,
     flood_of_requests,
     half_a_header_and_closed,

@@ -15,6 +15,7 @@ mod script;
 mod serving;
 mod tcp_link;
 mod tcp_stream;
+mod waits;
 
 pub use attempt::{Attempts, ConnectError, Ending};
 pub use call_counts::Counters;

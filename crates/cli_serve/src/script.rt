@@ -8,11 +8,12 @@ ghost use Rattle.cli_serve.specs.Script.{IsNoScript, IsScript, is_reply};
 ghost use Rattle.cli_filters.specs.EncodeErrors.{reads_after, writes_after};
 
 use crate::comments::without_comments;
+use crate::waits::{add_wait, line_end, wait_of};
 use cli_filters::{EncodeError, INPUT_LIMIT, read_whole};
 use cli_options::Service;
 use hsms_ends::Step;
 use hsms_frame::Source;
-use secs_text::{Message, read_all};
+use secs_text::{Message, TextFault, read_all};
 use std::alloc::{AllocError, Global};
 
 /// The content of a script.
@@ -48,10 +49,69 @@ pub fn read_script<R: Source>(
 {
     let input = read_whole(alloc, source, INPUT_LIMIT)?;
     let text = without_comments(input);
-    let messages = read_all(alloc, &text, service.settings.depth())?;
+    let mut script = Script {
+        steps: Vec::new(alloc),
+        replies: Vec::new(alloc),
+    };
+    read_parts(alloc, &text, service, &mut script)?;
+    if service.send {
+        script.steps.push(Step::Separate)?;
+    }
+    Ok(script)
+}
+
+// Reads messages, and the waits between them.
+fn read_parts(
+    alloc: Global,
+    text: &[u8],
+    service: &Service<'_>,
+    script: &mut Script,
+) -> Result<(), EncodeError> {
+    // Where the messages start that were not read yet.
+    let mut start = 0;
+    let mut at = 0;
+    while at < text.len() {
+        let end = line_end(text, at);
+        if let Some(wait) = wait_of(&text[at..end]) {
+            add_messages(alloc, text, start, at, service, script)?;
+            add_wait(&mut script.steps, wait)?;
+            start = end;
+        }
+        at = end;
+    }
+    add_messages(alloc, text, start, at, service, script)
+}
+
+// Reads the messages between two offsets of a text.
+fn add_messages(
+    alloc: Global,
+    text: &[u8],
+    start: usize,
+    end: usize,
+    service: &Service<'_>,
+    script: &mut Script,
+) -> Result<(), EncodeError> {
+    let read = read_all(alloc, &text[start..end], service.settings.depth());
+    let messages = read.map_err(|fault| moved(fault, start))?;
     let (replies, sent) = parted(alloc, messages, service.answer)?;
-    let steps = steps_of(alloc, sent, service.send)?;
-    Ok(Script { steps, replies })
+    for reply in replies {
+        script.replies.push(reply)?;
+    }
+    for message in sent {
+        script.steps.push(Step::Send(message))?;
+    }
+    Ok(())
+}
+
+// Returns the error of a part of a text that starts at an offset.
+fn moved(fault: TextFault, start: usize) -> TextFault {
+    match fault {
+        TextFault::Syntax { at } => TextFault::Syntax { at: start + at },
+        TextFault::Number { at } => TextFault::Number { at: start + at },
+        TextFault::Count { at } => TextFault::Count { at: start + at },
+        TextFault::Deep { at } => TextFault::Deep { at: start + at },
+        TextFault::Memory => TextFault::Memory,
+    }
 }
 
 // Returns the replies among the messages, and the others.
@@ -66,15 +126,4 @@ fn parted(
     messages
         .into_iter()
         .partition(alloc, |message| answer && message.function() % 2 == 0)
-}
-
-// Returns a step that sends each message, and a Separate after them if `send` is set.
-fn steps_of(alloc: Global, messages: Vec<Message>, send: bool) -> Result<Vec<Step>, AllocError>
-    ensures { IfOk result (λ steps. steps.items ≡ map (λ m. Send m) messages.items ++ (if send then Separate ∷ [] else [])) }
-{
-    let mut steps: Vec<Step> = messages.into_iter().map(Step::Send).collect(alloc)?;
-    if send {
-        steps.push(Step::Separate)?;
-    }
-    Ok(steps)
 }
