@@ -1,4 +1,4 @@
-use Rattle.std.proofs.Common.{◌≡◌, ◌∙◌, ◌-◌, ℕ, List, Option, Vec, Global, [], rules, length, min, slice_get, option_map, ap, sym}
+use Rattle.std.proofs.Common.{◌≡◌, ◌∙◌, ◌-◌, ℕ, List, Option, Vec, Global, [], rules, length, min, slice_get, ap, sym}
 use Rattle.std.specs.Option.{option_map_or}
 use Rattle.secs_text.specs.declared.message.Message.{Message}
 use Rattle.hsms_ends.specs.ScriptedDesk.{in_turn as nth_in_turn}
