@@ -77,6 +77,7 @@ def cases_of_words():
         yield Case([*HERE_AT, "1", *options], 2, "command line", [f"{options[0]} needs --reconnect"])
     yield Case([*HERE_AT, "0"], 2, "command line", ["--port 0 needs --link passive"])
     yield Case([*HERE_AT, "1", "--port-file=x"], 2, "command line", ["--port-file needs --link passive"])
+    yield Case([*HERE_AT, "1", "--skip-silent"], 2, "command line", ["--skip-silent needs --link passive"])
     port = "invalid value '0' for '--port <N>': 0 is not in 1..=65535"
     yield Case(["capture", "--port", "0"], 2, "command line", [port])
     role = "--role both: expected host or equipment"

@@ -1264,12 +1264,20 @@ SERVED = ["up", "< " + ALONE, "> ffff0000000200000001", "< ffff0000000900000002"
 
 
 def one_byte_is_not_silence():
-    """A peer that has sent a byte is served: T8 then decides, and T7."""
+    """A peer that has sent a byte is served. Then T8 decides, and no read ends after T7."""
     serving = Serving("equipment", "passive", free_port(), "--skip-silent", "--t8", "100")
     peer = Peer.connected(serving.port)
     peer.send(SELECT[:1])
     same(peer.rest(), b"")
     served(serving, ["up", "cut t8", "down"])
+    serving = Serving("equipment", "passive", free_port(), "--skip-silent", "--t7", "100", "--turns", "2")
+    peer = Peer.connected(serving.port)
+    peer.send(SELECT)
+    peer.wants(SELECTED)
+    time.sleep(A_WHILE)
+    peer.send(control(9, 2))
+    same(peer.rest(), b"")
+    served(serving, [*SERVED, "down"])
 
 
 def port_is_in_use_again():
