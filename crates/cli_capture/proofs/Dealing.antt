@@ -294,11 +294,11 @@ some_live how a p last syn (Some (of_session s)) st consistent some = ap is_live
 
 forgotten_gone : (how : Way) (a p : Parameters) (last begun : ℕ) (flow : Flow) (one : Connection) → IsOne how a p last flow one → IsForgotten flow begun → IsGone one begun
 forgotten_gone how a p last begun flow one is forgotten =
-    (idle_left how a p last one.syn one.packets flow.stage is.consistent forgotten.0, subst (λ (n : ℕ). n + 4096 < begun) is.born forgotten.1)
+    (idle_left how a p last one.syn one.packets flow.stage.value is.consistent forgotten.0, subst (λ (n : ℕ). n + 4096 < begun) is.born forgotten.1)
 
 gone_forgotten : (how : Way) (a p : Parameters) (last begun : ℕ) (flow : Flow) (one : Connection) → IsOne how a p last flow one → IsGone one begun → IsForgotten flow begun
 gone_forgotten how a p last begun flow one is gone =
-    (left_idle how a p last one.syn one.packets flow.stage is.consistent gone.0, subst (λ (n : ℕ). n + 4096 < begun) (sym is.born) gone.1)
+    (left_idle how a p last one.syn one.packets flow.stage.value is.consistent gone.0, subst (λ (n : ℕ). n + 4096 < begun) (sym is.born) gone.1)
 
 -- ---- all that are kept
 
@@ -314,7 +314,7 @@ is_later : (how : Way) (a p : Parameters) (last later : ℕ) (flow : Flow) (one 
 is_later how a p last later flow one past is = record {
   syn = is.syn;
   born = is.born;
-  consistent = stands_later how a p last later one.syn one.packets flow.stage past is.consistent;
+  consistent = stands_later how a p last later one.syn one.packets flow.stage.value past is.consistent;
 }
 
 same_later : (how : Way) (a p : Parameters) (last later : ℕ) (flows : List (Pair × Flow)) (ones : List (Pair × Connection)) → last ≤ later
@@ -488,7 +488,7 @@ follows_by port peer how last pair g old new before after all None None manner i
 follows_by port peer how last pair g old new before after all None (Some one) manner is past few both follows = absurd both
 follows_by port peer how last pair g old new before after all (Some flow) None manner is past few both follows = absurd both
 follows_by port peer how last pair g old new before after all (Some flow) (Some one) manner is past few both follows =
-    let proceeds = stage_takes how pair one.syn last g one.packets flow.stage follows.0 flow.syn before after manner both.syn past few both.consistent follows.3 follows.4 follows.5 in
+    let proceeds = stage_takes how pair one.syn last g one.packets flow.stage.value follows.0.value flow.syn before after manner both.syn past few both.consistent follows.3 follows.4 follows.5 in
     let then : IsOne how before.active before.passive g.segment.packet (record flow { stage = follows.0 }) (record one { packets = proceeds.0 }) =
     record { syn = both.syn; born = both.born; consistent = proceeds.2 } in
     let known = set_value ((same_pair.ghosts).eq pair) all.known (record one { packets = proceeds.0 }) in (
@@ -522,19 +522,19 @@ ends_before how last pair before after None None manner few both ends = ends
 ends_before how last pair before after None (Some one) manner few both ends = absurd both
 ends_before how last pair before after (Some flow) None manner few both ends = absurd both
 ends_before how last pair before after (Some flow) (Some one) manner few both ends =
-    stage_ends how pair one.syn last true None one.packets flow.stage before after manner few both.consistent ends.0 ends.1 ends.2
+    stage_ends how pair one.syn last true None one.packets flow.stage.value before after manner few both.consistent ends.0 ends.1 ends.2
 
 begun_one : (how : Way) (a p : Parameters) (last born : ℕ) (syn : Option ℕ) (flow : Flow) → IsBegun syn born flow → IsOne how a p last flow (starting syn born)
 begun_one how a p last born (Some number) flow begun = record {
-  syn = ap (λ (f : Flow). f.syn) begun.1;
-  born = ap (λ (f : Flow). f.born) begun.1;
-  consistent = subst (λ (st : ConnectionState). StageStands how a p last (Some number) (Some (of_syn number [])) st) (sym (ap (λ (f : Flow). f.stage) begun.1))
-      (refl, (ap (λ (ws : List Waiting). map seen_waiting ws) begun.2, refl, omega arith), omega arith);
+  syn = begun.0;
+  born = begun.1;
+  consistent = subst (λ (st : ConnectionState). StageStands how a p last (Some number) (Some (of_syn number [])) st) (sym begun.3)
+      (refl, (ap (λ (ws : List Waiting). map seen_waiting ws) begun.4, refl, omega arith), omega arith);
 }
 begun_one how a p last born None flow begun = record {
-  syn = ap (λ (f : Flow). f.syn) begun;
-  born = ap (λ (f : Flow). f.born) begun;
-  consistent = (ap (λ (f : Flow). f.stage) begun, omega arith);
+  syn = begun.0;
+  born = begun.1;
+  consistent = (begun.2, omega arith);
 }
 
 abbrev ReplacesAs : ℕ → Option IpAddr → Way → ℕ → Pair → Table → Table → Report → Report → Connections → Parameters → Parameters → Type 0
@@ -632,14 +632,14 @@ none_starts port peer how a p last pair from segment table all is none any =
 pub is_open : (port : ℕ) (peer : Option IpAddr) (how : Way) (a p : Parameters) (last : ℕ) (pair : Pair) (table : Table) (all : Connections)
     → IsTable port peer how a p last table all → IsFollowed table pair → IsOpen all pair
 is_open port peer how a p last pair table all is followed =
-    flow_has port peer how a p last table all pair (λ one. is_some one.packets ≡ true) (λ flow. is_live flow.stage ≡ true) is
-    (λ flow one both live. live_some how a p last one.syn one.packets flow.stage both.consistent live) followed
+    flow_has port peer how a p last table all pair (λ one. is_some one.packets ≡ true) (λ flow. is_live flow.stage.value ≡ true) is
+    (λ flow one both live. live_some how a p last one.syn one.packets flow.stage.value both.consistent live) followed
 
 is_followed : (port : ℕ) (peer : Option IpAddr) (how : Way) (a p : Parameters) (last : ℕ) (pair : Pair) (table : Table) (all : Connections)
     → IsTable port peer how a p last table all → IsOpen all pair → IsFollowed table pair
 is_followed port peer how a p last pair table all is opened =
-    has_flow port peer how a p last table all pair (λ one. is_some one.packets ≡ true) (λ flow. is_live flow.stage ≡ true) is
-    (λ flow one both some. some_live how a p last one.syn one.packets flow.stage both.consistent some) opened
+    has_flow port peer how a p last table all pair (λ one. is_some one.packets ≡ true) (λ flow. is_live flow.stage.value ≡ true) is
+    (λ flow one both some. some_live how a p last one.syn one.packets flow.stage.value both.consistent some) opened
 
 deals : (port : ℕ) (peer : Option IpAddr) (how : Way) (a p : Parameters) (last : ℕ) (pair : Pair) (from : Side) (segment : Segment) (g : Brought) (old new : Table) (before after : Report)
     (all : Connections) → IsReport how a p before → last < g.segment.packet → g.segment.packet + 3 < 2 ^ 64 → IsTable port peer how a p last old all
@@ -782,7 +782,7 @@ ends_all how a p last missing ((pair, flow) ∷ flows) ((other, one) ∷ ones) o
   where
     by_report : EndsWith a p pair false missing one.packets old ends.0
     by_report =
-        subst (λ (x : Parameters). StageStands how a x last one.syn one.packets flow.stage → EndsWith a x pair false missing one.packets old ends.0) report.passive
-        (subst (λ (x : Parameters). StageStands how x old.passive last one.syn one.packets flow.stage
+        subst (λ (x : Parameters). StageStands how a x last one.syn one.packets flow.stage.value → EndsWith a x pair false missing one.packets old ends.0) report.passive
+        (subst (λ (x : Parameters). StageStands how x old.passive last one.syn one.packets flow.stage.value
         → EndsWith x old.passive pair false missing one.packets old ends.0) report.active
-        (λ consistent. stage_ends how pair one.syn last false missing one.packets flow.stage old ends.0 report.manner_is few consistent ends.2 ends.3 ends.4)) same.1.consistent
+        (λ consistent. stage_ends how pair one.syn last false missing one.packets flow.stage.value old ends.0 report.manner_is few consistent ends.2 ends.3 ends.4)) same.1.consistent

@@ -155,14 +155,14 @@ take_waits (Err stop) pair begins s octets waiting old new answered waits = tt
 
 -- of one connection more
 pub flows_more : (missing : Option Shortfall) (flows : List (Pair × Flow)) (pair : Pair) (flow : Flow) (old mid new : Report) → EndsFlows missing flows old mid
-    → Emits mid new → EndsStage pair false missing flow.stage mid new → EndsStageOnPage false missing flow.stage mid new
-    → EndsJoined pair false missing flow.stage mid new → EndsFlows missing (flows ++ (pair, flow) ∷ []) old new
+    → Emits mid new → EndsStage pair false missing flow.stage.value mid new → EndsStageOnPage false missing flow.stage.value mid new
+    → EndsJoined pair false missing flow.stage.value mid new → EndsFlows missing (flows ++ (pair, flow) ∷ []) old new
 flows_more missing [] pair flow old mid new before emitted ends logs joined = (
   new,
   subst (λ (r : Report). Emits r new) before emitted,
-  subst (λ (r : Report). EndsStage pair false missing flow.stage r new) before ends,
-  subst (λ (r : Report). EndsStageOnPage false missing flow.stage r new) before logs,
-  subst (λ (r : Report). EndsJoined pair false missing flow.stage r new) before joined,
+  subst (λ (r : Report). EndsStage pair false missing flow.stage.value r new) before ends,
+  subst (λ (r : Report). EndsStageOnPage false missing flow.stage.value r new) before logs,
+  subst (λ (r : Report). EndsJoined pair false missing flow.stage.value r new) before joined,
   refl,
 )
 flows_more missing ((other, first) ∷ flows) pair flow old mid new before emitted ends logs joined =
@@ -173,8 +173,8 @@ abbrev pub AreEnded : Option Shortfall → List (Pair × Flow) → List (Pair ×
 AreEnded missing all left old new = (done : List (Pair × Flow)) × (all ≡ done ++ left) × EndsFlows missing done old new
 
 pub flows_turn : (missing : Option Shortfall) (all left rest : List (Pair × Flow)) (pair : Pair) (flow : Flow) (old mid new : Report) → AreEnded missing all left old mid
-    → left ≡ (pair, flow) ∷ rest → Emits mid new → EndsStage pair false missing flow.stage mid new → EndsStageOnPage false missing flow.stage mid new
-    → EndsJoined pair false missing flow.stage mid new → AreEnded missing all rest old new
+    → left ≡ (pair, flow) ∷ rest → Emits mid new → EndsStage pair false missing flow.stage.value mid new → EndsStageOnPage false missing flow.stage.value mid new
+    → EndsJoined pair false missing flow.stage.value mid new → AreEnded missing all rest old new
 flows_turn missing all left rest pair flow old mid new ended takes emitted ends logs joined = (
   ended.0 ++ (pair, flow) ∷ [],
   ended.1 ∙ ap (λ (fs : List (Pair × Flow)). ended.0 ++ fs) takes ∙ sym (append_assoc ended.0 ((pair, flow) ∷ []) rest),

@@ -229,22 +229,22 @@ more_refused settings side a p last pair g syn (Some (of_session s)) stage begun
 
 last_refused : (settings : Parameters) (side : Side) (a p : Parameters) (last : ℕ) (pair : Pair) (f : Option Flow) (c : Option Connection) (flow : Flow) (st : Stop)
     → (old new : Report) → IsRefused st → IsReport (to_log settings side) a p old → last + 3 < 2 ^ 64 → AreBoth (to_log settings side) a p last f c → f ≡ Some flow
-    → EndsRefused None flow.stage st old new → EndsJoinedRefused pair None flow.stage st old new → LastRefused a p pair c st old new
+    → EndsRefused None flow.stage.value st old new → EndsJoinedRefused pair None flow.stage.value st old new → LastRefused a p pair c st old new
 last_refused settings side a p last pair f None flow st old new refused report few both at ends joined =
     subst (λ (x : Option Flow). AreBoth (to_log settings side) a p last x None) at both
 last_refused settings side a p last pair f (Some one) flow st old new refused report few both at ends joined =
     let is : IsOne (to_log settings side) a p last flow one = subst (λ (x : Option Flow). AreBoth (to_log settings side) a p last x (Some one)) at both in
-    end_refused settings side a p last pair None one.syn one.packets flow.stage st old new refused report few is.consistent ends joined
+    end_refused settings side a p last pair None one.syn one.packets flow.stage.value st old new refused report few is.consistent ends joined
 
 next_refused : (settings : Parameters) (side : Side) (a p : Parameters) (last : ℕ) (pair : Pair) (g : Brought) (f : Option Flow) (c : Option Connection) (flow : Flow) (st : Stop)
     → (old new : Report) → IsRefused st → IsReport (to_log settings side) a p old → last < g.segment.packet → g.segment.packet + 3 < 2 ^ 64
-    → AreBoth (to_log settings side) a p last f c → f ≡ Some flow → TakesRefused pair flow.syn (seen_brought g) flow.stage st old new
-    → TakesJoinedRefused pair g.segment g.octets flow.stage st old new → NextRefused a p c pair g st old new
+    → AreBoth (to_log settings side) a p last f c → f ≡ Some flow → TakesRefused pair flow.syn (seen_brought g) flow.stage.value st old new
+    → TakesJoinedRefused pair g.segment g.octets flow.stage.value st old new → NextRefused a p c pair g st old new
 next_refused settings side a p last pair g f None flow st old new refused report past few both at takes joined =
     subst (λ (x : Option Flow). AreBoth (to_log settings side) a p last x None) at both
 next_refused settings side a p last pair g f (Some one) flow st old new refused report past few both at takes joined =
     let is : IsOne (to_log settings side) a p last flow one = subst (λ (x : Option Flow). AreBoth (to_log settings side) a p last x (Some one)) at both in
-    more_refused settings side a p last pair g one.syn one.packets flow.stage flow.syn st old new refused report is.syn past few is.consistent takes joined
+    more_refused settings side a p last pair g one.syn one.packets flow.stage.value flow.syn st old new refused report is.syn past few is.consistent takes joined
 
 -- ---- a packet of the capture
 
@@ -431,12 +431,12 @@ left_refused missing table st old new stops ends refused port peer (to_log setti
       ends.4,
       split.are,
       ends_all how a p last missing ends.0 split.before old ends.4 report is.bound split.same ends.6,
-      end_refused settings side a p last ends.1 missing split.one.syn split.one.packets ends.2.stage st ends.4 new refused there is.bound split.is.consistent ends.7 ends.8,
+      end_refused settings side a p last ends.1 missing split.one.syn split.one.packets ends.2.stage.value st ends.4 new refused there is.bound split.is.consistent ends.7 ends.8,
     )
 
 -- the one that is next
 pub flows_refused : (missing : Option Shortfall) (all left rest : List (Pair × Flow)) (pair : Pair) (flow : Flow) (st : Stop) (old mid new : Report) → AreEnded missing all left old mid
-    → left ≡ (pair, flow) ∷ rest → EndsRefused missing flow.stage st mid new → EndsJoinedRefused pair missing flow.stage st mid new → EndsFlowsRefused missing all st old new
+    → left ≡ (pair, flow) ∷ rest → EndsRefused missing flow.stage.value st mid new → EndsJoinedRefused pair missing flow.stage.value st mid new → EndsFlowsRefused missing all st old new
 flows_refused missing all left rest pair flow st old mid new ended is refused joined = (
   ended.0,
   pair,

@@ -23,11 +23,14 @@ use Rattle.cli_capture.specs.ConnectionState.{is_number, answered_by, first_show
 
 -- ---- how it begins
 
+-- no packet waits yet for the SYN of the passive end, or for the sync points of a session that was running before the capture
+abbrev pub IsFirst : Option ℕ → ConnectionState → Type 0
+IsFirst (Some number) s = (waiting : Vec Waiting Global) × (s ≡ stage.Opening waiting) × (waiting.items ≡ [])
+IsFirst None s = s ≡ stage.Joining []
+
 -- a connection that begins with a SYN of this number, or one that was running before the capture, has no packet yet
 abbrev pub IsBegun : Option ℕ → ℕ → Flow → Type 0
-IsBegun (Some number) born flow =
-    (waiting : Vec Waiting Global) × (flow ≡ record { syn = Some number; born = born; stage = stage.Opening waiting }) × (waiting.items ≡ [])
-IsBegun None born flow = flow ≡ record { syn = None; born = born; stage = stage.Joining [] }
+IsBegun syn born flow = (flow.syn ≡ syn) × (flow.born ≡ born) × IsFirst syn flow.stage.value
 
 -- ---- whether anything is left to be told of it
 
@@ -41,7 +44,7 @@ IsIdle stage.Over = Unit {0}
 
 -- it is forgotten where 4,096 or more connections have begun after it: so many had begun before it, and it is one
 abbrev pub IsForgotten : Flow → ℕ → Type 0
-IsForgotten flow begun = IsIdle flow.stage × (flow.born + 4096 < begun)
+IsForgotten flow begun = IsIdle flow.stage.value × (flow.born + 4096 < begun)
 
 -- ---- what code does
 

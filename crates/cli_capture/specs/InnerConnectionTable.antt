@@ -1,5 +1,6 @@
 -- What only contracts of private functions use, besides the definitions of `ConnectionTable`.
-use Rattle.std.specs.Prelude.{◌≡◌, ◌⊎◌, ◌+◌, ◌-◌, ◌^◌, ◌++◌, ◌∷◌, min, ℕ, Bool, true, false, List, [], Option, Some, None, IfSome}
+use Rattle.std.specs.Prelude.{◌≡◌, ◌⊎◌, ◌+◌, ◌-◌, ◌^◌, ◌++◌, ◌∷◌, min, ℕ, Bool, true, false, List, [], Option, Some, None, IfSome, Box}
+use Rattle.std.specs.declared.alloc.Global.{Global}
 use Rattle.std.specs.Map.{remove_entry}
 use Rattle.indexmap.specs.IndexMap.{WritesThrough, get}
 use Rattle.capture_pcap.specs.declared.segment.Segment.{Segment}
@@ -54,10 +55,10 @@ Joins table pair segment = (table.is_joined ≡ true) × (has_syn segment ≡ fa
 abbrev pub FollowsBy : Option Flow → Pair → Brought → Table → Table → Report → Report → Type 0
 FollowsBy None pair g old new before after = (new ≡ old) × (after ≡ before)
 FollowsBy (Some flow) pair g old new before after =
-    (next : ConnectionState) × (new ≡ record old { flows = new.flows })
+    (next : Box ConnectionState Global) × (new ≡ record old { flows = new.flows })
     × WritesThrough (same_pair.ghosts).eq ((same_pair.ghosts).eq pair) old.flows (record flow { stage = next }) new.flows
-    × TakesStage pair flow.syn (seen_brought g) flow.stage next before after × TakesOnPage pair flow.syn (seen_brought g) flow.stage next before after
-    × TakesJoined pair g.segment g.octets flow.stage next before after
+    × TakesStage pair flow.syn (seen_brought g) flow.stage.value next.value before after × TakesOnPage pair flow.syn (seen_brought g) flow.stage.value next.value before after
+    × TakesJoined pair g.segment g.octets flow.stage.value next.value before after
 
 abbrev pub FollowsFlow : Pair → Brought → Table → Table → Report → Report → Type 0
 FollowsFlow pair g old new before after = FollowsBy (flow_of old pair) pair g old new before after
@@ -68,7 +69,7 @@ FollowsFlow pair g old new before after = FollowsBy (flow_of old pair) pair g ol
 abbrev pub EndsBefore : Option Flow → Pair → Report → Report → Type 0
 EndsBefore None pair before after = after ≡ before
 EndsBefore (Some flow) pair before after =
-    EndsStage pair true None flow.stage before after × EndsStageOnPage true None flow.stage before after × EndsJoined pair true None flow.stage before after
+    EndsStage pair true None flow.stage.value before after × EndsStageOnPage true None flow.stage.value before after × EndsJoined pair true None flow.stage.value before after
 
 -- and isn't known any more
 pub record ReplacesFlow (pair : Pair) (old new : Table) (before after : Report) : Type 0 where
@@ -105,7 +106,7 @@ Begins table pair from segment = (syn : Option ℕ) × BeginsWith table pair fro
 
 -- more may be told of the pair's connection
 abbrev pub IsFollowed : Table → Pair → Type 0
-IsFollowed table pair = HasFlow table pair (λ flow. is_live flow.stage ≡ true)
+IsFollowed table pair = HasFlow table pair (λ flow. is_live flow.stage.value ≡ true)
 
 abbrev pub brought_by : Side → Segment → Capture → ℕ → Brought
 brought_by from segment capture time = record { segment = taken_segment from capture.packet time segment; octets = capture.octets.now }
@@ -146,5 +147,5 @@ TakesPacket segment capture missing old new before after =
 abbrev pub EndsFlows : Option Shortfall → List (Pair × Flow) → Report → Report → Type 0
 EndsFlows missing [] old new = new ≡ old
 EndsFlows missing ((pair, flow) ∷ flows) old new =
-    (mid : Report) × Emits old mid × EndsStage pair false missing flow.stage old mid × EndsStageOnPage false missing flow.stage old mid
-    × EndsJoined pair false missing flow.stage old mid × EndsFlows missing flows mid new
+    (mid : Report) × Emits old mid × EndsStage pair false missing flow.stage.value old mid × EndsStageOnPage false missing flow.stage.value old mid
+    × EndsJoined pair false missing flow.stage.value old mid × EndsFlows missing flows mid new

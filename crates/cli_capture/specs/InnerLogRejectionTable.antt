@@ -20,7 +20,7 @@ use Rattle.cli_capture.specs.InnerConnectionTable.{Begins, BeginsFlow, BeginsWit
 -- the one before, which ends since another one replaces it
 abbrev pub ReplacesRefused : Pair → Table → Stop → Report → Report → Type 0
 ReplacesRefused pair table st before after =
-    (flow : Flow) × (flow_of table pair ≡ Some flow) × EndsRefused None flow.stage st before after × EndsJoinedRefused pair None flow.stage st before after
+    (flow : Flow) × (flow_of table pair ≡ Some flow) × EndsRefused None flow.stage.value st before after × EndsJoinedRefused pair None flow.stage.value st before after
 
 -- whichever of the two ends connected before
 abbrev pub StartsRefused : Pair → Table → Stop → Report → Report → Type 0
@@ -31,8 +31,8 @@ StartsRefused pair table st before after =
 -- the one that takes a packet
 abbrev pub FollowsFlowRefused : Pair → Brought → Table → Stop → Report → Report → Type 0
 FollowsFlowRefused pair g table st before after =
-    (flow : Flow) × (flow_of table pair ≡ Some flow) × TakesRefused pair flow.syn (seen_brought g) flow.stage st before after
-    × TakesJoinedRefused pair g.segment g.octets flow.stage st before after
+    (flow : Flow) × (flow_of table pair ≡ Some flow) × TakesRefused pair flow.syn (seen_brought g) flow.stage.value st before after
+    × TakesJoinedRefused pair g.segment g.octets flow.stage.value st before after
 
 -- the one before that which a packet begins, that one, or another one that takes it
 abbrev pub TakesItRefused : Pair → Side → Segment → Brought → Table → Stop → Report → Report → Type 0
@@ -50,5 +50,5 @@ TakesOfRefused pair from segment capture table st before after =
 abbrev pub EndsFlowsRefused : Option Shortfall → List (Pair × Flow) → Stop → Report → Report → Type 0
 EndsFlowsRefused missing flows st old new =
     (front : List (Pair × Flow)) × (pair : Pair) × (flow : Flow) × (rest : List (Pair × Flow)) × (mid : Report)
-    × (flows ≡ front ++ (pair, flow) ∷ rest) × EndsFlows missing front old mid × EndsRefused missing flow.stage st mid new
-    × EndsJoinedRefused pair missing flow.stage st mid new
+    × (flows ≡ front ++ (pair, flow) ∷ rest) × EndsFlows missing front old mid × EndsRefused missing flow.stage.value st mid new
+    × EndsJoinedRefused pair missing flow.stage.value st mid new

@@ -62,7 +62,7 @@ StageStands how a p last syn (Some (of_session s)) st =
 pub record IsOne (how : Way) (a p : Parameters) (last : ℕ) (flow : Flow) (one : Connection) : Type 0 where
   pub syn : flow.syn ≡ one.syn
   pub born : flow.born ≡ one.born
-  pub consistent : StageStands how a p last one.syn one.packets flow.stage
+  pub consistent : StageStands how a p last one.syn one.packets flow.stage.value
 
 -- one for one
 abbrev pub AreSame : Way → Parameters → Parameters → ℕ → List (Pair × Flow) → List (Pair × Connection) → Type 0

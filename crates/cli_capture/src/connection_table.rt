@@ -130,8 +130,8 @@ impl Table {
             begun: _,
         } = self;
         for (pair, flow) in flows {
-            flow.stage
-                .end(alloc, report, unjudged, &pair, false, missing)?;
+            let stage = Box::into_inner(flow.stage);
+            stage.end(alloc, report, unjudged, &pair, false, missing)?;
         }
         Ok(())
     }
@@ -246,7 +246,7 @@ impl Table {
 
     // Whether more may be told of the connection of a pair.
     fn is_live(&self, pair: &Pair) -> bool
-        ensures { IsTrue result ↔ HasFlow self.now pair.now (λ flow. is_live flow.stage ≡ true) }
+        ensures { IsTrue result ↔ HasFlow self.now pair.now (λ flow. is_live flow.stage.value ≡ true) }
     {
         self.flow(pair).is_some_and(|flow| flow.is_live())
     }
@@ -278,7 +278,8 @@ impl Table {
         ensures refuses { IfErr result (λ stop. ReplacesRefused pair.now self.old stop report.old report.new) }
     {
         if let Some(before) = self.flows.shift_remove(pair) {
-            before.stage.end(alloc, report, unjudged, pair, true, None)?;
+            let stage = Box::into_inner(before.stage);
+            stage.end(alloc, report, unjudged, pair, true, None)?;
         }
         Ok(())
     }
@@ -301,7 +302,9 @@ impl Table {
     {
         self.replace(alloc, report, unjudged, &pair.turned())?;
         self.replace(alloc, report, unjudged, &pair)?;
-        let flow = Flow::new(alloc, syn, self.begun);
+        let Ok(flow) = Flow::new(alloc, syn, self.begun) else {
+            return Err(Stop::Memory);
+        };
         if self.flows.insert(pair, flow).is_err() {
             return Err(Stop::Memory);
         }
@@ -349,8 +352,8 @@ impl Table {
         let Some(flow) = self.flows.get_mut(pair) else {
             return Ok(());
         };
-        let stage = mem::replace(&mut flow.stage, ConnectionState::Over);
-        flow.stage = stage.take(alloc, report, unjudged, pair, flow.syn, packet)?;
+        let stage = mem::replace(&mut *flow.stage, ConnectionState::Over);
+        *flow.stage = stage.take(alloc, report, unjudged, pair, flow.syn, packet)?;
         Ok(())
     }
 }

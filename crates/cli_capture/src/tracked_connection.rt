@@ -17,7 +17,7 @@ ghost use Rattle.cli_capture.specs.InnerLogRejectionMidstream.{EndGatheredRefuse
 ghost use Rattle.cli_capture.specs.Report.{session_of};
 ghost use Rattle.cli_capture.specs.InnerReport.{StopsUnrefused, Emits};
 ghost use Rattle.cli_capture.specs.ConnectionState.{ToldUnanswered, first_shown, lost_by};
-ghost use Rattle.cli_capture.specs.InnerConnectionState.{WaitsOn, answers, if_answered, shows, stage_by, IsBegun, IsIdle, EndsStage, TakesStage};
+ghost use Rattle.cli_capture.specs.InnerConnectionState.{WaitsOn, answers, if_answered, shows, stage_by, IsBegun, IsFirst, IsIdle, EndsStage, TakesStage};
 ghost use Rattle.cli_capture.specs.InnerConnectionTable.{is_live};
 
 use crate::bare_resets::{note_reset, time_of};
@@ -30,18 +30,18 @@ use capture_log::{BothLogs, Pair, Stop, unboxed};
 use capture_midstream::Gathering;
 use capture_tcp::{Connection, ConnectionFault, Ending, Event, Segment, Side, TimedEvent};
 use capture_unjudged::Unjudged;
-use std::alloc::Global;
+use std::alloc::{AllocError, Global};
 
 // How many packets may wait for the number of the passive end's SYN.
 const GREATEST_WAIT: usize = 4096;
 
 /// A connection: the number of the active end's SYN, unless it was running before, how many connections had begun before,
-/// and how far it is.
+/// and how far it is. That stands in a box, since the table moves its connections.
 #[derive(Drop)]
 pub struct Flow {
     pub syn: Option<u32>,
     pub born: u64,
-    pub stage: ConnectionState,
+    pub stage: Box<ConnectionState>,
 }
 
 /// How far a connection is.
@@ -104,35 +104,27 @@ impl Drop for Logs {
 
 impl Flow {
     /// A connection that begins with a SYN of this number, or a session that was running before the capture.
-    pub fn new(alloc: Global, syn: Option<u32>, born: u64) -> Flow
-        ensures { IsBegun syn born result }
+    pub fn new(alloc: Global, syn: Option<u32>, born: u64) -> Result<Flow, AllocError>
+        ensures { IfOk result (IsBegun syn born) }
     {
-        match syn {
-            Some(syn) => Flow {
-                syn: Some(syn),
-                born,
-                stage: ConnectionState::Opening(Vec::new(alloc)),
-            },
-            None => Flow {
-                syn: None,
-                born,
-                stage: ConnectionState::Joining(Gathering::new(alloc)),
-            },
-        }
+        let Ok(stage) = Box::new(alloc, first_state(alloc, syn)) else {
+            return Err(AllocError);
+        };
+        Ok(Flow { syn, born, stage })
     }
 
     /// Whether more may be told of it.
     pub fn is_live(&self) -> bool
-        ensures { result ≡ is_live self.now.stage }
+        ensures { result ≡ is_live self.now.stage.value }
     {
-        !matches!(self.stage, ConnectionState::Over)
+        !matches!(&*self.stage, ConnectionState::Over)
     }
 
     /// Whether nothing is left to be told of it, unless more of its packets come.
     pub fn is_idle(&self) -> bool
-        ensures { IsTrue result ↔ IsIdle self.now.stage }
+        ensures { IsTrue result ↔ IsIdle self.now.stage.value }
     {
-        match &self.stage {
+        match &*self.stage {
             ConnectionState::Opening(waiting) => lost_at(waiting).is_none(),
             ConnectionState::Joining(gathering) => gathering.is_silent(),
             ConnectionState::Open(_) | ConnectionState::Within(_) => false,
@@ -305,6 +297,16 @@ impl Logs {
             return Ok(());
         }
         report.conclude(alloc, pair, unboxed(ends), shortfall)
+    }
+}
+
+// Returns how far a connection is at first: its packets wait for the SYN of the passive end, or for the sync points.
+fn first_state(alloc: Global, syn: Option<u32>) -> ConnectionState
+    ensures { IsFirst syn result }
+{
+    match syn {
+        Some(_) => ConnectionState::Opening(Vec::new(alloc)),
+        None => ConnectionState::Joining(Gathering::new(alloc)),
     }
 }
 

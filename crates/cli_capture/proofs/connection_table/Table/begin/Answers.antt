@@ -21,7 +21,7 @@ pub returns-clause-begins : goal.returns-clause-begins
 returns-clause-begins c =
     let old = c.args.self.now in
     let pair = c.args.pair in
-    let flow = c.new-flow.result in
+    let flow = c.in-Ok.flow in
     let of_other = c.in_ok-replace.ensures.replaces in
     let of_pair = c.in_ok-replace-2.ensures.replaces in
     let free = c.replace-2.new.self in
@@ -36,7 +36,7 @@ returns-clause-begins c =
       of_other = subst (λ (p : Pair). ReplacesFlow p old c.replace.new.self c.args.report.now c.replace.new.report) c.turned.ensures of_other;
       of_pair = of_pair;
       flow = flow;
-      begun = subst (λ (n : ℕ). IsBegun c.args.syn n flow) begun c.new-flow.ensures;
+      begun = subst (λ (n : ℕ). IsBegun c.args.syn n flow) begun c.in-Ok.ensures;
       counted = counted ∙ c.saturating_add-self.ensures ∙ ap (λ (n : ℕ). min (n + 1) (2 ^ 64 - 1)) begun;
       known = subst (λ (n : ℕ). KeepsOf IsForgotten n (free.flows.entries ++ (pair, flow) ∷ []) c.forget.new.self.flows.entries) (sym counted)
           (subst (λ (es : List (Pair × Flow)). KeepsOf IsForgotten c.saturating_add-self.result es c.forget.new.self.flows.entries) kept c.forget.ensures.known);
@@ -61,3 +61,6 @@ returns-in_err-replace-2-clause-refuses c =
 
 pub returns-then-is_err-clause-refuses : goal.returns-then-is_err-clause-refuses
 returns-then-is_err-clause-refuses c refused = absurd refused
+
+pub returns-in-Err-clause-refuses : goal.returns-in-Err-clause-refuses
+returns-in-Err-clause-refuses c refused = absurd refused

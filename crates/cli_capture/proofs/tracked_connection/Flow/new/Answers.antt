@@ -1,9 +1,0 @@
-use Rattle.std.proofs.Common.{ℕ, Option, Some, refl, sym, subst}
-use Rattle.cli_capture.specs.declared.tracked_connection.ConnectionState.TheVariants as stage
-use Rattle.cli_capture.specs.InnerConnectionState.{IsBegun}
-use Rattle.cli_capture.proofs.tracked_connection.Flow.new.Goals as goal
-
-pub returns-in-Some : goal.returns-in-Some
-returns-in-Some c =
-    subst (λ (m : Option ℕ). IsBegun m c.args.born (record { syn = Some c.in-Some.syn; born = c.args.born; stage = stage.Opening c.new.result }))
-    (sym c.in-Some.is) (c.new.result, refl, c.new.ensures.items)
