@@ -528,8 +528,8 @@ begun_one : (how : Way) (a p : Parameters) (last born : ℕ) (syn : Option ℕ) 
 begun_one how a p last born (Some number) flow begun = record {
   syn = begun.0;
   born = begun.1;
-  consistent = subst (λ (st : ConnectionState). StageStands how a p last (Some number) (Some (of_syn number [])) st) (sym begun.3)
-      (refl, (ap (λ (ws : List Waiting). map seen_waiting ws) begun.4, refl, omega arith), omega arith);
+  consistent = subst (λ (st : ConnectionState). StageStands how a p last (Some number) (Some (of_syn number [])) st) (sym begun.2.1)
+      (refl, (ap (λ (ws : List Waiting). map seen_waiting ws) begun.2.2, refl, omega arith), omega arith);
 }
 begun_one how a p last born None flow begun = record {
   syn = begun.0;

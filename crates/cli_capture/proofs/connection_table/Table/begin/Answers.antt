@@ -61,6 +61,3 @@ returns-in_err-replace-2-clause-refuses c =
 
 pub returns-then-is_err-clause-refuses : goal.returns-then-is_err-clause-refuses
 returns-then-is_err-clause-refuses c refused = absurd refused
-
-pub returns-in-Err-clause-refuses : goal.returns-in-Err-clause-refuses
-returns-in-Err-clause-refuses c refused = absurd refused
