@@ -30,6 +30,10 @@ function, or a line of this function's own proof that no longer fits. It is not 
 calls is not proved. Bodies that such a check does not name are tried again among others, and at last alone. The last
 line is `N passed, M failed`.
 
+Of a function without answers by hand, `search` alone proves the goals. So its bodies are first tried by `--start`, which
+asks `search` for the goals as a check does, but leaves out what follows the code step by step: it is most of a check. A
+body is refused if `search` leaves a goal. The others are tried by a check.
+
     edits.py [CRATE..]                tries all edits of these crates, or of all crates
     edits.py --one CRATE NAME [BODY]  tries one edit, and writes the output of the check
     edits.py --equivalent [NAME..]    tries all equivalent edits, or these
@@ -120,8 +124,8 @@ NO_BODY = "unreachable!()"
 NO_FUNCTION = re.compile(r"has no function `([^`]+)`")
 
 # Where the proof of a function lies, and one that is a hole.
-PROOF = "Proof.antt"
-BY_HAND = ("Invariants.antt", "Answers.antt", PROOF)
+INVARIANTS, ANSWERS, PROOF = "Invariants.antt", "Answers.antt", "Proof.antt"
+BY_HAND = (INVARIANTS, ANSWERS, PROOF)
 HOLE = """use {of}.Statement.{{statement}}
 
 pub {name}_spec : {{M : Type 1}} → statement M
@@ -131,6 +135,10 @@ pub {name}_spec : {{M : Type 1}} → statement M
 # What a check says of such a proof where it cannot be one, and of a function that is proved but for holes.
 NO_HOLE = re.compile(r"^\./proofs/(\S+)/Proof\.antt(?::\d+:\d+)?: error", re.MULTILINE)
 BUT_FOR_HOLES = re.compile(r"^fn (\S+): (?:no holes|depends on a hole)", re.MULTILINE)
+
+# What a start says of a file that it wrote of a proof, and the goals in one that `search` leaves.
+WROTE = re.compile(r"^wrote \./proofs/(\S+)/(\w+\.antt)$", re.MULTILINE)
+LEFT = re.compile(r"^(?:abbrev )?pub (\S+) : goal\.", re.MULTILINE)
 
 # What a check says of a function that is not proved, of a goal, and of a line of a proof by hand. That a record or a
 # module has no such name may be in the line after.
@@ -632,23 +640,58 @@ class Room:
         is.
         """
         texts, doubles = self.apply(edits)
-        function = lambda it: {doubles[it].function()} if it in doubles else it.functions()
-        paths = [{path_of(self.crate, *doubles[it].function())} if it in doubles else it.paths() for it in edits]
+        function = lambda it: functions_with(it, doubles)
+        paths = [self.paths_with(it, doubles) for it in edits]
         asked = set() if of_crate or not paths or None in paths else set().union(*paths)
-        turned = set().union(*map(function, edits))
-        filled = [it for it in self.by_hand if not asked or named(it.split("/")) in turned]
+        filled = self.holes_of(set().union(*map(function, edits)) if asked else None)
+        with self.changed(texts, filled):
+            status, output = self.check_past_holes(asked, texts, filled)
+            while status and self.fill_those_that_cant_be(output):
+                status, output = self.check_past_holes(asked, texts, filled)
+        found = refused_in(output)
+        proved = {named(path.split("::")[1:]) for path in BUT_FOR_HOLES.findall(output)}
+        refused = {it: [said for of in function(it) for said in found.get(of, [])] for it in edits if function(it) & found.keys()}
+        return {it for it in edits if (function(it) <= proved if asked else not status)}, refused, output
+
+    def start(self, edits):
+        """Starts the proofs of the functions that edits turn, takes the edits back, and returns those of which `search`
+        leaves a goal, with the goals.
+
+        None where a start also asks for an invariant, since `search` may stop early then.
+        """
+        texts, doubles = self.apply(edits)
+        asked = set().union(*(self.paths_with(it, doubles) for it in edits))
+        filled = self.holes_of(set().union(*(functions_with(it, doubles) for it in edits)))
+        with self.changed(texts, filled):
+            self.write_past_holes(texts, filled)
+            _, output = self.check_of_those_there(asked, "--start")
+            written = WROTE.findall(output)
+            asks_more = {path for path, file in written if file != ANSWERS}
+            left = {path: LEFT.findall(text_of(f"{self.folder}/proofs/{path}/{ANSWERS}")) for path, file in written if file == ANSWERS}
+            for path, file in written:
+                os.remove(f"{self.folder}/proofs/{path}/{file}")
+                if not os.listdir(f"{self.folder}/proofs/{path}"):
+                    os.rmdir(f"{self.folder}/proofs/{path}")
+        found = {named(path.split("/")): goals for path, goals in left.items() if goals and path not in asks_more}
+        turned = {it: functions_with(it, doubles) & found.keys() for it in edits}
+        return {it: [goal for of in functions for goal in found[of]] for it, functions in turned.items() if functions}
+
+    def paths_with(self, edit, doubles):
+        """The functions that an edit is tried on, as `rt check --only` takes them, where some are doubles; or None."""
+        return {path_of(self.crate, *doubles[edit].function())} if edit in doubles else edit.paths()
+
+    def holes_of(self, functions):
+        """The paths of those of these functions that have a hole; of all where there are none."""
+        return [it for it in self.by_hand if functions is None or named(it.split("/")) in functions]
+
+    @contextmanager
+    def changed(self, texts, filled):
+        """Fills these holes, and takes that back after the checks, and what they find in these files."""
         for path in filled:
             self.fill_hole(path)
         before = {path: text_of(f"{self.folder}/{path}") for path in texts if os.path.exists(f"{self.folder}/{path}")}
         try:
-            status, output = self.check_past_holes(asked, texts, filled)
-            while status and self.fill_those_that_cant_be(output):
-                status, output = self.check_past_holes(asked, texts, filled)
-            only = asked
-            while status == NO_SUCH_FUNCTION and only:
-                # a check names a function of an `impl` otherwise at times: then the others are tried
-                only = only - (set(NO_FUNCTION.findall(output)) or only)
-                status, output = self.check_of(only) if only else (1, output)
+            yield
         finally:
             write_all(self.folder, before)
             for path in texts.keys() - before.keys():
@@ -656,10 +699,6 @@ class Room:
             for path in filled:
                 if path in self.by_hand:
                     self.make_hole(path)
-        found = refused_in(output)
-        proved = {named(path.split("::")[1:]) for path in BUT_FOR_HOLES.findall(output)}
-        refused = {it: [said for of in function(it) for said in found.get(of, [])] for it in edits if function(it) & found.keys()}
-        return {it for it in edits if (function(it) <= proved if asked else not status)}, refused, output
 
     def error_of(self, edits):
         """What is wrong with the crate's sources with these edits before anything is proved; None where nothing is."""
@@ -676,22 +715,52 @@ class Room:
         """Checks functions of the crate with these texts of its files, where only those whose holes are filled have
         bodies.
         """
+        self.write_past_holes(texts, filled)
+        return self.check_of_those_there(only)
+
+    def write_past_holes(self, texts, filled):
+        """Writes these texts of the crate's files, and no bodies but those of functions whose holes are filled."""
         holes = self.by_hand.keys() - set(filled)
         whole = {**self.sources, **texts}
         sources = {path: without_bodies(self.crate, path, whole[path], holes) for path in self.sources}
         write_all(self.folder, {**texts, **sources})
-        return self.check_of(only)
 
-    def check_of(self, only):
-        """A check of these functions, past holes, or of the crate where there are none: its status, and what it
-        writes.
+    def check_of_those_there(self, only, how="--only"):
+        """The same of these functions, without those that a check names otherwise, as it does at times for an `impl`."""
+        status, output = self.check_of(only, how)
+        while status == NO_SUCH_FUNCTION and only:
+            only = only - (set(NO_FUNCTION.findall(output)) or only)
+            status, output = self.check_of(only, how) if only else (1, output)
+        return status, output
+
+    def check_of(self, only, how="--only"):
+        """A check of these functions, past holes, or of the crate where there are none; or their start: its status, and
+        what it writes.
         """
-        asked = [word for path in sorted(only) for word in ("--only", path)]
-        how = {"stdout": subprocess.PIPE, "stderr": subprocess.STDOUT, "check": False}
-        ran = subprocess.run([*self.words, *(["--allow-holes", *asked] if asked else [])], cwd=self.folder, **how)
+        asked = [word for path in sorted(only) for word in (how, path)]
+        asked = ["--allow-holes", *asked] if asked and how == "--only" else asked
+        ran = subprocess.run([*self.words, *asked], cwd=self.folder, stdout=subprocess.PIPE, stderr=subprocess.STDOUT, check=False)
         if ran.returncode == -signal.SIGXCPU:
             raise TimeoutError(f"a check took {LONGEST_CHECK} s of a processor: {', '.join(sorted(only))}")
         return ran.returncode, ran.stdout.decode(errors="replace")
+
+
+@functools.lru_cache(maxsize=None)
+def answered_by_hand(crate):
+    """The functions of a crate whose proofs have answers by hand."""
+    top = f"{folder_of(crate)}/proofs"
+    folders = (os.path.relpath(at, top) for at, _, names in os.walk(top) if {ANSWERS, PROOF} & set(names))
+    return {named(it.split("/")) for it in folders}
+
+
+def is_by_search(edit):
+    """Whether `search` alone proves the goals of the functions that an edit is tried on."""
+    return bool(edit.paths()) and not edit.functions() & answered_by_hand(edit.crate)
+
+
+def functions_with(edit, doubles):
+    """The functions that an edit is tried on, where some are doubles."""
+    return {doubles[edit].function()} if edit in doubles else edit.functions()
 
 
 def refused_in(output):
@@ -852,12 +921,32 @@ class Trial:
 
     def refuse(self, bodies):
         """Tries wrong bodies: each has to be refused."""
-        left = self.applicable(bodies)
-        for _ in range(AMONG_OTHERS):
-            lots = in_lots(left)
-            left = [edit for lot in lots if len(lot) == 1 for edit in lot]
-            left += sum(self.at_once(self.not_named, [lot for lot in lots if len(lot) > 1]), [])
+        good = self.applicable(bodies)
+        by_search = [it for it in good if is_by_search(it)]
+        # (what these checks keep of the crate, the starts take from there)
+        left = self.tried_among_others([it for it in good if it not in by_search])
+        left += sum(self.at_once(self.not_left, in_lots(by_search)), [])
+        for _ in range(AMONG_OTHERS - 1):
+            left = self.tried_among_others(left)
         self.at_once(self.alone, left)
+
+    def tried_among_others(self, bodies):
+        """Tries wrong bodies in lots, and returns those of which this says nothing."""
+        lots = in_lots(bodies)
+        left = [edit for lot in lots if len(lot) == 1 for edit in lot]
+        return left + sum(self.at_once(self.not_named, [lot for lot in lots if len(lot) > 1]), [])
+
+    def not_left(self, lot):
+        """Starts the proofs of wrong bodies together, and returns those of which `search` leaves no goal."""
+        self.count(checks=1)
+        with self.lanes.one(self.size - self.passed), self.rooms.one() as room:
+            refused = room.start(lot)
+        self.count(passed=len(refused))
+        if refused or len(lot) == 1:
+            return [it for it in lot if it not in refused]
+        # one of them may not compile
+        middle = len(lot) // 2
+        return self.not_left(lot[:middle]) + self.not_left(lot[middle:])
 
     def not_named(self, lot):
         """Tries wrong bodies together, and gives those of which this says nothing."""
