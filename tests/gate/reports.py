@@ -29,6 +29,10 @@ LOGS = sorted(glob.glob(f"{TOP}/examples/*.log") + glob.glob(f"{TOP}/examples/ru
 NAMES = ["a&b.log", "<a>.log", 'a"b\'c.log', "a\\b.log", "a\x01\x1b\x7f.log", "a b.log", "ä日本𝄞.log", "a\ufffe\uffff\x85.log"]
 
 
+# The maximum number of characters of an explanation in JUnit.
+LONGEST = 16384
+
+
 def answer(words, given=b"", **how):
     ran = subprocess.run([PROGRAM, *words], input=given, capture_output=True, timeout=LONGEST_RUN, **how)
     return Answer(ran.returncode, ran.stdout, ran.stderr)
@@ -82,7 +86,8 @@ def expected_case(name, file, verdict, texts):
     if verdict["verdict"] == "pass":
         return in_xml(name), []
     why = texts.get(verdict["rule"], "this line is unreadable")
-    told = in_xml(first_failure(file, verdict["line"]))
+    told = first_failure(file, verdict["line"])
+    told = in_xml(told if len(told) <= LONGEST else f"{told[:LONGEST]}\n..\n")
     return in_xml(name), [("failure", verdict["rule"], f"line {verdict['line']}: {why}", told)]
 
 
@@ -136,7 +141,16 @@ def line_endings(room, texts):
     with open(f"{TOP}/examples/late-reply.log", "rb") as file:
         log = file.read()
     lines = log.split(b"\n")
+
+    def message(length):
+        """A log whose line 2 is a message out of place, with so many characters."""
+        return lines[0] + b"\n0 > 00008101000000000002" + (0x420000 + length).to_bytes(3, "big").hex().encode() + length * b"78"
+
+    with open(f"{room}/message", "wb") as file:
+        file.write(message(16_000))
+    rest = len(first_failure(f"{room}/message", 2)) - 16_000
     tries = {
+        **{f"message {it}": message(LONGEST - rest + it) for it in (-1, 0, 1, 10_000)},
         "unended": b"\n".join(lines[:6]), "returns": log.replace(b"\n", b"\r\n"), "unended first": b"hsms", "empty": b"",
         "feed": b"\n", "long": lines[0] + b"\n" + b"x" * 3_000_000, "bytes": lines[0] + b"\n\xff\xc3\x28\x1b[31m<&>\n",
     }

@@ -39,7 +39,11 @@ pub fn push_pass(xml: &mut String, name: &str) -> Result<(), AllocError> {
     xml.push_str("\"/>\n")
 }
 
-/// Appends the test case of a log that fails: the line, the rule, its text, and how the failure is explained.
+// The maximum number of characters of an explanation.
+const LONGEST: usize = 16_384;
+
+/// Appends the test case of a log that fails: the line, the rule, its text, and how the failure is explained. Of a long
+/// explanation the first 16,384 characters are appended, and `..` in a line of its own.
 pub fn push_failure(
     xml: &mut String,
     name: &str,
@@ -52,7 +56,13 @@ pub fn push_failure(
     write!(xml, "\"><failure type=\"{rule}\" message=\"line {line}: ")?;
     push_text(xml, reason(why))?;
     xml.push_str("\">\n")?;
-    push_text(xml, explained)?;
+    match explained.char_indices().nth(LONGEST) {
+        Some((end, _)) => {
+            push_text(xml, explained.get(..end).unwrap_or(explained))?;
+            xml.push_str("\n..\n")?;
+        }
+        None => push_text(xml, explained)?,
+    }
     xml.push_str("</failure></testcase>\n")
 }
 
