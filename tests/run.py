@@ -73,6 +73,7 @@ CLOCK = [
     Script("gate/connection_faults", f"{PROGRAM}, a clock"),
     Script("gate/capture_live", f"{PROGRAM}, a clock; without tcpdump and dumpcap it tries nothing"),
     Script("gate/loopback", f"{PROGRAM}, a clock"),
+    Script("gate/terminal", f"{PROGRAM}, a clock"),
     Script("gate/error_messages", f"{PROGRAM}, a clock"),
     Script("gate/system_interface", f"{COMPILER}, a clock"),
 ]

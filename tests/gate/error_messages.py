@@ -57,7 +57,11 @@ def cases_of_words():
     usage = "Usage: hsms <COMMAND>"
     no_command = "'hsms' requires a subcommand but one was not provided [subcommands: show, audit, explain, compare, capture, encode, serve, help]"
     yield Case([], 2, "command line", [f"{no_command}. {usage}"])
-    yield Case(["shwo"], 2, "command line", [f"unrecognized subcommand 'shwo'. {usage}"])
+    similar = "unrecognized subcommand 'shwo'; a similar subcommand exists: 'show'"
+    yield Case(["shwo"], 2, "command line", [f"{similar}. {usage}"])
+    yield Case(["xyzzy"], 2, "command line", [f"unrecognized subcommand 'xyzzy'. {usage}"])
+    similar = "unexpected argument '--quite' found; a similar argument exists: '--quiet'"
+    yield Case(["audit", "--quite"], 2, "command line", [f"{similar}. Usage: hsms audit [OPTIONS] [FILE]..."])
     needed = "the following required arguments were not provided: --port <P>"
     yield Case([*END, "--address", HERE], 2, "command line", [f"{needed}. Usage: hsms serve {OPTIONS}"])
     value = "invalid value '1' for '--max <N>': 1 is not in 256..=33554432"
@@ -69,6 +73,15 @@ def cases_of_words():
         expected = f"--format {form}: expected text, json or html"
         yield Case(["explain", "--format", form], 2, "command line", [expected])
         yield Case(["explain", f"--format={form}", "--utc"], 2, "command line", [expected])
+    for options in (["--around", "3"], ["--around=3", "--format", "json"], ["--around", "3", "--format=html", "--all"]):
+        yield Case(["explain", *options], 2, "command line", ["--around needs --only failures"])
+    for options in (["--all"], ["--all", "--format", "text"], ["--only", "failures", "--format=json", "--all"]):
+        yield Case(["explain", *options], 2, "command line", ["--all needs --format html"])
+    for files in ([], ["a"], ["a", "b", "c"]):
+        yield Case(["compare", *files], 2, "command line", ["compare needs two files: HOST.log EQUIPMENT.log"])
+    for option in (["--color", "red"], ["--color=red"]):
+        yield Case(["audit", *option], 2, "command line", ["--color red: expected auto, always or never"])
+    yield Case(["audit", "--color"], 2, "command line", ["--color : expected auto, always or never"])
     for option in ("--active", "--log"):
         yield Case(["capture", option, "both"], 2, "command line", [f"{option} both: expected host or equipment"])
     for address in ("", "10.0.0", "10.0.0.256", "010.0.0.1", "::1%lo", "[::1]", "10.0.0.1:5000", "localhost"):
@@ -208,8 +221,14 @@ def cases_of_devices():
         yield Case(words, 3, "Write", [write], capture_examples.late_reply().octets, full)
     log = "cannot write the log: is standard output open, the disk full, or the pipe closed?"
     yield Case([*LISTENS, "--address", HERE, "--port", str(free_port())], 3, "Log", [log], how=full)
-    port = "cannot write the port to the file of --port-file: check its name and its permissions"
-    yield Case([*LISTENS, "--address", HERE, "--port", "0", "--port-file", "/"], 3, "PortFile", [port])
+    port = "cannot write the port to"
+    for name, why in (
+        ("/", "this is a directory"), ("", "the name is empty"), ("/none/port", "its folder does not exist"),
+        ("/etc/passwd/port", "a part of its path is not a directory"),
+    ):
+        yield Case(
+            [*LISTENS, "--address", HERE, "--port", "0", "--port-file", name], 3, "PortFile", [f"{port} {name}: {why}"]
+        )
 
 
 def little_memory():
@@ -263,7 +282,8 @@ def cases_of_links():
     yield Case([*LISTENS, "--address", "192.0.2.1", "--port", str(port)], 3, "Link", [foreign])
     turns = "the turn limit was reached while the connection was up: raise --turns"
     waits = Listening()
-    yield Case([*HERE_AT, str(waits.port), "--turns", "0", "--t8", "10"], 3, "Turns", [turns])
+    short = "hsms: --t8 10: times are in milliseconds\n"
+    yield Case([*HERE_AT, str(waits.port), "--turns", "0", "--t8", "10"], 3, "Turns", [turns], before=short)
     waits.listener.close()
     broke = "the connection failed: the peer reset it, or accepted no data for T8. The log shows how far it got"
     with ResettingPeer() as resets:
@@ -352,6 +372,22 @@ def helped():
         same((run.returncode, option in run.stdout.decode()), (0, True))
 
 
+def doubtful():
+    """With -v a time below a second is doubted. The result stays."""
+    log = "examples/late-reply.pcap"
+    for words, told in (
+        (["--t3", "45"], "hsms: --t3 45: times are in milliseconds\n"), (["--t3=999"], "hsms: --t3 999: times are in milliseconds\n"),
+        (["--t6", "5", "--t8=5"], "hsms: --t6 5: times are in milliseconds\nhsms: --t8 5: times are in milliseconds\n"),
+        (["--t3", "1000"], ""), (["--port", "500"], ""), (["--t7", "1000", "--max", "256"], ""),
+    ):
+        plain, worded = (
+            subprocess.run([PROGRAM, "capture", *words, *more, log], cwd=TOP, capture_output=True, timeout=SOON)
+            for more in ([], ["-v"])
+        )
+        same((worded.returncode, worded.stdout, worded.stderr[: len(told)].decode()), (plain.returncode, plain.stdout, told))
+        same("milliseconds" in worded.stderr.decode()[len(told) :], False)
+
+
 def judged():
     """What is no fault is the same with words and without."""
     log = "hsms-log 1 host active 0 45000 6000 10000 5000 1048576 32\n0 up\n0 up\n"
@@ -397,7 +433,7 @@ def documented(cases):
         page = " ".join(file.read().split())
     for case in cases:
         sentence = case.told[0].split(": ", 1)[1] if case.told[0].startswith("line ") else case.told[0]
-        if case.fault not in ("command line", "Link") and sentence not in page:
+        if case.fault not in ("command line", "Link", "PortFile") and sentence not in page:
             raise AssertionError(f"docs/CLI.md lacks {sentence!r}")
 
 
@@ -409,6 +445,7 @@ def main():
             cases.append(case)
             passed.append(is_held(case.words, tell, case))
     passed += [is_held("no fault", judged), is_held("a terminal", at_terminal), is_held("the help", helped)]
+    passed += [is_held("short times", doubtful)]
     passed += [is_held("unreadable lines", explains_unreadable), is_held("the documents", documented, cases)]
     print(f"{passed.count(True)} passed, {passed.count(False)} failed")
     return 0 if all(passed) else 1

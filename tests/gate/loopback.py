@@ -408,6 +408,62 @@ def script_is_not_sent():
         same((told[0], events(told[1]), told[2]), (status, ["up", "cut t7", "down"], ""))
 
 
+def closes(peer):
+    peer.send(SELECTED)
+    peer.stream.shutdown(socket.SHUT_WR)
+
+
+def endings_are_explained():
+    """With -v standard error says why a connection ended, whichever end ended it."""
+    ended = "hsms: the connection ended: "
+    t7 = "T7 expired, since the session was not selected in time"
+    for options, script, talk, why in (
+        (["--t7", "1000"], b"", lambda peer: peer.send(control(2, 1, 1)), t7),
+        (["--t6", "1000"], b"", lambda peer: None, "T6 expired, since a control message got no response in time"),
+        ([], b"S1F1 W .", lambda peer: peer.send(SELECTED + control(9, 7)), "the peer sent Separate.req"),
+        ([], b"", lambda peer: peer.send(SELECTED), "this end sent Separate.req"),
+        (["--t8", "1000"], None, lambda peer: peer.send(SELECTED + bytes.fromhex("0000000a00")), "T8 expired inside a message"),
+        ([], None, lambda peer: peer.send(SELECTED + bytes(4)), "a message was shorter than 10 bytes or longer than --max"),
+        ([], None, closes, "the peer closed it"),
+    ):
+        peers = Listening()
+        serving = Serving("host", "active", peers.port, "-v", *options, script=script)
+        peer = peers.accepted()
+        peer.wants(SELECT)
+        talk(peer)
+        peer.rest()
+        status, log, told = serving.ended()
+        same((options, script, status, told), (options, script, 0, f"{ended}{why}\n"))
+        passes(log)
+
+
+def what_is_missing_is_explained():
+    """With -v standard error says how many messages were not sent or not answered, if that makes the status 1."""
+    separate, both = "hsms: the connection ended: the peer sent Separate.req\n", ["--all-sent", "--all-answered"]
+    own = "hsms: the connection ended: this end sent Separate.req\n"
+    why = "not answered: no reply, a late one, or function 0\n"
+    for options, script, replies, told in (
+        (both, b"S1F1 W . S1F3 W .", [data(1, 2, 2), data(1, 4, 3)], own),
+        (both, b"S1F1 W . S1F3 W .", [data(1, 0, 2), data(1, 0, 3)], f"{own}hsms: --all-answered: 2 {why}"),
+        (both, b"S1F1 W . S1F3 W . S1F5 W .", [control(9, 7)],
+         f"{separate}hsms: --all-sent: 0 rejected, 2 not reached\nhsms: --all-answered: 1 {why}"),
+        (["--all-sent"], b"S1F2 . S1F1 W .", [data(1, 2, 2)], f"{own}hsms: --all-sent: 1 rejected, 0 not reached\n"),
+        ([], b"S1F1 W . S1F3 W .", [control(9, 7)], separate),
+    ):
+        peers = Listening()
+        serving = Serving("host", "active", peers.port, "-v", *options, script=script)
+        peer = peers.accepted()
+        peer.send(SELECTED)
+        peer.wants(SELECT)
+        for reply in replies:
+            peer.message()
+            peer.send(reply)
+        peer.rest()
+        status, log, said = serving.ended()
+        same((script, status, said), (script, 1 if "--all" in told else 0, told))
+        passes(log)
+
+
 def answered(peer):
     peer.send(SELECTED)
     peer.wants(PRIMARY)
@@ -685,20 +741,22 @@ def reset():
 
 
 def end_is_explained():
-    """With `-v`, why a connection ended: the peer closed or reset it, or accepted nothing for T8; not that this end left."""
+    """With `-v`, why a connection ended: the peer closed, separated or reset it, or accepted nothing for T8."""
     ended = "hsms: the connection ended: the peer {}\n"
+    short = "hsms: {}: times are in milliseconds\n"
     peers = Listening()
     serving = Serving("host", "active", peers.port, "-v", "--reconnect", "--connections", "3", "--t5", "50")
     for _ in range(3):
         peer = peers.next_one()
         peer.wants(SELECT)
         peer.close()
-    same(serving.ended()[::2], (0, 3 * ended.format("closed it")))
+    same(serving.ended()[::2], (0, short.format("--t5 50") + 3 * ended.format("closed it")))
     peers.listener.close()
     serving, peer = equipment("-v")
     peer.send(SELECT + control(9, 2))
     same(peer.rest(), SELECTED)
-    same(serving.ended()[::2], (0, f"hsms: listening on {HERE}:{serving.port}\n"))
+    separated = ended.format("sent Separate.req")
+    same(serving.ended()[::2], (0, f"hsms: listening on {HERE}:{serving.port}\n{separated}"))
     long = b'S10F1 <A "' + 60000 * b"x" + b'"> .'
     for options, talk, why in (
         ([], lambda peer: peer.reset(), "reset it"),
@@ -710,7 +768,8 @@ def end_is_explained():
         peer.wants(SELECT)
         talk(peer)
         status, _, told = serving.ended()
-        same((status, told.split("hsms: Link\n")[0]), (3, ended.format(why)))
+        doubt = short.format(" ".join(options)) if options else ""
+        same((status, told.split("hsms: Link\n")[0]), (3, doubt + ended.format(why)))
         peer.close()
 
 
@@ -834,7 +893,8 @@ def port_is_any_free():
                 peer.send(SELECT + control(9, 2))
                 same(peer.rest(), SELECTED)
             status, log, told = serving.ended()
-            same((status, told), (0, f"hsms: listening on {HERE}:{serving.port}\n" if verbose else ""))
+            separated = "hsms: the connection ended: the peer sent Separate.req\n"
+            same((status, told), (0, f"hsms: listening on {HERE}:{serving.port}\n{separated}" if verbose else ""))
             same((log.count("up"), open(file, encoding="ascii").read()), (2 if again else 1, text))
             os.remove(file)
         port = free_port()
@@ -854,6 +914,33 @@ def port_goes_to_a_pipe():
             Peer.connected(int(pipe.read())).rest()
         served(serving, ["up", "cut t7", "down"])
         same((stat.S_ISFIFO(os.stat(file).st_mode), os.listdir(folder)), (True, ["port"]))
+
+
+def port_goes_through_a_link():
+    """A symbolic link stays, also if what it names does not exist yet."""
+    for exists in (True, False):
+        with tempfile.TemporaryDirectory() as folder:
+            link, file = f"{folder}/link", f"{folder}/port"
+            os.symlink("port", link)
+            if exists:
+                with open(file, "w", encoding="ascii") as old:
+                    old.write("another, longer text\n")
+            serving = Serving("equipment", "passive", 0, "--port-file", link, "--t7", "100")
+            serving.port = int(read_soon(file))
+            same((os.path.islink(link), sorted(os.listdir(folder))), (True, ["link", "port"]))
+            Peer.connected(serving.port).rest()
+            served(serving, ["up", "cut t7", "down"])
+
+
+def read_soon(file):
+    """The content of a file that has a number before long."""
+    end = time.monotonic() + SOON
+    while time.monotonic() < end:
+        text = written_soon(file)
+        if re.fullmatch("[1-9][0-9]*\n", text):
+            return text
+        time.sleep(0.01)
+    return text
 
 
 def port_cannot_be_written():
@@ -1172,6 +1259,7 @@ def failed_attempts_are_told_once():
     same(
         told.splitlines(),
         [
+            "hsms: --t5 50: times are in milliseconds",
             f"hsms: it tries again: {refused_by}or check --address and --port",
             "hsms: it tries again: no file descriptor is left: close some, or raise the limit (ulimit -n)",
         ],
@@ -1241,6 +1329,8 @@ TESTS = [
     link_is_tested_in_each_connection,
     random_conversations_test_links_as_the_reference,
     script_is_not_sent,
+    endings_are_explained,
+    what_is_missing_is_explained,
     script_is_sent,
     scripts_of_several_connections,
     replies_are_counted,
@@ -1270,6 +1360,7 @@ TESTS = [
     port_is_in_use,
     port_is_any_free,
     port_goes_to_a_pipe,
+    port_goes_through_a_link,
     port_cannot_be_written,
     address_is_none,
     script_has_comments,

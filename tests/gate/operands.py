@@ -116,6 +116,19 @@ def on_the_command_line(room):
         yield " ".join(words), answer(words), INVALID
 
 
+def not_utf8():
+    """Words that are not UTF-8: a file, an option, and the value of one."""
+    why = b": this word is not UTF-8: rename the file, or read it from standard input\n"
+    for words, shown in (
+        (["audit", b"caf\xe9.log"], "caf\ufffd.log"), (["audit", b"\xff", "a.log"], "\ufffd"), ([b"sh\xc3"], "sh\ufffd"),
+        (["audit", "caf\u00e9", b"--qu\xe9"], "--qu\ufffd"), (["capture", "--peer", b"\x80\x80"], "\ufffd\ufffd"),
+    ):
+        yield f"not UTF-8: {words}", answer(words), INVALID
+        told = Answer(2, b"", INVALID.error + shown.encode() + why)
+        yield f"not UTF-8: {words} -v", answer([*words, "-v"]), told
+        yield f"not UTF-8: -v {words}", answer(["--verbose", *words]), told
+
+
 def several(room):
     bin_file, text_file = f"{TOP}/examples/session.bin", f"{TOP}/examples/session.txt"
     shown, encoded = answer(["show"], read("examples/session.bin")), answer(["encode"], read("examples/session.txt"))
@@ -162,7 +175,10 @@ def audits(room):
     yield "with -v, its texts", told.error[: len(front)], front
     for quiet in (["--quiet"], ["--quiet", "-v"]):
         yield "--quiet, passing", audit("pass.log", more=quiet), Answer(0, b"", b"")
-        yield "--quiet, failing", audit("fail.log", more=quiet), Answer(1, FAIL, b"")
+        yield "--quiet, failing", audit("fail.log", more=quiet), Answer(1, lines("fail.log"), b"")
+        late = read("examples/late-reply.log")
+        for names_none in ([], ["-"]):
+            yield "--quiet, failing input", audit(*names_none, given=late, more=quiet), Answer(1, FAIL, b"")
         yield "--quiet, standard input", audit(given=read("examples/session.log"), more=quiet), Answer(0, b"", b"")
         yield "--quiet, several", audit("pass.log", "fail.log", "pass.log", more=quiet), Answer(1, lines("fail.log"), b"")
         yield "--quiet, all pass", audit("pass.log", "pass.log", more=quiet), Answer(0, b"", b"")
@@ -183,6 +199,7 @@ def audits(room):
 
 def tries():
     yield from one_file()
+    yield from not_utf8()
     for part in (no_file, on_the_command_line, several, audits):
         with tempfile.TemporaryDirectory() as room:
             yield from part(room)

@@ -14,8 +14,8 @@ mod kept_lines;
 mod listening;
 mod usage_error;
 
-pub use attempts::FailedAttempts;
+pub use attempts::{ExplainedLog, FailedAttempts};
 pub use error_help::{Failure, Fault, Known, begins_as_capture, link_words, open_words, words_for};
 pub use kept_lines::KeptLines;
 pub use listening::report_listener;
-pub use usage_error::refused_words;
+pub use usage_error::{doubtful_times, refused_words};

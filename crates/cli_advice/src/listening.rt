@@ -1,8 +1,9 @@
 //! Reports of where an end listens.
 
+use crate::error_help::Failure;
 use cli_options::{Service, ToolFault};
-use std::alloc::Global;
-use std::fs::{Files, metadata, remove_file, rename, write};
+use std::alloc::{AllocError, Global};
+use std::fs::{Files, metadata, remove_file, rename, symlink_metadata, write};
 use std::io;
 use std::io::ErrorKind;
 use std::net::OpenListener;
@@ -12,19 +13,23 @@ use std::net::OpenListener;
 ///
 /// # Errors
 ///
-/// Returns `PortFile` if the file cannot be written, or `Memory`.
+/// Returns `PortFile` if the file cannot be written, with the reason, or `Memory`.
 pub fn report_listener<R: Eprint + Files, L: OpenListener>(
     alloc: Global,
     rt: &R,
     service: &Service<'_>,
     listener: &Option<L>,
     is_verbose: bool,
-) -> Result<(), ToolFault> {
+) -> Result<(), Failure> {
     let Some(listener) = listener else {
         return Ok(());
     };
     if let Some(file) = service.port_file {
-        write_port(alloc, rt, file, listener).map_err(|error| port_fault(error.kind()))?;
+        write_port(alloc, rt, file, listener).map_err(|error| port_failure(
+            alloc,
+            file,
+            error.kind(),
+        ))?;
     }
     if is_verbose {
         if let Ok(address) = listener.local_addr() {
@@ -35,7 +40,7 @@ pub fn report_listener<R: Eprint + Files, L: OpenListener>(
 }
 
 // Writes the port and LF to a file. A regular file has them in full as soon as it has this name: they are written to a
-// file with a temporary name before. A device or a named pipe is written to, and not replaced.
+// file with a temporary name before. A device, a named pipe or a symbolic link is written to, and not replaced.
 fn write_port<R: Files, L: OpenListener>(
     alloc: Global,
     rt: &R,
@@ -44,7 +49,7 @@ fn write_port<R: Files, L: OpenListener>(
 ) -> io::Result<()> {
     let port = listener.local_addr()?.port();
     let text = format!(in alloc; "{port}\n")?;
-    if matches!(metadata(rt, file), Ok(found) if !found.is_file()) {
+    if !is_replaced(rt, file) {
         return write(rt, file, text.as_str());
     }
     let part = format!(in alloc; "{file}.part")?;
@@ -56,10 +61,31 @@ fn write_port<R: Files, L: OpenListener>(
     renamed
 }
 
+// Returns true if a file with this name is replaced, or none exists.
+fn is_replaced<R: Files>(rt: &R, file: &str) -> bool {
+    let is_link = matches!(symlink_metadata(rt, file), Ok(found) if found.is_symlink());
+    !is_link && !matches!(metadata(rt, file), Ok(found) if !found.is_file())
+}
+
 // Returns the error of the command if the port cannot be written.
-fn port_fault(kind: ErrorKind) -> ToolFault {
+fn port_failure(alloc: Global, file: &str, kind: ErrorKind) -> Failure {
     match kind {
-        ErrorKind::OutOfMemory => ToolFault::Memory,
-        _ => ToolFault::Device("PortFile"),
+        ErrorKind::OutOfMemory => Failure::from(ToolFault::Memory),
+        kind => Failure::said(ToolFault::Device("PortFile"), port_words(alloc, file, kind)),
     }
+}
+
+// Returns why the port cannot be written.
+fn port_words(alloc: Global, file: &str, kind: ErrorKind) -> Result<String, AllocError> {
+    let why = match kind {
+        ErrorKind::NotFound if file.is_empty() => "the name is empty",
+        ErrorKind::NotFound => "its folder does not exist",
+        ErrorKind::PermissionDenied => "no permission to write there",
+        ErrorKind::IsADirectory => "this is a directory",
+        ErrorKind::NotADirectory => "a part of its path is not a directory",
+        ErrorKind::StorageFull => "the disk is full",
+        ErrorKind::ReadOnlyFilesystem => "the file system is read-only",
+        _ => "check its name and its permissions",
+    };
+    format!(in alloc; "cannot write the port to {file}: {why}")
 }

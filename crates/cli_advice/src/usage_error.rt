@@ -1,11 +1,11 @@
-//! What is wrong with a command line, in a sentence.
+//! What is wrong with a command line, in a sentence, and what is doubtful in it.
 
 use cli_options::command;
 use std::alloc::{AllocError, Global};
 use std::net::IpAddr;
 
-/// Returns what `clap` reports of the words of a command line: the first paragraph of it in one line, and the usage.
-/// `clap` reports nothing of what the command itself rejects: then the text has the option, and what it takes or needs.
+/// Returns what `clap` reports of the words of a command line: the first paragraph of it in one line, similar names, and
+/// the usage. `clap` reports nothing of what the command itself rejects: then the text has the option, and what it takes or needs.
 pub fn refused_words(alloc: Global, words: &[String]) -> Result<String, AllocError> {
     let Err(error) = command(alloc)?.try_get_matches_from(words) else {
         return rejected_option(alloc, words);
@@ -13,6 +13,14 @@ pub fn refused_words(alloc: Global, words: &[String]) -> Result<String, AllocErr
     let text = error.to_string(alloc)?;
     let mut said = first_paragraph(alloc, text.as_str())?;
     for line in text.as_str().lines() {
+        if let Some(tip) = line
+            .trim()
+            .strip_prefix("tip: ")
+            .filter(|tip| tip.contains(" exist"))
+        {
+            said.push_str("; ")?;
+            said.push_str(tip)?;
+        }
         if line.starts_with("Usage: ") {
             said.push_str(". ")?;
             said.push_str(line)?;
@@ -36,20 +44,38 @@ fn rejected_option(alloc: Global, words: &[String]) -> Result<String, AllocError
         }
         before = word;
     }
-    if is_given(words, "--bare") {
-        return String::from_str(alloc, "--bare needs --hex");
-    }
-    for option in ["--once", "--connections", "--t5"] {
-        if is_given(words, option) {
-            return format!(in alloc; "{option} needs --reconnect");
+    for (option, needed) in needs() {
+        if is_given(words, option) && !is_given(words, needed) {
+            return format!(in alloc; "{option} needs {needed}");
         }
     }
-    for (option, needed) in [("--port-file", "--port-file"), ("--link", "--port 0")] {
-        if is_given(words, option) {
-            return format!(in alloc; "{needed} needs --link passive");
-        }
-    }
-    String::from_str(alloc, "run hsms COMMAND --help")
+    let said = match words.get(1).map_or("", |word| word.as_str()) {
+        "explain" if is_given(words, "--all") && !asks_for_page(words) =>
+            "--all needs --format html",
+        "explain" => "--around needs --only failures",
+        "compare" => "compare needs two files: HOST.log EQUIPMENT.log",
+        "serve" if is_given(words, "--port-file") => "--port-file needs --link passive",
+        "serve" => "--port 0 needs --link passive",
+        _ => "run hsms COMMAND --help",
+    };
+    String::from_str(alloc, said)
+}
+
+// Returns true if these words of `hsms explain` request a page.
+fn asks_for_page(words: &[String]) -> bool {
+    words
+        .iter()
+        .any(|word| matches!(word.as_str(), "html" | "--format=html"))
+}
+
+// The options of which each needs another one, and these.
+fn needs() -> [(&'static str, &'static str); 4] {
+    [
+        ("--bare", "--hex"),
+        ("--once", "--reconnect"),
+        ("--connections", "--reconnect"),
+        ("--t5", "--reconnect"),
+    ]
 }
 
 // Returns what the command takes as the value of an option, if this value is another.
@@ -91,4 +117,36 @@ fn first_paragraph(alloc: Global, text: &str) -> Result<String, AllocError> {
         said.push_str(line.strip_prefix("error: ").unwrap_or(line))?;
     }
     Ok(said)
+}
+
+/// Returns a line for each option of these words whose time, in milliseconds, is less than a second.
+pub fn doubtful_times(alloc: Global, words: &[String]) -> Result<String, AllocError> {
+    let mut said = String::new(alloc);
+    let mut before = "";
+    for word in words {
+        push_doubt(&mut said, before, word.as_str())?;
+        before = word.as_str();
+    }
+    Ok(said)
+}
+
+// Appends a line if a word is a time of less than a second: the value of the option before it, or of its own.
+fn push_doubt(said: &mut String, before: &str, word: &str) -> Result<(), AllocError> {
+    let (option, value) = word.split_once('=').unwrap_or((before, word));
+    if is_time(option)
+        && value
+            .parse::<u32>()
+            .is_ok_and(|time| 0 < time && time < 1000)
+    {
+        write!(said, "hsms: {option} {value}: times are in milliseconds\n")?;
+    }
+    Ok(())
+}
+
+// Returns true if the value of an option is a time.
+fn is_time(option: &str) -> bool {
+    matches!(
+        option,
+        "--t3" | "--t5" | "--t6" | "--t7" | "--t8" | "--linktest"
+    )
 }

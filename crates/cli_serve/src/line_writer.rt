@@ -45,6 +45,15 @@ impl<W: Write + Drop> Lines<W> {
         }
     }
 
+    /// Returns how many primaries with W that the lines show as sent got no such reply. Returns 0 if replies are not
+    /// counted.
+    pub fn unanswered(&self) -> u64 {
+        match self.counts {
+            Some(counts) => counts.asked.saturating_sub(counts.answered),
+            None => 0,
+        }
+    }
+
     // Counts the message of the buffered line, which ends with LF.
     fn count_line(&mut self) -> Result<(), AllocError> {
         let line = &self.held[..self.held.len().saturating_sub(1)];

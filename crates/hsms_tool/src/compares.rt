@@ -1,14 +1,16 @@
 //! `hsms compare`: the logs in two files.
 
 use crate::input::{STANDARD, buffered, check_standard, open_input};
+use crate::painter::Painting;
+use crate::presentation::Console;
 use cli_advice::Failure;
 use cli_compare::{compare_to, fault_of};
 use cli_options::{ToolFault, exit_status, no_request};
 use hsms_frame::{Reader, Sink, Writer};
 use std::alloc::Global;
 use std::fs::Files;
-use std::io;
 use std::io::Read;
+use std::time::Clock;
 
 /// Compares the logs in two files, and writes the comparison. Returns the status.
 ///
@@ -16,11 +18,11 @@ use std::io::Read;
 ///
 /// Returns the error of an invalid command line if there are not two files, or both are standard input, that of a file
 /// that cannot be opened, or that of the comparison.
-pub fn compare_files<R: Files + Input + Print>(
+pub fn compare_files<R: Clock + Eprint + Files + Input + Print>(
     alloc: Global,
     rt: &R,
     files: &[&str],
-    is_verbose: bool,
+    console: &Console,
 ) -> Result<u8, Failure> {
     let [first, second] = files else {
         return Err(Failure::from(no_request(alloc)));
@@ -30,10 +32,13 @@ pub fn compare_files<R: Files + Input + Print>(
         return Err(Failure::from(no_request(alloc)));
     }
     check_standard(rt, files)?;
-    let one = open_input(alloc, rt, first, is_verbose)?;
-    let other = open_input(alloc, rt, second, is_verbose)?;
-    let agree = compare_inputs(alloc, one, other, &mut Writer::new(io::writer(rt)))?;
-    Ok(exit_status(&Ok(agree)))
+    console.progress.begin(rt);
+    let one = open_input(alloc, rt, first, console)?;
+    let other = open_input(alloc, rt, second, console)?;
+    let mut sink = Writer::new(console.output(alloc, rt, Painting::Verdicts));
+    let agree = compare_inputs(alloc, one, other, &mut sink);
+    console.progress.erase(rt);
+    Ok(exit_status(&Ok(agree?)))
 }
 
 // Compares the logs of two inputs. Returns true if both pass and agree.

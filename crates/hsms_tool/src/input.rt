@@ -1,5 +1,7 @@
 //! The input of a command: standard input, or a file.
 
+use crate::presentation::Console;
+use crate::progress::Counted;
 use cli_advice::{Failure, open_words};
 use cli_options::{ToolFault, refusal};
 use std::alloc::Global;
@@ -31,25 +33,27 @@ impl<S: Read, F: Read> Read for Opened<S, F> {
     }
 }
 
-/// Opens the file with this name. The name `-` is standard input.
+/// Opens the file with this name. The name `-` is standard input. The progress counts the bytes that are read.
 ///
 /// # Errors
 ///
 /// Returns the text `Open file=NAME` if the file cannot be opened or is a directory. If errors are explained, the
 /// failure has the reason.
-pub fn open_input<R: Files + Input>(
+pub fn open_input<'c, R: Files + Input>(
     alloc: Global,
-    rt: &R,
+    rt: &'c R,
     name: &str,
-    is_verbose: bool,
-) -> Result<Opened<R::Reader, R::File>, Failure> {
-    if name == STANDARD {
-        return Ok(Opened::Standard(rt.reader()));
-    }
-    match opened_file(rt, name) {
-        Ok(file) => Ok(Opened::File(file)),
-        Err(error) => Err(open_failure(alloc, name, error.kind(), is_verbose)),
-    }
+    console: &'c Console,
+) -> Result<Counted<'c, R, Opened<R::Reader, R::File>>, Failure> {
+    let opened = if name == STANDARD {
+        Opened::Standard(rt.reader())
+    } else {
+        match opened_file(rt, name, console) {
+            Ok(file) => Opened::File(file),
+            Err(error) => return Err(open_failure(alloc, name, error.kind(), console.is_verbose)),
+        }
+    };
+    Ok(Counted::new(opened, rt, &console.progress))
 }
 
 /// Checks that standard input is open if one of the names is `-`. If it is closed, the first file that is opened would take
@@ -69,10 +73,14 @@ pub fn check_standard<R: Input>(rt: &R, names: &[&str]) -> Result<(), ToolFault>
 }
 
 // Opens a file that is no directory.
-fn opened_file<R: Files>(rt: &R, name: &str) -> io::Result<R::File> {
+fn opened_file<R: Files>(rt: &R, name: &str, console: &Console) -> io::Result<R::File> {
     let file = File::open(rt, name)?;
-    if file.metadata()?.is_dir() {
+    let found = file.metadata()?;
+    if found.is_dir() {
         return Err(io::Error::from(ErrorKind::IsADirectory));
+    }
+    if found.is_file() {
+        console.progress.add_file(found.len());
     }
     Ok(file)
 }
