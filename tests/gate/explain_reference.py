@@ -143,7 +143,8 @@ def difference(log: bytes) -> Optional[str]:
     for excerpt in (WHOLE, excerpt_of(log)):
         words, wanted = ["explain", *excerpt.words()], explain.explain(log, excerpt)
         told = answer_of(words, log)
-        in_json, in_html = (answer_of([*words, "--format", form], log) for form in ("json", "html"))
+        in_json = answer_of([*words, "--format", "json"], log)
+        in_html = answer_of([*excerpt.words(is_page=True), "--format", "html"], log)
         are_answers = all((it.status, it.error) == (audited.status, b"") for it in (told, in_json, in_html))
         is_text = told.output == wanted.text and wanted.text.endswith(audited.output)
         if not (are_answers and is_text and objects_of(in_json.output) == [list(it.items()) for it in wanted.objects]):

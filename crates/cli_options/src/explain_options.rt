@@ -2,7 +2,7 @@
 
 ghost use Rattle.std.specs.Prelude.{◌≡◌, IfSome, Some, None, codes};
 ghost use Rattle.clap.specs.Words.{first_of, found_of, rows_of};
-ghost use Rattle.cli_options.specs.ExplainOptions.{HasExcerpt, IsExcerptWithinLimits, only_word, output_format_word};
+ghost use Rattle.cli_options.specs.ExplainOptions.{HasExcerpt, IsExcerptWithinLimits, are_effective, have_effect as effective, is_page, only_word, output_format_word};
 ghost use Rattle.cli_options.specs.declared.explain_options.Excerpt.{Excerpt};
 ghost use Rattle.cli_options.specs.declared.explain_options.Lines.{Lines};
 ghost use Rattle.cli_options.specs.declared.explain_options.OutputFormat.{OutputFormat};
@@ -64,12 +64,15 @@ impl Excerpt {
     }
 }
 
-/// Returns what the options of `hsms explain` request. Returns `None` if a value is invalid.
+/// Returns what the options of `hsms explain` request. Returns `None` if a value is invalid, or an option has no effect.
 pub fn excerpt_of(options: &ArgMatches<'_>) -> Option<Excerpt>
     ensures asks { IfSome result (HasExcerpt (rows_of (found_of options.now))) }
     ensures within { IfSome result IsExcerptWithinLimits }
     ensures none { result ≡ None → (excerpt : Excerpt) → HasExcerpt (rows_of (found_of options.now)) excerpt → ⊥ }
 {
+    if !have_effect(options) {
+        return None;
+    }
     Some(Excerpt {
         lines: lines_of(options)?,
         around: number_of(options, AROUND)?,
@@ -80,6 +83,34 @@ pub fn excerpt_of(options: &ArgMatches<'_>) -> Option<Excerpt>
         lists: flag_of(options, "lists"),
         every: flag_of(options, "all"),
     })
+}
+
+// Returns true if each given option has an effect.
+fn have_effect(options: &ArgMatches<'_>) -> bool
+    ensures { result ≡ effective (rows_of (found_of options.now)) }
+{
+    let around = text_of(options, "around").is_some();
+    let only = text_of(options, "only").is_some();
+    are_effective(
+        around,
+        only,
+        asks_for_page(options),
+        flag_of(options, "all"),
+    )
+}
+
+// Returns true if `around` and `all`, if they are given, have an effect with these options.
+fn are_effective(around: bool, only: bool, page: bool, all: bool) -> bool
+    ensures { result ≡ are_effective around only page all }
+{
+    (!around || (only || (page && !all))) && (!all || page)
+}
+
+// Returns true if the options request a page.
+fn asks_for_page(options: &ArgMatches<'_>) -> bool
+    ensures { result ≡ is_page (rows_of (found_of options.now)) }
+{
+    text_of(options, "format") == Some("html")
 }
 
 fn lines_of(options: &ArgMatches<'_>) -> Option<Lines>

@@ -457,11 +457,11 @@ class Excerpt(NamedTuple):
     is_page: bool = False
     is_every: bool = False
 
-    def words(self) -> List[str]:
+    def words(self, is_page: bool = False) -> List[str]:
         only = [] if self.around is None else ["--only", "failures", "--around", str(self.around)]
         first = [] if self.first == 1 else ["--from", str(self.first)]
         last = [] if self.last is None else ["--to", str(self.last)]
-        flags = (("--utc", self.is_utc), ("--lists", self.has_lists), ("--all", self.is_every))
+        flags = (("--utc", self.is_utc), ("--lists", self.has_lists), ("--all", self.is_every and is_page))
         return [*only, *first, *last, *(name for name, is_set in flags if is_set)]
 
     def shortened(self, count: int) -> Optional[int]:
