@@ -11,22 +11,23 @@ _hsms() {
     --format) mapfile -t COMPREPLY < <(compgen -W 'text json html' -- "$word") && return ;;
     --role | --active | --log) mapfile -t COMPREPLY < <(compgen -W 'host equipment' -- "$word") && return ;;
     --link) mapfile -t COMPREPLY < <(compgen -W 'active passive' -- "$word") && return ;;
+    --color) mapfile -t COMPREPLY < <(compgen -W 'auto always never' -- "$word") && return ;;
     --max | --depth | --around | --from | --to | --port | --peer | --device | --t3 | --t6 | --t7 | --t8 | --system | --address | --port-file | --linktest | --first-system | --turns | --mdln | --softrev | --connections | --t5) return ;;
   esac
   if [ "$COMP_CWORD" = 1 ]; then
-    words='show audit explain compare capture encode serve help --help --verbose --version'
+    words='show audit explain compare capture encode serve help --help --verbose --color --no-progress --version'
   else
     case ${COMP_WORDS[1]} in
       show | audit | explain | compare | capture | encode) [[ $word == -* ]] || return ;;
     esac
     case ${COMP_WORDS[1]} in
-      show) words='--max --depth --hex --bare --help --verbose' ;;
-      audit) words='--quiet --format --help --verbose' ;;
-      explain) words='--only --around --from --to --format --utc --lists --all --help --verbose' ;;
-      compare) words='--help --verbose' ;;
-      capture) words='--port --peer --active --log --midstream --device --t3 --t6 --t7 --t8 --max --depth --help --verbose' ;;
-      encode) words='--device --system --max --depth --hex --help --verbose' ;;
-      serve) words='--role --link --address --port --port-file --device --t3 --t6 --t7 --t8 --linktest --max --depth --first-system --turns --mdln --softrev --send --answer --all-sent --all-answered --reconnect --once --connections --t5 --help --verbose' ;;
+      show) words='--max --depth --hex --bare --help --verbose --color --no-progress' ;;
+      audit) words='--quiet --format --help --verbose --color --no-progress' ;;
+      explain) words='--only --around --from --to --format --utc --lists --all --help --verbose --color --no-progress' ;;
+      compare) words='--help --verbose --color --no-progress' ;;
+      capture) words='--port --peer --active --log --midstream --device --t3 --t6 --t7 --t8 --max --depth --help --verbose --color --no-progress' ;;
+      encode) words='--device --system --max --depth --hex --help --verbose --color --no-progress' ;;
+      serve) words='--role --link --address --port --port-file --device --t3 --t6 --t7 --t8 --linktest --max --depth --first-system --turns --mdln --softrev --send --answer --all-sent --all-answered --reconnect --once --connections --t5 --help --verbose --color --no-progress' ;;
       help) words='show audit explain compare capture encode serve' ;;
       *) return ;;
     esac

@@ -15,7 +15,7 @@ _hsms() {
       'help:Print help'
     )
     _describe command commands
-    _arguments '--help[Print help]' '--verbose[Explain errors\: what happened, and what to do]' '--version[Print version]'
+    _arguments '--help[Print help]' '--verbose[Explain errors\: what happened, and what to do]' '--color[Colors\: auto (at a terminal, unless NO_COLOR is set), always or never \[default\: auto\]]:WHEN:(auto always never)' '--no-progress[Do not show at a terminal how much of a file is read]' '--version[Print version]'
     return
   fi
   case $words[2] in
@@ -27,6 +27,8 @@ _hsms() {
         '--bare[With --hex\: lines have no length bytes, as in session logs]' \
         '--help[Print help]' \
         '--verbose[Explain errors\: what happened, and what to do]' \
+        '--color[Colors\: auto (at a terminal, unless NO_COLOR is set), always or never \[default\: auto\]]:WHEN:(auto always never)' \
+        '--no-progress[Do not show at a terminal how much of a file is read]' \
         '*:FILE:_files'
       ;;
     audit)
@@ -35,6 +37,8 @@ _hsms() {
         '--format[Output format\: text, json (an object for each log) or junit (an XML report) \[default\: text\]]:FORMAT:(text json junit)' \
         '--help[Print help]' \
         '--verbose[Explain errors\: what happened, and what to do]' \
+        '--color[Colors\: auto (at a terminal, unless NO_COLOR is set), always or never \[default\: auto\]]:WHEN:(auto always never)' \
+        '--no-progress[Do not show at a terminal how much of a file is read]' \
         '*:FILE:_files'
       ;;
     explain)
@@ -49,12 +53,16 @@ _hsms() {
         '--all[With html\: show every line; otherwise only failures and their context after 5000 lines]' \
         '--help[Print help]' \
         '--verbose[Explain errors\: what happened, and what to do]' \
+        '--color[Colors\: auto (at a terminal, unless NO_COLOR is set), always or never \[default\: auto\]]:WHEN:(auto always never)' \
+        '--no-progress[Do not show at a terminal how much of a file is read]' \
         ':FILE:_files'
       ;;
     compare)
       _arguments \
         '--help[Print help]' \
         '--verbose[Explain errors\: what happened, and what to do]' \
+        '--color[Colors\: auto (at a terminal, unless NO_COLOR is set), always or never \[default\: auto\]]:WHEN:(auto always never)' \
+        '--no-progress[Do not show at a terminal how much of a file is read]' \
         '*:FILE:_files'
       ;;
     capture)
@@ -73,6 +81,8 @@ _hsms() {
         '--depth[Maximum nesting of lists\: 1 to 100 \[default\: 32\]]:N:' \
         '--help[Print help]' \
         '--verbose[Explain errors\: what happened, and what to do]' \
+        '--color[Colors\: auto (at a terminal, unless NO_COLOR is set), always or never \[default\: auto\]]:WHEN:(auto always never)' \
+        '--no-progress[Do not show at a terminal how much of a file is read]' \
         ':FILE:_files'
       ;;
     encode)
@@ -84,6 +94,8 @@ _hsms() {
         '--hex[Write one message per line, in hexadecimal]' \
         '--help[Print help]' \
         '--verbose[Explain errors\: what happened, and what to do]' \
+        '--color[Colors\: auto (at a terminal, unless NO_COLOR is set), always or never \[default\: auto\]]:WHEN:(auto always never)' \
+        '--no-progress[Do not show at a terminal how much of a file is read]' \
         '*:FILE:_files'
       ;;
     serve)
@@ -114,7 +126,9 @@ _hsms() {
         '--connections[With --reconnect\: stop after this many connections\: 1 to 4294967295 \[default\: 4294967295\]]:N:' \
         '--t5[With --reconnect\: T5 connect separation time in ms\: 1 to 3600000 \[default\: 10000\]]:N:' \
         '--help[Print help]' \
-        '--verbose[Explain errors\: what happened, and what to do]'
+        '--verbose[Explain errors\: what happened, and what to do]' \
+        '--color[Colors\: auto (at a terminal, unless NO_COLOR is set), always or never \[default\: auto\]]:WHEN:(auto always never)' \
+        '--no-progress[Do not show at a terminal how much of a file is read]'
       ;;
     help) _values command show audit explain compare capture encode serve ;;
   esac

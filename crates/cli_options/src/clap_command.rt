@@ -14,11 +14,16 @@ use crate::option_tables::{
 use clap::{Arg, ArgAction, Command, value_parser};
 use std::alloc::{AllocError, Global};
 
-// The help of a command after its options: the option of every command, and a text of its own. `clap` does not know
-// this option, which may be anywhere: the program removes it from the words.
+// The help of a command after its options: the options of every command, and a text of its own. `clap` does not know
+// these options, which may be anywhere: the program removes them from the words.
 macro_rules! help {
     ($($text:literal)?) => {
-        concat!("  -v, --verbose  Explain errors: what happened, and what to do" $(, "\n\n", $text)?)
+        concat!(
+            "  -v, --verbose  Explain errors: what happened, and what to do\n",
+            "  --color WHEN   Colors: auto (at a terminal, unless NO_COLOR is set), always or never [default: auto]\n",
+            "  --no-progress  Do not show at a terminal how much of a file is read"
+            $(, "\n\n", $text)?
+        )
     };
 }
 
