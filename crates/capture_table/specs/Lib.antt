@@ -1,0 +1,4 @@
+pub mod Segments
+pub mod ConnectionTable
+pub mod TableState
+pub mod InnerTableState
