@@ -68,8 +68,8 @@ fn ending_words(why: Ending) -> &'static str {
     }
 }
 
-/// Standard output for a log, which receives each line in one piece. If errors are explained, it writes to standard error why a
-/// connection ended, if the lines before `down` show it.
+/// Standard output for a log, which receives each line in one piece. If errors are explained, it writes to standard
+/// error why a connection ended, if the lines before `down` show it.
 #[derive(Drop)]
 pub struct ExplainedLog<'a, R: Print> {
     output: Printer<'a, R>,

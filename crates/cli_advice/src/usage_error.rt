@@ -4,8 +4,9 @@ use cli_options::command;
 use std::alloc::{AllocError, Global};
 use std::net::IpAddr;
 
-/// Returns what `clap` reports of the words of a command line: the first paragraph of it in one line, similar names, and
-/// the usage. `clap` reports nothing of what the command itself rejects: then the text has the option, and what it takes or needs.
+/// Returns what `clap` reports of the words of a command line: the first paragraph in one line, similar names, and the
+/// usage. `clap` reports nothing of what the command itself rejects: then the text has the option, and what it takes or
+/// needs.
 pub fn refused_words(alloc: Global, words: &[String]) -> Result<String, AllocError> {
     let Err(error) = command(alloc)?.try_get_matches_from(words) else {
         return rejected_option(alloc, words);

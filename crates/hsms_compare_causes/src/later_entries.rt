@@ -68,7 +68,8 @@ impl LaterEntries {
 
     /// Returns the next entries after the one before the index, which has this event.
     pub fn after(&self, event: &Event) -> NextEntries
-        ensures { (log : List LogEntry) (i : ℕ) → IsLater log (i + 1) self.now → event.now ≡ (entry_at log i).event → IsNext log i result }
+        ensures { (log : List LogEntry) (i : ℕ) → IsLater log (i + 1) self.now → event.now ≡ (entry_at log i).event
+            → IsNext log i result }
     {
         NextEntries {
             same: self.first_like(event),
@@ -93,7 +94,8 @@ impl LaterEntries {
         is_in_session: bool,
     ) -> Result<(), AllocError>
         ensures { OnOk result ((log : List LogEntry) → IsLater log (index + 1) self.old → index < length log
-            → entry.now ≡ entry_at log index → is_in_session ≡ nat_lt index (length (session_of log)) → IsLater log index self.new) }
+            → entry.now ≡ entry_at log index → is_in_session ≡ nat_lt index (length (session_of log))
+            → IsLater log index self.new) }
     {
         note_system(&mut self.systems, system_of(&entry.event), index)?;
         self.end = first_end(ends_connection(&entry.event), index, self.end);

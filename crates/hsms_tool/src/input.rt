@@ -85,7 +85,8 @@ pub fn check_standard<R: Input>(rt: &R, names: &[&str]) -> Result<(), ToolFault>
 ///
 /// # Errors
 ///
-/// Returns the error of an invalid command line if it is named twice. If errors are explained, the failure has the reason.
+/// Returns the error of an invalid command line if it is named twice. If errors are explained, the failure has the
+/// reason.
 pub fn check_named_once(alloc: Global, names: &[&str], is_verbose: bool) -> Result<(), Failure> {
     let mut is_named = false;
     for name in names {
